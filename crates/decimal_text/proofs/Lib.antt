@@ -1,0 +1,6 @@
+mod DigitsLemmas
+mod ReadingLemmas
+mod RoundTrip
+mod RoundingLemmas
+mod StepsLemmas
+mod WritingLemmas

@@ -1,0 +1,68 @@
+-- One more digit of a fraction.
+use Rattle.std.proofs.Common.{◌≡◌, ℕ, ◌+◌, ◌*◌, ◌-◌, ◌^◌, ◌<◌, ◌≤◌, Bool, true, false, ◌⊎◌, inl, inr, refl, ap, ◌∙◌, arith, lit<}
+use Rattle.std.proofs.Math.Nat.{one-le-pow, pow-le-pow_right}
+use Rattle.std.proofs.lemmas.Nat.{mul-le}
+use Rattle.std.proofs.lemmas.Grind.{pow_more}
+use Rattle.decimal_text.specs.Steps.{Stands}
+use Rattle.decimal_text.specs.declared.steps.Steps.{Steps}
+
+pub ten_up : (k : ℕ) → 1 ≤ 10 ^ k
+ten_up k = one-le-pow k 10 (lit< tt)
+
+pub small_value : (value left : ℕ) → (value + 1) * 10 ^ left ≤ 10 ^ 27 → value < 10 ^ 27
+small_value value left h =
+    let m : (value + 1) * 1 ≤ (value + 1) * 10 ^ left = mul-le (value + 1) 1 (value + 1) (10 ^ left) (omega arith) (ten_up left) in
+    omega (arith, m, h)
+
+-- past the last place
+pub more_past : (places count n digit : ℕ) (s : Steps) (now : Bool) → s.left ≡ 0 → digit ≤ 9 → (now ≡ true → (s.exact ≡ true) × (digit ≡ 0)) → (now ≡ false → (s.exact ≡ false) ⊎ (0 < digit)) → Stands places count n s → Stands places (count + 1) (n * 10 + digit) (record { value = s.value; left = s.left; exact = now })
+more_past places count n digit s now none nine at_true at_false h = record {
+  extra = h.extra + 1;
+  counted = omega (arith, h.counted);
+  one_side = inr none;
+  above = rw pow_more (omega (arith, h.above));
+  exact = λ e. rw pow_more (omega (arith, h.exact (at_true e).0, (at_true e).1));
+  fine = λ e. rw pow_more (elim (at_false e) [ inl f ↦ omega (arith, h.fine f) | inr d ↦ omega (arith, h.above, d) ]);
+  below = rw pow_more (omega (arith, h.below, nine));
+  small = h.small;
+}
+
+within : (places count n digit value left extra : ℕ) (exact : Bool) → 0 < left → extra ≡ 0 → digit ≤ 9 → count + left ≡ places + extra → value * 10 ^ extra ≤ n → (exact ≡ false → value * 10 ^ extra < n) → n + 1 ≤ (value + 1) * 10 ^ extra → (value + 1) * 10 ^ left ≤ 10 ^ 27 → Stands places (count + 1) (n * 10 + digit) (record { value = value * 10 + digit; left = left - 1; exact = exact })
+within places count n digit value left extra exact some none nine counted above fine below small =
+    let one : 10 ^ extra ≡ 1 = ap (λ k. 10 ^ k) none in
+    let above' = rw one at above in
+    let below' = rw one at below in
+    let is : value ≡ n = omega (arith, above', below') in
+    let up : 10 ^ left ≡ 10 ^ (left - 1) * 10 = ap (λ k. 10 ^ k) (omega arith) ∙ pow_more 10 (left - 1) in
+    let small' = rw up at small in
+    let k = 10 ^ (left - 1) in
+    let room : digit * k ≤ 9 * k = mul-le digit k 9 k nine (omega arith) in
+    record {
+      extra = 0;
+      counted = omega arith;
+      one_side = inl refl;
+      above = omega (arith, is);
+      exact = λ _. omega (arith, is);
+      fine = λ e. absurd (omega (arith, rw one at (fine e), below'));
+      below = omega (arith, is);
+      small = omega (arith, small', room);
+    }
+
+-- at a place that is still to come
+pub more_within : (places count n digit : ℕ) (s : Steps) → 0 < s.left → digit ≤ 9 → Stands places count n s → Stands places (count + 1) (n * 10 + digit) (record { value = s.value * 10 + digit; left = s.left - 1; exact = s.exact })
+more_within places count n digit s some nine h =
+    let none : h.extra ≡ 0 = elim h.one_side [ inl e ↦ e | inr z ↦ absurd (omega arith) ] in
+    within places count n digit s.value s.left h.extra s.exact some none nine h.counted h.above h.fine h.below h.small
+
+-- before the first digit
+pub none_yet : (places whole : ℕ) → places ≤ 9 → whole < 10 ^ 18 → Stands places 0 whole (record { value = whole; left = places; exact = true })
+none_yet places whole few short = record {
+  extra = 0;
+  counted = omega arith;
+  one_side = inl refl;
+  above = omega arith;
+  exact = λ _. omega arith;
+  fine = λ e. cc;
+  below = omega arith;
+  small = mul-le (whole + 1) (10 ^ places) (10 ^ 18) (10 ^ 9) (omega arith) (pow-le-pow_right (lit< tt) few);
+}

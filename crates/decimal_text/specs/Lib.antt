@@ -1,0 +1,4 @@
+pub mod Decimal
+pub mod Rounding
+pub mod Steps
+pub mod Writing

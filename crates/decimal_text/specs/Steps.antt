@@ -1,0 +1,14 @@
+-- How far a decimal's digits have been read, while its fraction is gone through.
+use Rattle.std.specs.Prelude.{◌≡◌, ℕ, ◌+◌, ◌*◌, ◌^◌, ◌<◌, ◌≤◌, true, false, ◌⊎◌}
+use Rattle.decimal_text.specs.declared.steps.Steps.{Steps}
+
+-- the digits so far are the number n, `count` of them in the fraction and `extra` of these past the places
+pub record Stands (places count n : ℕ) (s : Steps) : Type 0 where
+  pub extra : ℕ
+  pub counted : count + s.left ≡ places + extra
+  pub one_side : (extra ≡ 0) ⊎ (s.left ≡ 0)
+  pub above : s.value * 10 ^ extra ≤ n
+  pub exact : s.exact ≡ true → s.value * 10 ^ extra ≡ n
+  pub fine : s.exact ≡ false → s.value * 10 ^ extra < n
+  pub below : n + 1 ≤ (s.value + 1) * 10 ^ extra
+  pub small : (s.value + 1) * 10 ^ s.left ≤ 10 ^ 27

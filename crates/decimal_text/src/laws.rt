@@ -1,0 +1,44 @@
+//! Facts about reading and writing, and rows that show what they mean.
+
+ghost use Rattle.std.specs.Prelude.{◌≡◌, Ok, Err, pos, negsuc, [], codes};
+ghost use Rattle.decimal_text.specs.Decimal.{read_of, ReadsItsFraction};
+ghost use Rattle.decimal_text.specs.Rounding.{rounded_of};
+ghost use Rattle.decimal_text.specs.Writing.{write_of};
+ghost use Rattle.decimal_text.specs.declared.fault.DecimalFault.TheVariants.{BadForm, TooLong, TooFine};
+
+/// The number read, over `10^places`, is the fraction that the text's digits write.
+pub fn reads_its_fraction()
+    ensures { ReadsItsFraction }
+{}
+
+/// Some texts, and what they read as.
+#[tactic(auto, unfolding(crate::specs::Decimal::read_of, crate::specs::Decimal::decimal_of, crate::specs::Decimal::after_point, crate::specs::Decimal::made_of, crate::specs::Decimal::scaled_or_bad, crate::specs::Decimal::scaled))]
+pub fn worked_readings()
+    ensures negative { read_of (codes "-1.50") 2 ≡ Ok (negsuc 149) }
+    ensures point_first { read_of (codes ".5") 6 ≡ Ok (pos 500000) }
+    ensures point_last { read_of (codes "+5.") 1 ≡ Ok (pos 50) }
+    ensures zero_past_places { read_of (codes "1.230") 2 ≡ Ok (pos 123) }
+    ensures too_fine { read_of (codes "1.234") 2 ≡ Err TooFine }
+    ensures empty { read_of [] 2 ≡ Err BadForm }
+    ensures point_alone { read_of (codes ".") 2 ≡ Err BadForm }
+    ensures most_digits { read_of (codes "012345678901234567") 0 ≡ Ok (pos 12345678901234567) }
+    ensures too_long { read_of (codes "0123456789012345678") 0 ≡ Err TooLong }
+    ensures bad_before_long { read_of (codes "0123456789012345678x") 0 ≡ Err BadForm }
+{}
+
+/// Some numbers, and what they are written as.
+pub fn worked_writings()
+    ensures below_one { write_of (negsuc 4) 2 ≡ codes "-0.05" }
+    ensures zero { write_of (pos 0) 2 ≡ codes "0.00" }
+    ensures no_places { write_of (negsuc 6) 0 ≡ codes "-7" }
+    ensures millionths { write_of (pos 3004334) 6 ≡ codes "3.004334" }
+{}
+
+/// Some fractions, and the whole numbers nearest to them.
+#[tactic(auto, unfolding(crate::specs::Rounding::rounded_of))]
+pub fn worked_roundings()
+    ensures half { rounded_of (pos 15) 10 ≡ pos 2 }
+    ensures below_half { rounded_of (pos 14) 10 ≡ pos 1 }
+    ensures negative_half { rounded_of (negsuc 14) 10 ≡ negsuc 1 }
+    ensures to_zero { rounded_of (negsuc 3) 10 ≡ pos 0 }
+{}

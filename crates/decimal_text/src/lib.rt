@@ -1,0 +1,30 @@
+//! The plain types of the workspace, decimals as texts, and rounding.
+//!
+//! Contracts see [`Text`], [`Bytes`], [`Numbers`] and [`Words`] as lists: a [`Text`] as the list of
+//! its UTF-8 bytes, the others as the list of their items. Only `copy` and [`Text::from_str`] take
+//! memory. [`read`] and [`write`] turn decimals into whole numbers and back.
+#![tactic(auto)]
+
+mod bytes;
+mod fault;
+mod laws;
+mod numbers;
+mod reading;
+mod rounding;
+mod steps;
+mod text;
+mod words;
+mod writing;
+
+pub use bytes::Bytes;
+pub use fault::DecimalFault;
+pub use laws::{reads_its_fraction, worked_readings, worked_roundings, worked_writings};
+pub use numbers::Numbers;
+pub use reading::read;
+pub use rounding::rounded;
+pub use text::Text;
+pub use words::Words;
+pub use writing::write;
+
+#[cfg(test)]
+mod tests;

@@ -1,0 +1,117 @@
+//! Decimals read digit by digit.
+
+ghost use Rattle.std.specs.Prelude.{◌≡◌, ℕ, ◌+◌, ◌*◌, ◌/◌, ◌^◌, ◌<◌, ◌≤◌, List, take, drop, length, nat_lt, IfOk, unsigned_abs, option_copied};
+ghost use Rattle.std.specs.List.{take_while, list_all};
+ghost use Rattle.std.specs.Char.{is_ascii_digit};
+ghost use Rattle.std.specs.Str.Parse.{digits_value, starts_with_minus, without_leading_sign};
+ghost use Rattle.decimal_text.specs.Decimal.{read_of, after_point, made_of, scaled_or_bad};
+
+use crate::fault::DecimalFault;
+use crate::steps::Steps;
+
+/// The most digits that may stand before the point.
+const MOST_WHOLE_DIGITS: usize = 18;
+
+/// The number of steps of `1 / 10^places` that a decimal is.
+///
+/// A decimal is an optional `+` or `-`, digits, and an optional point with digits, with one digit
+/// at least in all. The text is gone over once, whatever its length. It takes no memory.
+pub fn read(text: &[u8], places: u32) -> Result<i128, DecimalFault>
+    requires { places ≤ 9 }
+    ensures exact { result ≡ read_of text.now places }
+    ensures small { IfOk result (λ n. unsigned_abs n < 10 ^ 27) }
+{
+    let (negative, body) = split_sign(text);
+    let (value, count) = whole_digits(body);
+    let (whole, rest) = body.split_at(count);
+    match after_point(rest) {
+        None => Err(DecimalFault::BadForm),
+        Some(fraction) => read_parts(negative, whole, value, fraction, places),
+    }
+}
+
+/// Whether a minus stands first, and the text without its sign.
+fn split_sign(text: &[u8]) -> (bool, &[u8])
+    ensures minus { result.0 ≡ starts_with_minus text.now }
+    ensures rest { result.1.now ≡ without_leading_sign text.now }
+{
+    if text.is_empty() {
+        return (false, text);
+    }
+    let (first, rest) = text.split_at(1);
+    match first[0] {
+        b'-' => (true, rest),
+        b'+' => (false, rest),
+        _ => (false, text),
+    }
+}
+
+/// The number of the digits that a text begins with, where they are at most 18, and how many they are.
+fn whole_digits(body: &[u8]) -> (u64, usize)
+    ensures count { result.1 ≡ length (take_while is_ascii_digit body.now) }
+    ensures value { result.1 ≤ 18 → result.0 ≡ digits_value 10 (take_while is_ascii_digit body.now) }
+    ensures small { result.0 < 10 ^ 18 }
+{
+    let mut value = 0;
+    for (count, byte) in body.iter().enumerate() {
+        if !byte.is_ascii_digit() {
+            return (value, count);
+        }
+        if count < MOST_WHOLE_DIGITS {
+            value = value * 10 + u64::from(byte - b'0');
+        }
+    }
+    (value, body.len())
+}
+
+/// What stands after the point, if a point stands first or nothing does.
+fn after_point(rest: &[u8]) -> Option<&[u8]>
+    ensures { option_copied result ≡ after_point rest.now }
+{
+    if rest.is_empty() {
+        return Some(rest);
+    }
+    let (first, fraction) = rest.split_at(1);
+    if first[0] == b'.' {
+        Some(fraction)
+    } else {
+        None
+    }
+}
+
+/// Whether a digit stands on one side of the point at least.
+fn have_digit(whole: &[u8], fraction: &[u8]) -> bool
+    ensures { result ≡ nat_lt 0 (length whole.now + length fraction.now) }
+{
+    !whole.is_empty() || !fraction.is_empty()
+}
+
+/// The number of steps, from the digits on both sides of the point.
+fn read_parts(
+    negative: bool,
+    whole: &[u8],
+    value: u64,
+    fraction: &[u8],
+    places: u32,
+) -> Result<i128, DecimalFault>
+    requires few { places ≤ 9 }
+    requires small { value < 10 ^ 18 }
+    requires whole { length whole.now ≤ 18 → value ≡ digits_value 10 whole.now }
+    ensures exact { result ≡ scaled_or_bad places (made_of negative whole.now fraction.now) }
+    ensures small { IfOk result (λ n. unsigned_abs n < 10 ^ 27) }
+{
+    let Some(steps) = Steps::over(value, fraction, places) else {
+        return Err(DecimalFault::BadForm);
+    };
+    if !have_digit(whole, fraction) {
+        return Err(DecimalFault::BadForm);
+    }
+    if whole.len() > MOST_WHOLE_DIGITS {
+        return Err(DecimalFault::TooLong);
+    }
+    if !steps.exact {
+        return Err(DecimalFault::TooFine);
+    }
+    let size = steps.total() as i128;
+    Ok(if negative { -size } else { size })
+}

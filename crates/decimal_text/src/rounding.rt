@@ -1,0 +1,26 @@
+//! Rounding to whole numbers.
+
+ghost use Rattle.std.specs.Prelude.{◌≡◌, ◌+◌, ◌*◌, ◌/◌, ◌^◌, ◌<◌, ◌≤◌, unsigned_abs};
+ghost use Rattle.decimal_text.specs.Rounding.{rounded_of, half_up};
+
+/// `value / unit` as the nearest whole number, a half as the one further from 0.
+pub fn rounded(value: i128, unit: u64) -> i128
+    requires some { 0 < unit }
+    requires room { unsigned_abs value < 2 ^ 126 }
+    ensures exact { result ≡ rounded_of value unit }
+    ensures small { unsigned_abs result ≤ half_up (unsigned_abs value) unit }
+{
+    let size = rounded_size(value.unsigned_abs(), unit) as i128;
+    if value < 0 { -size } else { size }
+}
+
+/// `size / unit` as the nearest whole number, a half upwards.
+fn rounded_size(size: u128, unit: u64) -> u128
+    requires some { 0 < unit }
+    requires room { size < 2 ^ 126 }
+    ensures exact { result ≡ half_up size unit }
+    ensures small { result ≤ 2 ^ 126 }
+{
+    let unit = u128::from(unit);
+    (2 * size + unit) / (2 * unit)
+}

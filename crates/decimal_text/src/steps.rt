@@ -1,0 +1,71 @@
+//! The digits of a fraction, gone through one by one.
+
+ghost use Rattle.std.specs.Prelude.{◌≡◌, ℕ, ◌+◌, ◌*◌, ◌-◌, ◌^◌, ◌<◌, ◌≤◌, true, false, length, MatchOption};
+ghost use Rattle.std.specs.List.{list_all};
+ghost use Rattle.std.specs.Char.{is_ascii_digit};
+ghost use Rattle.std.specs.Str.Parse.{digits_value_after};
+
+/// A decimal's digits so far, as one number.
+#[derive(Clone, Copy)]
+pub struct Steps {
+    pub value: u128,
+    /// How many places are still to come.
+    pub left: u32,
+    /// No digit but 0 stands past the last place.
+    pub exact: bool,
+}
+
+impl Steps {
+    ghost use Rattle.decimal_text.specs.Steps.{Stands};
+
+    /// One digit more.
+    fn after(self, digit: u8) -> Steps
+        requires one { digit ≤ 9 }
+        requires room { (self.value + 1) * 10 ^ self.left ≤ 10 ^ 27 }
+        ensures { (places count n : ℕ) → Stands places count n self → Stands places (count + 1) (n * 10 + digit) result }
+    {
+        if self.left == 0 {
+            return Steps {
+                exact: self.exact && digit == 0,
+                ..self
+            };
+        }
+        Steps {
+            value: self.value * 10 + u128::from(digit),
+            left: self.left - 1,
+            ..self
+        }
+    }
+
+    /// The number of steps in all, once the fraction has ended.
+    pub fn total(self) -> u128
+        requires { (self.value + 1) * 10 ^ self.left ≤ 10 ^ 27 }
+        ensures value { result ≡ self.value * 10 ^ self.left }
+        ensures small { result < 10 ^ 27 }
+    {
+        self.value * 10u128.pow(self.left)
+    }
+
+    /// All digits of a fraction after a whole number, if they are digits.
+    pub fn over(whole: u64, fraction: &[u8], places: u32) -> Option<Steps>
+        requires few { places ≤ 9 }
+        requires short { whole < 10 ^ 18 }
+        ensures { MatchOption result
+            (list_all is_ascii_digit fraction.now ≡ false)
+            (λ s. (list_all is_ascii_digit fraction.now ≡ true)
+            × Stands places (length fraction.now) (digits_value_after 10 whole fraction.now) s) }
+    {
+        let mut steps = Steps {
+            value: u128::from(whole),
+            left: places,
+            exact: true,
+        };
+        for byte in fraction {
+            if !byte.is_ascii_digit() {
+                return None;
+            }
+            steps = steps.after(byte - b'0');
+        }
+        Some(steps)
+    }
+}

@@ -1,0 +1,68 @@
+//! Numbers written as decimals.
+
+ghost use Rattle.std.specs.Prelude.{◌≡◌, ℕ, ◌+◌, ◌^◌, ◌<◌, ◌≤◌, [], ◌∷◌, ◌++◌, length, unsigned_abs};
+ghost use Rattle.arrayvec.specs.ArrayString.{array_string_len};
+ghost use Rattle.decimal_text.specs.Decimal.{read_of};
+ghost use Rattle.decimal_text.specs.Writing.{write_of, whole_of, minus_of, fraction_of, last_digits};
+
+use arrayvec::ArrayString;
+use itoa::Buffer;
+
+/// Writes `value / 10^places` with exactly that many decimals.
+///
+/// One digit at least stands before the point, `-` only before a negative value, and there is no
+/// point where `places` is 0. It takes no memory.
+pub fn write(value: i64, places: u32, out: &mut ArrayString<24>)
+    requires empty { out.old.bytes ≡ [] }
+    requires few { places ≤ 6 }
+    ensures exact { out.new.bytes ≡ write_of value places }
+    ensures reads_back { length (whole_of value places) ≤ 18 → read_of out.new.bytes places ≡ Ok value }
+{
+    push_minus(value, out);
+    let size = value.unsigned_abs();
+    let mut buffer = Buffer::new();
+    out.push_str(buffer.format(size / 10u64.pow(places)));
+    push_fraction(size, places, out);
+}
+
+/// Appends the sign of a negative number.
+fn push_minus(value: i64, out: &mut ArrayString<24>)
+    requires { length out.old.bytes < 24 }
+    ensures { out.new.bytes ≡ out.old.bytes ++ minus_of value }
+{
+    if value < 0 {
+        out.push('-');
+    }
+}
+
+/// Appends the point and the last digits of a number, where it has decimals.
+fn push_fraction(size: u64, places: u32, out: &mut ArrayString<24>)
+    requires few { places ≤ 6 }
+    requires room { length out.old.bytes + 1 + places ≤ 24 }
+    ensures { out.new.bytes ≡ out.old.bytes ++ fraction_of places size }
+{
+    if places > 0 {
+        out.push('.');
+        push_last_digits(size, places, out);
+    }
+}
+
+/// Appends the last digits of a number, the highest first.
+fn push_last_digits(size: u64, places: u32, out: &mut ArrayString<24>)
+    requires few { places ≤ 6 }
+    requires room { length out.old.bytes + places ≤ 24 }
+    ensures { out.new.bytes ≡ out.old.bytes ++ last_digits places size }
+{
+    for place in (0..places).rev() {
+        push_digit(size / 10u64.pow(place) % 10, out);
+    }
+}
+
+/// Appends one digit.
+fn push_digit(digit: u64, out: &mut ArrayString<24>)
+    requires one { digit < 10 }
+    requires room { length out.old.bytes < 24 }
+    ensures { out.new.bytes ≡ out.old.bytes ++ (48 + digit) ∷ [] }
+{
+    out.push(char::from(b'0' + digit as u8));
+}
