@@ -1,0 +1,31 @@
+-- The calls on an object in memory, some of which fail (this project).
+use Rattle.std.specs.Prelude.{ℕ, ◌+◌, ◌-◌, ◌^◌, ◌==◌, min, Bool, true, false, if◌then◌else◌, List, Result, Ok, Err}
+use Rattle.std.specs.List.{list_any}
+use Rattle.tide_edge.specs.declared.failed.Failed.{Failed}
+
+-- the numbers of the calls that are to fail, how many calls were made, and how many of them failed
+pub record HeldCalls : Type 0 where
+  pub fails : List ℕ
+  pub made : ℕ
+  pub faults : ℕ
+
+-- one more, but no more than the last value of a count
+abbrev pub counted : ℕ → ℕ
+counted n = min (n + 1) (2 ^ 64 - 1)
+
+-- whether the next call is one of those that are to fail; calls are counted from 1
+abbrev pub is_to_fail : HeldCalls → Bool
+is_to_fail calls = list_any (λ n. n == counted calls.made) calls.fails
+
+-- after one more call, which failed or didn't
+abbrev pub after_call : Bool → HeldCalls → HeldCalls
+after_call failed calls = record {
+  fails = calls.fails;
+  made = counted calls.made;
+  faults = (if failed then counted calls.faults else calls.faults);
+}
+
+-- what a call answers: that it failed, or a value
+abbrev pub answer : {T : Type 0} → Bool → T → Result T Failed
+answer true value = Err record {}
+answer false value = Ok value

@@ -1,0 +1,21 @@
+-- What an answer that came with the help of the outside says of the expected one (this project).
+use Rattle.std.specs.Prelude.{◌≡◌, ◌⊎◌, Bool, IsTrue, Result, Ok, Err}
+
+-- where a fault comes from: from want of memory, from a call on the outside, or from what was read or asked
+pub data Source : Type 0 where
+  memory : Source
+  outside : Source
+  given : Source
+
+-- What a fault says of the expected result. Want of memory says nothing. A fault of the outside says nothing over files
+-- that aren't steady; over steady ones it is the expected fault, or else something else outside rose. Any other fault
+-- is the expected one.
+abbrev pub Excuses : {T E : Type 0} → Source → Bool → Type 0 → Result T E → E → Type 0
+Excuses memory steady rose expected fault = Unit {0}
+Excuses outside steady rose expected fault = IsTrue steady → (expected ≡ Err fault) ⊎ rose
+Excuses given steady rose expected fault = expected ≡ Err fault
+
+-- A value is the expected one, and a fault is excused.
+abbrev pub Meets : {T E : Type 0} → (E → Source) → Bool → Type 0 → Result T E → Result T E → Type 0
+Meets source steady rose expected (Ok value) = expected ≡ Ok value
+Meets source steady rose expected (Err fault) = Excuses (source fault) steady rose expected fault

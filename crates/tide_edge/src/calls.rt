@@ -1,0 +1,62 @@
+//! The count of the calls on an object in memory.
+
+ghost use Rattle.std.specs.Prelude.{◌≡◌, ◌≤◌};
+ghost use Rattle.tide_edge.specs.Faults.{HasCause, Rose};
+
+use crate::failed::Failed;
+use std::marker::Model;
+
+/// How many calls were made, which of them are to fail, and how many did.
+/// Both counts stay at the last value of a `u64`.
+#[derive(Debug, Drop)]
+pub(crate) struct Calls {
+    fails: Vec<u64>,
+    made: u64,
+    faults: u64,
+}
+
+impl Model for Calls {
+    ghost use Rattle.tide_edge.specs.Calls.{HeldCalls};
+
+    ghost Value = { HeldCalls };
+
+    ghost view = { λ c. record { fails = c.fails.items; made = c.made; faults = c.faults } };
+}
+
+impl Calls {
+    ghost use Rattle.tide_edge.specs.Calls.{answer, is_to_fail, after_call, counted};
+
+    /// No call yet. The numbers of those that are to fail are counted from 1.
+    pub(crate) fn new(fails: Vec<u64>) -> Calls
+        ensures { result ≡ record { fails = fails.items; made = 0; faults = 0 } }
+    {
+        Calls {
+            fails,
+            made: 0,
+            faults: 0,
+        }
+    }
+
+    /// Counts one more call, and fails where it is one of those that are to fail.
+    pub(crate) fn next(&mut self) -> Result<(), Failed>
+        ensures answer { result ≡ answer (is_to_fail self.old) record {} }
+        ensures after { self.new ≡ after_call (is_to_fail self.old) self.old }
+        ensures cause { HasCause self.old.faults self.new.faults result }
+    {
+        self.made = self.made.saturating_add(1);
+        if self.fails.contains(&self.made) {
+            return Err(self.fail());
+        }
+        Ok(())
+    }
+
+    /// Counts a failure of the call that was counted last.
+    pub(crate) fn fail(&mut self) -> Failed
+        ensures after { self.new ≡ record self.old { faults = counted self.old.faults } }
+        ensures later { self.old.faults ≤ self.new.faults }
+        ensures rose { Rose self.old.faults self.new.faults }
+    {
+        self.faults = self.faults.saturating_add(1);
+        Failed
+    }
+}

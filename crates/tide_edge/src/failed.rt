@@ -1,0 +1,8 @@
+//! The one failure of a call on the outside.
+
+use thiserror::Error;
+
+/// A call on files, a sink or a clock failed. Why isn't told: the object's count of faults shows that it did.
+#[derive(Clone, Copy, Debug, PartialEq, Eq, Error)]
+#[error("a call on files, a sink or a clock failed")]
+pub struct Failed;

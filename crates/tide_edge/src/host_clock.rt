@@ -1,0 +1,49 @@
+//! The clock of the machine.
+
+ghost use Rattle.std.specs.Prelude.{◌≡◌, pos};
+
+use crate::clock::Clock;
+use crate::failed::Failed;
+use crate::host_fault::count_fault;
+use std::rt;
+use std::time::{SystemTime, UNIX_EPOCH};
+
+const LAST_MINUTE: u64 = 10_000_000_000;
+
+/// The clock of the machine. It doesn't tell its minute.
+///
+/// It fails before 1970, which the system doesn't tell, and from 10,000,000,001 minutes later on.
+#[derive(Drop)]
+pub struct HostClock<R: rt::Clock + Drop> {
+    system: R,
+    faults: u64,
+}
+
+impl<R: rt::Clock + Drop> HostClock<R> {
+    /// The clock of the machine.
+    pub fn new(system: R) -> HostClock<R>
+        ensures { ⟦<HostClock<R> as Clock>⟧.faults result ≡ 0 }
+    {
+        HostClock { system, faults: 0 }
+    }
+}
+
+impl<R: rt::Clock + Drop> Clock for HostClock<R> {
+    ghost tells = { λ _. ⊥ };
+
+    ghost minute_held = { λ _. pos 0 };
+
+    ghost faults = { λ h. h.faults };
+
+    fn minute(&mut self) -> Result<i64, Failed> {
+        if let Ok(now) = SystemTime::now(&self.system)
+            && let Ok(since) = now.duration_since(UNIX_EPOCH)
+        {
+            let minute = since.as_secs() / 60;
+            if minute <= LAST_MINUTE {
+                return Ok(minute as i64);
+            }
+        }
+        Err(count_fault(&mut self.faults))
+    }
+}

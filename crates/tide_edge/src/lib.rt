@@ -1,0 +1,44 @@
+//! The outside of the program: files, where bytes are written to, and the clock.
+//!
+//! Each is a trait, with an implementation in memory that tells what it holds and one over the
+//! machine that doesn't. [`read_all`] reads a whole file and [`write_all`] writes all of its bytes,
+//! over any of them.
+#![tactic(auto)]
+
+mod calls;
+mod clock;
+mod failed;
+mod files;
+mod fixed_clock;
+mod host_clock;
+mod host_fault;
+mod host_files;
+mod host_sink;
+mod memory_files;
+mod memory_sink;
+mod named_file;
+mod read_all_fault;
+mod reading;
+mod rest;
+mod rows;
+mod sink;
+mod writing;
+
+pub use clock::Clock;
+pub use failed::Failed;
+pub use files::Files;
+pub use fixed_clock::FixedClock;
+pub use host_clock::HostClock;
+pub use host_files::HostFiles;
+pub use host_sink::HostSink;
+pub use memory_files::MemoryFiles;
+pub use memory_sink::MemorySink;
+pub use named_file::NamedFile;
+pub use read_all_fault::ReadAllFault;
+pub use reading::read_all;
+pub use rows::worked_rows;
+pub use sink::Sink;
+pub use writing::{WriteFailed, write_all};
+
+#[cfg(test)]
+mod tests;

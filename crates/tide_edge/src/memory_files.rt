@@ -1,0 +1,126 @@
+//! Files in memory.
+
+ghost use Rattle.std.specs.Prelude.{◌≡◌, ◌==◌, ◌+◌, ◌<◌, ◌^◌, ◌++◌, [], position, length, take, drop, is_none};
+ghost use Rattle.std.specs.Option.{option_map};
+ghost use Rattle.std.specs.Str.{bytes_eq};
+ghost use Rattle.tide_edge.specs.Faults.{HasCause};
+ghost use Rattle.tide_edge.specs.Memory.{folder_of};
+ghost use Rattle.tide_edge.specs.Places.{bytes_at, rest_of};
+
+use crate::calls::Calls;
+use crate::failed::Failed;
+use crate::files::Files;
+use crate::named_file::NamedFile;
+use crate::rest::rest_from;
+use decimal_text::Text;
+use std::marker::Model;
+
+/// Files in memory, which tell what they hold. They are steady where none of their calls is to fail.
+#[derive(Debug, Drop)]
+pub struct MemoryFiles {
+    files: Vec<NamedFile>,
+    opened: Option<usize>,
+    at: usize,
+    calls: Calls,
+}
+
+impl Model for MemoryFiles {
+    ghost use Rattle.tide_edge.specs.Memory.{HeldFiles};
+
+    ghost Value = { HeldFiles };
+
+    ghost use Rattle.tide_edge.specs.Places.{bytes_at, rest_of};
+
+    ghost view = { λ m. record { files = m.files.items; rest = rest_of m.files.items m.opened m.at; calls = m.calls } };
+}
+
+impl MemoryFiles {
+    /// Files in memory, none of them open. Of two with one name the first counts.
+    /// A call fails where its number is in `fails`; calls of `open` and `read` are counted from 1.
+    pub fn new(files: Vec<NamedFile>, fails: Vec<u64>) -> MemoryFiles
+        ensures { result ≡ record {
+          files = files.items;
+          rest = [];
+          calls = record { fails = fails.items; made = 0; faults = 0 };
+        } }
+    {
+        MemoryFiles {
+            files,
+            opened: None,
+            at: 0,
+            calls: Calls::new(fails),
+        }
+    }
+}
+
+impl Files for MemoryFiles {
+    ghost use Rattle.tide_edge.specs.Calls.{answer, is_to_fail};
+    ghost use Rattle.tide_edge.specs.Memory.{found, after_open, read_count, after_read};
+
+    ghost tells = { λ _. Unit {0} };
+
+    ghost folder = { λ m. folder_of m.files };
+
+    ghost rest = { λ m. m.rest };
+
+    ghost steady = { λ m. length m.calls.fails == 0 };
+
+    ghost faults = { λ m. m.calls.faults };
+
+    fn open(&mut self, name: &Text) -> Result<(), Failed>
+        ensures answer { result ≡ answer (is_none (found self.old name.now)) record {} }
+        ensures after { self.new ≡ after_open self.old name.now }
+        ensures cause { HasCause self.old.calls.faults self.new.calls.faults result }
+    {
+        self.opened = None;
+        self.at = 0;
+        self.calls.next()?;
+        self.opened = place_of(&self.files, name);
+        if self.opened.is_none() {
+            return Err(self.calls.fail());
+        }
+        Ok(())
+    }
+
+    fn read(&mut self, room: &mut [u8]) -> Result<usize, Failed>
+        requires { 0 < length room.old }
+        ensures answer { result ≡ answer (is_to_fail self.old.calls) (read_count self.old (length room.old)) }
+        ensures after { self.new ≡ after_read self.old (length room.old) }
+        ensures filled { room.new ≡ take (read_count self.old (length room.old)) self.old.rest
+            ++ drop (read_count self.old (length room.old)) room.old }
+        ensures cause { HasCause self.old.calls.faults self.new.calls.faults result }
+    {
+        self.calls.next()?;
+        let rest = rest_at(&self.files, self.opened, self.at);
+        let count = room.len().min(rest.len());
+        room[..count].copy_from_slice(&rest[..count]);
+        self.at += count;
+        Ok(count)
+    }
+}
+
+/// The place of the first file of that name.
+fn place_of(files: &[NamedFile], name: &Text) -> Option<usize>
+    ensures { folder_of files.now name.now ≡ option_map (bytes_at files.now) result }
+{
+    first_named(files, name)
+}
+
+fn first_named(files: &[NamedFile], name: &Text) -> Option<usize>
+    ensures { result ≡ position (λ file. bytes_eq file.name name.now) files.now }
+{
+    files
+        .iter()
+        .position(|file| file.name.as_str() == name.as_str())
+}
+
+/// What is left of the file at that place.
+fn rest_at(files: &[NamedFile], opened: Option<usize>, at: usize) -> &[u8]
+    ensures rest { result.now ≡ rest_of files.now opened at }
+    ensures fits { at + length result.now < 2 ^ 64 }
+{
+    match opened {
+        Some(place) if place < files.len() => rest_from(files[place].bytes.as_slice(), at),
+        _ => &[],
+    }
+}

@@ -1,0 +1,92 @@
+//! A sink in memory.
+
+ghost use Rattle.std.specs.Prelude.{◌≡◌, ◌<◌, ◌≤◌, [], IfOk, length};
+ghost use Rattle.tide_edge.specs.Faults.{HasCause};
+
+use crate::calls::Calls;
+use crate::failed::Failed;
+use crate::sink::Sink;
+use std::alloc::{AllocError, Global};
+use std::marker::Model;
+
+/// A sink in memory, which tells what it has taken.
+#[derive(Debug, Drop)]
+pub struct MemorySink {
+    bytes: Vec<u8>,
+    most: u64,
+    room: u64,
+    calls: Calls,
+}
+
+impl Model for MemorySink {
+    ghost use Rattle.tide_edge.specs.Memory.{HeldSink};
+    ghost use Rattle.std.specs.Prelude.{◌≤◌, vec_len, vec_capacity};
+
+    ghost Value = { HeldSink };
+
+    ghost view = { λ s. record { taken = s.bytes.items; most = s.most; room = s.room; calls = s.calls } };
+
+    ghost invariant = { λ s. (1 ≤ s.most) × (vec_len s.bytes ≤ s.room) × (s.room ≤ vec_capacity s.bytes) };
+}
+
+impl MemorySink {
+    /// An empty sink that takes at most `most` bytes a call and `room` bytes in all.
+    /// A call fails where its number, counted from 1, is in `fails`, and where the room is full.
+    /// It takes the memory for its room here, and none later.
+    pub fn new(
+        alloc: Global,
+        most: u64,
+        room: u64,
+        fails: Vec<u64>,
+    ) -> Result<MemorySink, AllocError>
+        requires { 1 ≤ most }
+        ensures { IfOk result (λ sink. sink ≡ record {
+          taken = [];
+          most = most;
+          room = room;
+          calls = record { fails = fails.items; made = 0; faults = 0 };
+        }) }
+    {
+        Ok(MemorySink {
+            bytes: Vec::with_capacity(alloc, room as usize)?,
+            most,
+            room,
+            calls: Calls::new(fails),
+        })
+    }
+
+    /// The bytes taken.
+    pub fn bytes(&self) -> &[u8]
+        ensures { result.now ≡ self.now.taken }
+    {
+        self.bytes.as_slice()
+    }
+}
+
+impl Sink for MemorySink {
+    ghost use Rattle.tide_edge.specs.Calls.{answer};
+    ghost use Rattle.tide_edge.specs.Memory.{is_refused, write_count, after_write};
+
+    ghost tells = { λ _. Unit {0} };
+
+    ghost taken = { λ s. s.taken };
+
+    ghost faults = { λ s. s.calls.faults };
+
+    fn write(&mut self, piece: &[u8]) -> Result<usize, Failed>
+        requires { 0 < length piece.now }
+        ensures answer { result ≡ answer (is_refused self.old) (write_count self.old (length piece.now)) }
+        ensures after { self.new ≡ after_write self.old piece.now }
+        ensures some { IfOk result (λ count. 0 < count) }
+        ensures cause { HasCause self.old.calls.faults self.new.calls.faults result }
+    {
+        self.calls.next()?;
+        let left = self.room - self.bytes.len() as u64;
+        if left == 0 {
+            return Err(self.calls.fail());
+        }
+        let count = (piece.len() as u64).min(self.most).min(left) as usize;
+        self.bytes.extend_from_slice(&piece[..count]).unwrap();
+        Ok(count)
+    }
+}

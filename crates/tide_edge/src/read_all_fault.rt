@@ -1,0 +1,41 @@
+//! Why a file wasn't read whole.
+
+ghost use Rattle.std.specs.Prelude.{◌≡◌};
+
+use crate::failed::Failed as CallFailed;
+use std::alloc::AllocError;
+use thiserror::Error;
+
+/// Why a file wasn't read whole.
+#[derive(Clone, Copy, Debug, PartialEq, Eq, Error)]
+pub enum ReadAllFault {
+    /// Opening or reading the file failed.
+    #[error("the file can't be read")]
+    Failed,
+    /// More bytes came than were allowed.
+    #[error("the file is too long")]
+    TooLong,
+    /// There was no memory for the bytes.
+    #[error("no memory for the file")]
+    NoMemory,
+}
+
+impl From<CallFailed> for ReadAllFault {
+    ghost use Rattle.tide_edge.specs.declared.read_all_fault.ReadAllFault.TheVariants.{Failed};
+
+    ghost from_gives = { λ _ fault. fault ≡ Failed };
+
+    fn from(_: CallFailed) -> ReadAllFault {
+        ReadAllFault::Failed
+    }
+}
+
+impl From<AllocError> for ReadAllFault {
+    ghost use Rattle.tide_edge.specs.declared.read_all_fault.ReadAllFault.TheVariants.{NoMemory};
+
+    ghost from_gives = { λ _ fault. fault ≡ NoMemory };
+
+    fn from(_: AllocError) -> ReadAllFault {
+        ReadAllFault::NoMemory
+    }
+}

@@ -1,0 +1,12 @@
+//! What is left of some bytes.
+
+ghost use Rattle.std.specs.Prelude.{◌≡◌, ◌+◌, ◌-◌, ◌<◌, ◌^◌, length, drop};
+
+/// The bytes from there on.
+pub(crate) fn rest_from(bytes: &[u8], at: usize) -> &[u8]
+    ensures rest { result.now ≡ drop at bytes.now }
+    ensures count { length result.now ≡ length bytes.now - at }
+    ensures fits { at + length result.now < 2 ^ 64 }
+{
+    if at < bytes.len() { &bytes[at..] } else { &[] }
+}

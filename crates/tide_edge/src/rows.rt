@@ -1,0 +1,48 @@
+//! Worked rows of the definitions that contracts cite.
+
+ghost use Rattle.std.specs.Prelude.{◌≡◌, ◌-◌, ◌^◌, true, false, [], ◌∷◌, Some, None, Ok, Err};
+ghost use Rattle.tide_edge.specs.Calls.{counted, is_to_fail};
+ghost use Rattle.tide_edge.specs.Faults.{Rose};
+ghost use Rattle.tide_edge.specs.Memory.{folder_of, read_count, is_refused, write_count};
+ghost use Rattle.tide_edge.specs.Whole.{whole};
+
+use crate::read_all_fault::ReadAllFault;
+
+/// Checks the definitions at a few values.
+pub fn worked_rows()
+    ensures fits { whole 3 (Some (7 ∷ 8 ∷ 9 ∷ [])) ≡ Ok (7 ∷ 8 ∷ 9 ∷ []) }
+    ensures too_long { whole 2 (Some (7 ∷ 8 ∷ 9 ∷ [])) ≡ Err ReadAllFault.TooLong }
+    ensures absent { whole 2 None ≡ Err ReadAllFault.Failed }
+
+    ensures rose { Rose 4 5 }
+    ensures stands { ¬ (Rose 4 4) }
+    ensures at_last { Rose (2 ^ 64 - 1) (2 ^ 64 - 1) }
+    ensures stays { counted (2 ^ 64 - 1) ≡ 2 ^ 64 - 1 }
+
+    ensures second_call { is_to_fail (record { fails = 2 ∷ []; made = 1; faults = 0 }) ≡ true }
+    ensures first_call { is_to_fail (record { fails = 2 ∷ []; made = 0; faults = 0 }) ≡ false }
+    ensures first_of_a_name { folder_of (record { name = 97 ∷ []; bytes = 1 ∷ [] }
+        ∷ record { name = 97 ∷ []; bytes = 2 ∷ [] } ∷ []) (97 ∷ []) ≡ Some (1 ∷ []) }
+    ensures small_room { read_count (record {
+      files = [];
+      rest = 7 ∷ 8 ∷ [];
+      calls = record { fails = []; made = 0; faults = 0 };
+    }) 1 ≡ 1 }
+    ensures small_rest { read_count (record {
+      files = [];
+      rest = 7 ∷ 8 ∷ [];
+      calls = record { fails = []; made = 0; faults = 0 };
+    }) 9 ≡ 2 }
+    ensures nearly_full { write_count (record {
+      taken = 7 ∷ 8 ∷ [];
+      most = 2;
+      room = 3;
+      calls = record { fails = []; made = 0; faults = 0 };
+    }) 9 ≡ 1 }
+    ensures full { is_refused (record {
+      taken = 7 ∷ 8 ∷ [];
+      most = 2;
+      room = 2;
+      calls = record { fails = []; made = 0; faults = 0 };
+    }) ≡ true }
+{}
