@@ -1,0 +1,25 @@
+//! Plain lists that were worked out by hand.
+
+ghost use Rattle.std.specs.Prelude.{◌≡◌, ℕ, ℤ, pos, negsuc, neg_ℤ, ◌*ℤ◌, ◌-ℤ◌, List, [], ◌∷◌};
+ghost use Rattle.curve_law.specs.declared.event.Event.{Event};
+ghost use Rattle.curve_law.specs.declared.kind.Kind.{Kind};
+ghost use Rattle.curve_law.specs.Track.{Track, plain_list};
+
+/// Four values over the minutes from -2 to 3, with the level 10 times the minute. Values that rise
+/// past 0 have the event after 0, where they are not yet above it. Values that touch 0 from below
+/// have none, and values that touch it from above have two.
+#[tactic(auto, unfolding(crate::specs::Track::minutes, crate::specs::Track::plain_list))]
+pub fn worked_rows()
+    ensures rises { let t : Track = record { value = λ m. m; note = λ m. pos 10 *ℤ m; rising = Kind.Low; falling = Kind.High } in
+        plain_list t (negsuc 1) 5 ≡ record { minute = pos 0; kind = Kind.Low; level = pos 0 } ∷ [] }
+    ensures falls { let t : Track = record { value = λ m. neg_ℤ m; note = λ m. pos 10 *ℤ m; rising = Kind.Low; falling = Kind.High } in
+        plain_list t (negsuc 1) 5 ≡ record { minute = negsuc 0; kind = Kind.High; level = negsuc 9 } ∷ [] }
+    ensures touches_from_below { let t : Track = record { value = λ m. neg_ℤ (m *ℤ m); note = λ m. pos 10 *ℤ m; rising = Kind.Low; falling = Kind.High } in
+        plain_list t (negsuc 1) 5 ≡ [] }
+    ensures touches_from_above { let t : Track = record { value = λ m. m *ℤ m; note = λ m. pos 10 *ℤ m; rising = Kind.Low; falling = Kind.High } in
+        plain_list t (negsuc 1) 5
+        ≡ record { minute = negsuc 0; kind = Kind.High; level = negsuc 9 }
+        ∷ record { minute = pos 0; kind = Kind.Low; level = pos 0 } ∷ [] }
+    ensures ends_before_it { let t : Track = record { value = λ m. m; note = λ m. pos 10 *ℤ m; rising = Kind.Low; falling = Kind.High } in
+        plain_list t (negsuc 1) 2 ≡ [] }
+{}
