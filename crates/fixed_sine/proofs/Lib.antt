@@ -1,0 +1,4 @@
+pub mod TableLemmas
+pub mod QuarterLemmas
+pub mod CircleLemmas
+pub mod RateLemmas

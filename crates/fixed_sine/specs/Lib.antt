@@ -1,0 +1,4 @@
+pub mod Circle
+pub mod Table
+pub mod Sine
+pub mod Rate

@@ -1,0 +1,41 @@
+//! What is computed of the table, and what holds at every place.
+
+ghost use Rattle.std.specs.Prelude.{◌≡◌, ℕ, ◌+◌, ◌-◌, ◌*◌, ◌<◌, ◌≤◌, pos, negsuc, ◌+ℤ◌, ◌-ℤ◌, ◌*ℤ◌, ◌≤ℤ◌, unsigned_abs, ◌^◌};
+ghost use Rattle.std.specs.Int.{int_rem_euclid};
+ghost use Rattle.fixed_sine.specs.Circle.{circle};
+ghost use Rattle.fixed_sine.specs.Table.{sine_at, rise, correction};
+ghost use Rattle.fixed_sine.specs.Sine.{isin_of, icos_of};
+ghost use Rattle.fixed_sine.specs.Rate.{step_of};
+
+/// Two checks of the whole table: no degree gains more than 17,454,000 with a quarter of its
+/// correction, and the squares of the sines of `k` and `90 - k` degrees sum to nearly 10^18.
+pub fn table_checks()
+    ensures gains { (k : ℕ) → k < 90
+        → ((pos 4 *ℤ rise k) +ℤ pos (unsigned_abs (correction k))) ≤ℤ pos (4 * 17454000) }
+    ensures squares { (k : ℕ) → k ≤ 90 → unsigned_abs
+        (((sine_at (pos k) *ℤ sine_at (pos k)) +ℤ (sine_at (pos (90 - k)) *ℤ sine_at (pos (90 - k)))) -ℤ pos (10 ^ 18)) ≤ 2 * 10 ^ 9 }
+{}
+
+/// Sine and cosine are at most 1,000,000,000 in size, and no step is over 104,724,001.
+pub fn sine_sizes()
+    ensures sine { (p : ℕ) → p < circle → unsigned_abs (isin_of p) ≤ 1000000000 }
+    ensures cosine { (p : ℕ) → p < circle → unsigned_abs (icos_of p) ≤ 1000000000 }
+    ensures step { (w : ℕ) → w ≤ 3600000000 → step_of w ≤ 104724001 }
+{}
+
+/// Values of the definitions at places of their own.
+#[tactic(auto, unfolding(crate::specs::Table::sines, crate::specs::Table::sine_at, crate::specs::Table::correction, crate::specs::Sine::scaled_between, crate::specs::Sine::quarter_of, crate::specs::Sine::half_of, crate::specs::Sine::isin_of, crate::specs::Sine::icos_of, crate::specs::Rate::step_of))]
+pub fn worked_rows()
+    ensures at_zero { isin_of 0 ≡ pos 0 }
+    ensures half_a_degree { isin_of 300000000 ≡ pos 8726535 }
+    ensures fourteen_and_a_half { isin_of 8700000000 ≡ pos 250380003 }
+    ensures thirty { isin_of 18000000000 ≡ pos 500000000 }
+    ensures thirty_and_a_half { isin_of 18300000000 ≡ pos 507538361 }
+    ensures near_ninety { isin_of 53700000000 ≡ pos 999961920 }
+    ensures ninety { isin_of 54000000000 ≡ pos 1000000000 }
+    ensures second_half { isin_of 108300000000 ≡ negsuc 8726534 }
+    ensures cosine_at_zero { icos_of 0 ≡ pos 1000000000 }
+    ensures no_step { step_of 0 ≡ 1 }
+    ensures step_of_half_a_degree { step_of 300000000 ≡ 8727001 }
+    ensures below_zero { int_rem_euclid (negsuc 0) (pos circle) ≡ pos 215999999999 }
+{}

@@ -1,0 +1,20 @@
+//! Sine and cosine in whole numbers, the same on every machine.
+//!
+//! An angle is a place on a circle of [`CIRCLE`] units, [`DEGREE`] to a degree. [`reduce`] brings
+//! any number of units onto the circle. [`isin`] and [`icos`] are in billionths: a table of whole
+//! degrees, interpolated by second differences. [`step`] bounds how much they change.
+#![tactic(auto)]
+
+mod circle;
+mod laws;
+mod rate;
+mod sine;
+mod table;
+
+pub use circle::{CIRCLE, DEGREE, RADIAN, reduce};
+pub use laws::{sine_sizes, table_checks, worked_rows};
+pub use rate::step;
+pub use sine::{icos, isin};
+
+#[cfg(test)]
+mod tests;

@@ -1,0 +1,93 @@
+//! Sine and cosine of a place on the circle.
+
+ghost use Rattle.std.specs.Prelude.{◌≡◌, ◌+◌, ◌-◌, ◌*◌, ◌/◌, ◌%◌, ◌≤◌, ◌<◌, pos, unsigned_abs};
+ghost use Rattle.fixed_sine.specs.Circle.{circle, degree, IsOnCircle};
+ghost use Rattle.fixed_sine.specs.Sine.{quarter_of, half_of, isin_of, icos_of};
+
+use crate::circle::{CIRCLE, DEGREE};
+use crate::table::{correction_size, sine_of_degree};
+
+/// The units in a degree, without a sign.
+const UNITS: u64 = DEGREE as u64;
+
+/// The places of 90 and of 180 degrees.
+const QUARTER: u64 = 90 * UNITS;
+
+const HALF: u64 = 180 * UNITS;
+
+/// The sine of 90 degrees.
+const WHOLE: u64 = 1_000_000_000;
+
+/// The sine in billionths, from -1,000,000,000 to 1,000,000,000.
+pub fn isin(p: i64) -> i64
+    requires { IsOnCircle p }
+    ensures value { result ≡ isin_of (unsigned_abs p) }
+    ensures size { unsigned_abs result ≤ 1000000000 }
+{
+    let place = p as u64;
+    if place < HALF {
+        half(place) as i64
+    } else {
+        -(half(place - HALF) as i64)
+    }
+}
+
+/// The cosine in billionths, from -1,000,000,000 to 1,000,000,000: the sine a quarter further on.
+pub fn icos(p: i64) -> i64
+    requires { IsOnCircle p }
+    ensures value { result ≡ icos_of (unsigned_abs p) }
+    ensures size { unsigned_abs result ≤ 1000000000 }
+{
+    let ahead = p + CIRCLE / 4;
+    isin(if ahead < CIRCLE {
+        ahead
+    } else {
+        ahead - CIRCLE
+    })
+}
+
+/// The sine on the first half of the circle.
+fn half(place: u64) -> u64
+    requires { place < circle / 2 }
+    ensures value { pos result ≡ half_of place }
+    ensures size { result ≤ 1000000000 }
+{
+    quarter(if place < QUARTER { place } else { HALF - place })
+}
+
+/// The sine on the first quarter of the circle, both ends included.
+fn quarter(place: u64) -> u64
+    requires { place ≤ circle / 4 }
+    ensures value { pos result ≡ quarter_of place }
+    ensures size { result ≤ 1000000000 }
+{
+    if place == QUARTER {
+        return WHOLE;
+    }
+    let degrees = (place / UNITS) as usize;
+    let start = sine_of_degree(degrees);
+    let rise = sine_of_degree(degrees + 1) - start;
+    start + gain(place % UNITS, rise, correction_size(degrees))
+}
+
+/// How much the sine gains over the first `r` units of a degree, rounded down.
+fn gain(r: u64, rise: u64, correction: u64) -> u64
+    requires part { r < degree }
+    requires rise { rise < 33554432 }
+    requires correction { correction ≤ 4 * rise }
+    ensures value { result ≡ (4 * degree * r * rise + r * (degree - r) * correction) / (4 * degree * degree) }
+    ensures within { result ≤ rise }
+{
+    (r * rise + bend(r * (UNITS - r), correction)) / UNITS
+}
+
+/// `product * correction / (4 * degree)` rounded down, in numbers that stay within 64 bits.
+fn bend(product: u64, correction: u64) -> u64
+    requires product { product ≤ degree * degree }
+    requires correction { correction < 134217728 }
+    ensures { result ≡ product * correction / (4 * degree) }
+{
+    let whole = product / (4 * UNITS);
+    let rest = product % (4 * UNITS);
+    whole * correction + rest * correction / (4 * UNITS)
+}
