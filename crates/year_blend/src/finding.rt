@@ -1,0 +1,74 @@
+//! The place of a minute.
+
+ghost use Rattle.std.specs.Prelude.{◌≡◌, ◌<◌, ◌≤◌, ◌↔◌, IsTrue, pos, negsuc, ◌+ℤ◌, ◌-ℤ◌, ◌≤ℤ◌, ◌<ℤ◌, unsigned_abs};
+ghost use Rattle.jiff_core.specs.Calendar.{IsBetween, IsYear};
+ghost use Rattle.year_blend.specs.Years.{year_start_of};
+ghost use Rattle.year_blend.specs.Places.{AreYears, InDomain, IsPlaceOf, start_of, year_at, place_of};
+
+use crate::parts::Place;
+use crate::years::{DAY, year_of_day, year_start};
+
+/// Half of a blend.
+const HOUR: i64 = 60;
+
+/// The place of a minute among `years` years from `first_year` on: the blend at a new year between
+/// two of them where it is less than an hour from it, else the plain part of its year. The years
+/// and the minute are those of a file: `first_year` from 2 to 8800, `years` from 1 to 500, and the
+/// minute from the start of the first year to the end of the last, both included.
+pub fn place(first_year: i32, years: u32, m: i64) -> Place
+    requires years { AreYears first_year years }
+    requires domain { InDomain first_year years m }
+    ensures value { result ≡ place_of first_year years m }
+    ensures rule { IsPlaceOf first_year years m result }
+{
+    let year = year_among(first_year, years, m);
+    let nearest = if m.rem_euclid(DAY) < DAY / 2 {
+        year
+    } else {
+        year + 1
+    };
+    let x = minutes_from(first_year, nearest, m);
+    if is_blend(years, nearest, x) {
+        Place::Blend { year: nearest, x }
+    } else {
+        Place::Plain { year }
+    }
+}
+
+/// The minutes from the start of one of the years to the minute.
+fn minutes_from(first_year: i32, year: u32, m: i64) -> i64
+    requires first_year { IsBetween (pos 2) (pos 8800) first_year }
+    requires year { year ≤ 500 }
+    requires minute { unsigned_abs m ≤ 4000000000 }
+    ensures { result ≡ m -ℤ start_of first_year year }
+{
+    m - year_start(first_year + year as i32)
+}
+
+/// Whether a year but the first starts within an hour of a minute `x` minutes from its start.
+fn is_blend(years: u32, year: u32, x: i64) -> bool
+    ensures { IsTrue result ↔ ((0 < year) × (year < years) × (negsuc 59 <ℤ x) × (x <ℤ pos 60)) }
+{
+    0 < year && year < years && -HOUR < x && x < HOUR
+}
+
+/// The last of the years that has begun at the minute, counted from 0.
+fn year_among(first_year: i32, years: u32, m: i64) -> u32
+    requires years { AreYears first_year years }
+    requires domain { InDomain first_year years m }
+    ensures value { result ≡ year_at first_year years m }
+    ensures among { result < years }
+{
+    let year = (year_of_minute(m) - first_year) as u32;
+    year.min(years - 1)
+}
+
+/// The calendar's year of a minute.
+fn year_of_minute(m: i64) -> i32
+    requires { unsigned_abs m ≤ 4000000000 }
+    ensures begun { year_start_of result ≤ℤ m }
+    ensures ongoing { m <ℤ year_start_of (result +ℤ pos 1) }
+    ensures year { IsYear result }
+{
+    year_of_day(m.div_euclid(DAY))
+}

@@ -1,0 +1,37 @@
+//! What holds of all years and of every minute.
+
+ghost use Rattle.std.specs.Prelude.{◌≡◌, ℕ, ◌+◌, ◌*◌, ◌<◌, ◌≤◌, ℤ, pos, negsuc, ◌+ℤ◌, ◌-ℤ◌, ◌≤ℤ◌, ◌⊎◌, unsigned_abs};
+ghost use Rattle.year_blend.specs.declared.parts.Place.{Place};
+ghost use Rattle.year_blend.specs.Years.{year_start_of, IsYearInReach};
+ghost use Rattle.year_blend.specs.Places.{AreYears, InDomain, IsPlaceOf, place_of};
+ghost use Rattle.year_blend.specs.Weights.{weight_of, weight_slope_of, total_weight};
+
+/// Starts ascend by a year of 365 or 366 days, and are below 4,000,000,000 in size.
+pub fn year_lengths()
+    ensures lengths { (y : ℤ) → IsYearInReach y
+        → ((year_start_of (y +ℤ pos 1) -ℤ year_start_of y) ≡ pos 525600)
+        ⊎ ((year_start_of (y +ℤ pos 1) -ℤ year_start_of y) ≡ pos 527040) }
+    ensures size { (y : ℤ) → IsYearInReach y → unsigned_abs (year_start_of y) < 4000000000 }
+{}
+
+/// Every minute of the domain has exactly one place.
+pub fn unique_places()
+    ensures some { (first_year : ℤ) (years : ℕ) (m : ℤ) → AreYears first_year years → InDomain first_year years m
+        → IsPlaceOf first_year years m (place_of first_year years m) }
+    ensures one { (first_year : ℤ) (years : ℕ) (m : ℤ) → AreYears first_year years → InDomain first_year years m
+        → (p : Place) → IsPlaceOf first_year years m p → p ≡ place_of first_year years m }
+{}
+
+/// Values of the definitions at arguments of their own.
+#[tactic(auto, unfolding(crate::specs::Weights::weight_of, crate::specs::Weights::weight_slope_of))]
+pub fn worked_rows()
+    ensures epoch { year_start_of (pos 1970) ≡ pos 0 }
+    ensures leap_century { year_start_of (pos 2000) ≡ pos 15778080 }
+    ensures first_weight { weight_of (negsuc 59) ≡ pos 0 }
+    ensures middle_weight { weight_of (pos 0) ≡ pos 2073600000 }
+    ensures last_weight { weight_of (pos 60) ≡ pos total_weight }
+    ensures first_slope { weight_slope_of (negsuc 59) ≡ pos 0 }
+    ensures half_an_hour { weight_of (pos 30) ≡ pos 3717900000 }
+    ensures middle_slope { weight_slope_of (pos 0) ≡ pos 64800000 }
+    ensures last_slope { weight_slope_of (pos 60) ≡ pos 0 }
+{}

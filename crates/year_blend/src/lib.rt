@@ -1,0 +1,21 @@
+//! Years, and how one passes into the next.
+//!
+//! Constants hold for one year. Within an hour of a new year between two years both count, by a
+//! [`weight`] that moves smoothly from the earlier year to the later one. [`place`] tells which
+//! year or new year a minute belongs to, and [`year_start`] when a year begins.
+#![tactic(auto)]
+
+mod finding;
+mod laws;
+mod parts;
+mod weights;
+mod years;
+
+pub use finding::place;
+pub use laws::{unique_places, worked_rows, year_lengths};
+pub use parts::Place;
+pub use weights::{TOTAL_WEIGHT, weight, weight_slope};
+pub use years::year_start;
+
+#[cfg(test)]
+mod tests;

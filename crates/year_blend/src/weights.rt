@@ -1,0 +1,47 @@
+//! The weight of the later year in a blend.
+
+ghost use Rattle.std.specs.Prelude.{◌≡◌, ◌≤◌, pos, ◌-ℤ◌, ◌≤ℤ◌};
+ghost use Rattle.year_blend.specs.Weights.{weight_of, weight_slope_of, total_weight, IsNearNewYear};
+
+/// The weights of both years together.
+pub const TOTAL_WEIGHT: i64 = 4_147_200_000;
+
+/// The weight of the later year `x` minutes from the new year, for `x` from -60 to 60: from 0 to
+/// [`TOTAL_WEIGHT`].
+pub fn weight(x: i64) -> i64
+    requires { IsNearNewYear x }
+    ensures value { result ≡ weight_of x }
+    ensures least { pos 0 ≤ℤ result }
+    ensures most { result ≤ℤ pos total_weight }
+{
+    weight_after((x + 60) as u64) as i64
+}
+
+/// How much the weight rises a minute, `x` minutes from the new year: from 0 to 64,800,000.
+pub fn weight_slope(x: i64) -> i64
+    requires { IsNearNewYear x }
+    ensures value { result ≡ weight_slope_of x }
+    ensures least { pos 0 ≤ℤ result }
+    ensures most { result ≤ℤ pos 64800000 }
+{
+    slope_after((x + 60) as u64) as i64
+}
+
+/// The weight `t` minutes after the blend's begin.
+fn weight_after(t: u64) -> u64
+    requires { t ≤ 120 }
+    ensures value { pos result ≡ weight_of (pos t -ℤ pos 60) }
+    ensures most { result ≤ total_weight }
+{
+    t * t * t * (t * t + 24_000 - 300 * t)
+}
+
+/// How much the weight rises a minute, `t` minutes after the blend's begin.
+fn slope_after(t: u64) -> u64
+    requires { t ≤ 120 }
+    ensures value { pos result ≡ weight_slope_of (pos t -ℤ pos 60) }
+    ensures most { result ≤ 64800000 }
+{
+    let root = t * (120 - t);
+    5 * (root * root)
+}
