@@ -1,0 +1,10 @@
+pub mod Latin
+pub mod Cutting
+pub mod Digits
+pub mod Resume
+pub mod Steps
+pub mod Answer
+pub mod Values
+pub mod Ranges
+pub mod Sound
+pub mod Worked

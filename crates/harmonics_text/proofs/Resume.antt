@@ -1,0 +1,101 @@
+-- What a draft makes of the lines that are left: the parts of the file that are still to come, in order.
+use Rattle.std.proofs.Common.{◌≡◌, ℕ, ℤ, suc, ◌-◌, List, [], ◌∷◌, ◌++◌, length, drop, Option, Result, Ok, refl, arith}
+use Rattle.std.specs.Prelude.{if◌then◌else◌, nat_lt}
+use Rattle.harmonics_text.specs.declared.book.Constituent.{Constituent}
+use Rattle.harmonics_text.specs.declared.book.Station.{Station}
+use Rattle.harmonics_text.specs.declared.book.Book.{Book}
+use Rattle.harmonics_text.specs.declared.scale.Scale.{Scale}
+use Rattle.harmonics_text.specs.declared.scale.Scale.TheVariants.{Angle, Factor}
+use Rattle.harmonics_text.specs.declared.heading.Heading.{Heading}
+use Rattle.harmonics_text.specs.declared.table.Table.{Table}
+use Rattle.harmonics_text.specs.declared.place.Place.{Place}
+use Rattle.harmonics_text.specs.declared.record.Constants.{Constants}
+use Rattle.harmonics_text.specs.declared.record.Record.{Record}
+use Rattle.harmonics_text.specs.declared.record.Record.TheVariants as records
+use Rattle.harmonics_text.specs.declared.draft.Draft.{Draft}
+use Rattle.harmonics_text.specs.declared.draft.Draft.TheVariants as drafts
+use Rattle.harmonics_text.specs.Lines.{Line}
+use Rattle.harmonics_text.specs.Rules.{◌>>=◌, count_of, first_year_of, end_of, same_count_of, place_of, datum_of}
+use Rattle.harmonics_text.specs.Reading.{At, Part, one, constituents, values, table, pairs, stations, most_stations, book}
+use Rattle.harmonics_text.specs.Drafts.{new_book, station_of}
+
+abbrev pub Left : Type 0
+Left = Result Book (Option At)
+
+abbrev pub with_stations : Book → List Station → Left
+with_stations b all = Ok (record b { stations = all })
+
+unfoldable pub resume_stations : Book → List Line → Left
+resume_stations b ls = stations (most_stations - length b.stations) b.constituents b.stations ls >>= with_stations b
+
+unfoldable pub resume_second_end : Heading → List ℤ → List ℤ → List Line → Left
+resume_second_end h angles factors ls = one end_of ls >>= λ e. resume_stations (new_book h angles factors) e.1
+
+unfoldable pub resume_years_again : Heading → List ℤ → List Line → Left
+resume_years_again h angles ls = one (same_count_of h.years) ls >>= λ a. table Factor h.years h.constituents [] a.1 >>= λ f. resume_second_end h angles f.0 f.1
+
+unfoldable pub resume_first_end : Heading → List ℤ → List Line → Left
+resume_first_end h angles ls = one end_of ls >>= λ e. resume_years_again h angles e.1
+
+unfoldable pub resume_years : List Constituent → ℤ → List Line → Left
+resume_years cs year ls = one count_of ls >>= λ n. table Angle n.0 cs [] n.1 >>= λ a. resume_first_end (record { constituents = cs; first_year = year; years = n.0 }) a.0 a.1
+
+unfoldable pub resume_first_year : List Constituent → List Line → Left
+resume_first_year cs ls = one first_year_of ls >>= λ y. resume_years cs y.0 y.1
+
+unfoldable pub resume_constituents : ℕ → List Constituent → List Line → Left
+resume_constituents left earlier ls = constituents left earlier ls >>= λ c. resume_first_year c.0 c.1
+
+unfoldable pub resume_count : List Line → Left
+resume_count ls = one count_of ls >>= λ k. resume_constituents k.0 [] k.1
+
+-- a table that is read in part
+unfoldable pub rest_of_table : Scale → Heading → Table → Part (List ℤ)
+rest_of_table s h t ls =
+    if nat_lt 0 t.left then (values s t.left t.values ls >>= λ v. table s h.years (drop (suc t.place) h.constituents) v.0 v.1)
+    else table s h.years (drop t.place h.constituents) t.values ls
+
+unfoldable pub resume_angles : Heading → Table → List Line → Left
+resume_angles h t ls = rest_of_table Angle h t ls >>= λ a. resume_first_end h a.0 a.1
+
+unfoldable pub resume_factors : Heading → List ℤ → Table → List Line → Left
+resume_factors h angles t ls = rest_of_table Factor h t ls >>= λ f. resume_second_end h angles f.0 f.1
+
+-- the stations after one that is read in part
+unfoldable pub station_then : Book → Result (Station × List Line) (Option At) → Left
+station_then b s = (s >>= λ s. stations (most_stations - length b.stations - 1) b.constituents (b.stations ++ s.0 ∷ []) s.1) >>= with_stations b
+
+unfoldable pub constants_then : Constants → Result ((List ℤ × List ℤ) × List Line) (Option At) → Result (Station × List Line) (Option At)
+constants_then c r = r >>= λ p. Ok (station_of (record c { amplitude = p.0.0; epoch = p.0.1 }), p.1)
+
+unfoldable pub place_then : List Constituent → List ℕ → Place → List Line → Result (Station × List Line) (Option At)
+place_then cs name place ls = one datum_of ls >>= λ d. pairs cs [] [] d.1 >>= λ p. Ok (record { name = name; meridian = place.meridian; zone = place.zone; datum = d.0.0; units = d.0.1; amplitude = p.0.0; epoch = p.0.1 }, p.1)
+
+unfoldable pub name_then : List Constituent → List ℕ → List Line → Result (Station × List Line) (Option At)
+name_then cs name ls = one place_of ls >>= λ p. place_then cs name p.0 p.1
+
+unfoldable pub resume_record : Book → Record → List Line → Left
+resume_record b records.Nothing ls = resume_stations b ls
+resume_record b (records.Name name) ls = station_then b (name_then b.constituents name ls)
+resume_record b (records.Place name place) ls = station_then b (place_then b.constituents name place ls)
+resume_record b (records.Constants c) ls = station_then b (constants_then c (pairs (drop (length c.amplitude) b.constituents) c.amplitude c.epoch ls))
+
+unfoldable pub resume : Draft → List Line → Left
+resume drafts.Count ls = resume_count ls
+resume (drafts.Constituents left earlier) ls = resume_constituents left earlier ls
+resume (drafts.FirstYear cs) ls = resume_first_year cs ls
+resume (drafts.Years cs year) ls = resume_years cs year ls
+resume (drafts.Angles h t) ls = resume_angles h t ls
+resume (drafts.AnglesEnd h angles) ls = resume_first_end h angles ls
+resume (drafts.YearsAgain h angles) ls = resume_years_again h angles ls
+resume (drafts.Factors h angles t) ls = resume_factors h angles t ls
+resume (drafts.FactorsEnd h angles factors) ls = resume_second_end h angles factors ls
+resume (drafts.Stations b r) ls = resume_record b r ls
+
+minus_none : (n : ℕ) → n - 0 ≡ n
+minus_none n = omega arith
+
+-- the whole file is what the empty draft makes of its lines
+pub resume_is_book : (ls : List Line) → resume drafts.Count ls ≡ book ls
+unfolding resume resume_count resume_constituents resume_first_year resume_years resume_first_end resume_years_again resume_second_end resume_stations book
+resume_is_book ls = rw (minus_none most_stations) refl

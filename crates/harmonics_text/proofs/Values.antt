@@ -1,0 +1,93 @@
+-- The values of a line, one token after the other, and the constants of a constituent.
+use Rattle.std.proofs.Common.{◌≡◌, ℕ, ℤ, zero, suc, ◌+◌, ◌-◌, ◌<◌, ◌≤◌, true, false, ltb, List, [], ◌∷◌, ◌++◌, length, length-append, get_or, Result, Ok, Err, refl, sym, ap, ◌∙◌, arith}
+use Rattle.std.proofs.lemmas.Bool.{lt-ltb, le-ltb}
+use Rattle.std.proofs.lemmas.List.{get_or_default}
+use Rattle.harmonics_text.specs.declared.book.Station.{Station}
+use Rattle.harmonics_text.specs.declared.book.Book.{Book}
+use Rattle.harmonics_text.specs.declared.fault.Why.{Why}
+use Rattle.harmonics_text.specs.declared.fault.Why.TheVariants.{BadNumber}
+use Rattle.harmonics_text.specs.declared.fault.LineFault.{LineFault}
+use Rattle.harmonics_text.specs.declared.fault.LineFault.TheVariants.{NoMemory, Bad}
+use Rattle.harmonics_text.specs.declared.scale.Scale.{Scale}
+use Rattle.harmonics_text.specs.declared.table.Table.{Table}
+use Rattle.harmonics_text.specs.declared.record.Constants.{Constants}
+use Rattle.harmonics_text.specs.declared.record.Record.TheVariants as records
+use Rattle.harmonics_text.specs.declared.draft.Draft.TheVariants as drafts
+use Rattle.harmonics_text.specs.Lines.{tokens}
+use Rattle.harmonics_text.specs.Rules.{◌>>=◌, number_of, values_from, pair_of}
+use Rattle.harmonics_text.specs.Drafts.{Fails, pushed, after_values, at_place, after_pair, station_of}
+use Rattle.harmonics_text.proofs.Steps.{unnamed}
+
+pub pushed_is : (s : Scale) (values : List ℤ) (token : List ℕ) (n : ℤ) (new : List ℤ) → number_of s token ≡ Ok n → new ≡ values ++ n ∷ [] → pushed s values token ≡ Ok new
+unfolding pushed
+pushed_is s values token n new e new_is = rw (e, new_is) refl
+
+done_is : (x y : List ℤ) → (let r : Result (List ℤ) Why = Ok x in r) ≡ Ok y → x ≡ y
+done_is x y e = cc
+
+pub values_step : (s : Scale) (left : ℕ) (values : List ℤ) (token : List ℕ) (more : List (List ℕ)) (new : List ℤ) → 1 ≤ left → pushed s values token ≡ Ok new → values_from s left values (token ∷ more) ≡ values_from s (left - 1) new more
+unfolding pushed values_from
+values_step s zero values token more new some e = absurd (omega (arith, some))
+values_step s (suc left) values token more new some e =
+    let less : suc left - 1 ≡ left = omega arith in
+    let go : (r : Result ℤ Why) → (r >>= λ n. Ok (values ++ n ∷ [])) ≡ Ok new → (r >>= λ n. values_from s left (values ++ n ∷ []) more) ≡ values_from s left new more =
+    λ r. elim r as (λ (r : Result ℤ Why). (r >>= λ n. Ok (values ++ n ∷ [])) ≡ Ok new → (r >>= λ n. values_from s left (values ++ n ∷ []) more) ≡ values_from s left new more)
+    [ Ok n ↦ λ k. ap (λ (xs : List ℤ). values_from s left xs more) (done_is (values ++ n ∷ []) new k) | Err why ↦ λ k. absurd cc ] in
+    rw less (go (number_of s token) e)
+
+values_fail : (s : Scale) (left : ℕ) (values : List ℤ) (token : List ℕ) (more : List (List ℕ)) (why : Why) → 1 ≤ left → pushed s values token ≡ Err why → values_from s left values (token ∷ more) ≡ Err why
+unfolding pushed values_from
+values_fail s zero values token more why some e = absurd (omega (arith, some))
+values_fail s (suc left) values token more why some e =
+    let go : (r : Result ℤ Why) → (r >>= λ n. Ok (values ++ n ∷ [])) ≡ Err why → (r >>= λ n. values_from s left (values ++ n ∷ []) more) ≡ Err why =
+    λ r. elim r as (λ (r : Result ℤ Why). (r >>= λ n. Ok (values ++ n ∷ [])) ≡ Err why → (r >>= λ n. values_from s left (values ++ n ∷ []) more) ≡ Err why)
+    [ Ok n ↦ λ k. absurd cc | Err other ↦ λ k. cc ] in
+    go (number_of s token) e
+
+-- a loop over the tokens ends with this
+pub values_end : (s : Scale) (t : Table) (text : List ℕ) (left : ℕ) (values : List ℤ) (rest : List ℕ) → values_from s left values (tokens rest) ≡ values_from s t.left t.values (tokens text) → tokens rest ≡ [] → after_values s t text ≡ Ok (record { place = at_place left t.place; left = left; values = values })
+unfolding after_values values_from
+values_end s t text left values rest so_far none =
+    let whole : values_from s t.left t.values (tokens text) ≡ Ok (left, values) = sym so_far ∙ ap (values_from s left values) none in
+    rw whole refl
+
+pub values_full : (s : Scale) (t : Table) (text : List ℕ) (left : ℕ) (values : List ℤ) (rest token after : List ℕ) → values_from s left values (tokens rest) ≡ values_from s t.left t.values (tokens text) → tokens rest ≡ token ∷ tokens after → left ≡ 0 → after_values s t text ≡ Err BadNumber
+unfolding after_values values_from
+values_full s t text left values rest token after so_far next none =
+    let whole : values_from s t.left t.values (tokens text) ≡ Err BadNumber = sym so_far ∙ rw (next, none) refl in
+    rw whole refl
+
+pub values_fails : (s : Scale) (t : Table) (text : List ℕ) (left : ℕ) (values : List ℤ) (rest token after : List ℕ) (e : LineFault) → values_from s left values (tokens rest) ≡ values_from s t.left t.values (tokens text) → tokens rest ≡ token ∷ tokens after → 1 ≤ left → Fails e (pushed s values token) → Fails e (after_values s t text)
+unfolding after_values
+values_fails s t text left values rest token after NoMemory so_far next some h = tt
+values_fails s t text left values rest token after (Bad why) so_far next some h =
+    let whole : values_from s t.left t.values (tokens text) ≡ Err why = sym so_far ∙ ap (values_from s left values) next ∙ values_fail s left values token (tokens after) why some h in
+    rw whole refl
+
+pub values_goes_on : (s : Scale) (t : Table) (text : List ℕ) (left : ℕ) (values new : List ℤ) (rest token after : List ℕ) → values_from s left values (tokens rest) ≡ values_from s t.left t.values (tokens text) → tokens rest ≡ token ∷ tokens after → 1 ≤ left → pushed s values token ≡ Ok new
+    → values_from s (left - 1) new (tokens after) ≡ values_from s t.left t.values (tokens text)
+values_goes_on s t text left values new rest token after so_far next some h =
+    sym (values_step s left values token (tokens after) new some h) ∙ sym (ap (values_from s left values) next) ∙ so_far
+
+-- ---- a constituent's constants
+
+abbrev with_lists : Constants → List ℤ → List ℤ → Constants
+with_lists c amplitude epoch = record c { amplitude = amplitude; epoch = epoch }
+
+pub pair_more : (b : Book) (c : Constants) (text name : List ℕ) (p : ℤ × ℤ) (amplitude epoch : List ℤ) → name ≡ (get_or b.constituents (length c.amplitude) unnamed).name → pair_of name text ≡ Ok p → amplitude ≡ c.amplitude ++ p.0 ∷ [] → epoch ≡ c.epoch ++ p.1 ∷ [] → length c.amplitude + 1 < length b.constituents
+    → after_pair b c text ≡ Ok (drafts.Stations b (records.Constants (with_lists c amplitude epoch)))
+unfolding after_pair unnamed
+pair_more b c text name p amplitude epoch name_is e a_is e_is lt =
+    let more : ltb (length (c.amplitude ++ p.0 ∷ [])) (length b.constituents) ≡ true = lt-ltb _ _ (omega (arith, length-append c.amplitude (p.0 ∷ []))) in
+    rw (← name_is, e, more, a_is, e_is) refl
+
+pub pair_last : (b : Book) (c : Constants) (text name : List ℕ) (p : ℤ × ℤ) (amplitude epoch : List ℤ) (station : Station) (stations : List Station) → name ≡ (get_or b.constituents (length c.amplitude) unnamed).name → pair_of name text ≡ Ok p → amplitude ≡ c.amplitude ++ p.0 ∷ [] → epoch ≡ c.epoch ++ p.1 ∷ [] → length b.constituents ≤ length c.amplitude + 1
+    → station ≡ station_of (with_lists c amplitude epoch) → stations ≡ b.stations ++ station ∷ [] → after_pair b c text ≡ Ok (drafts.Stations (record b { stations = stations }) records.Nothing)
+unfolding after_pair unnamed
+pair_last b c text name p amplitude epoch station stations name_is e a_is e_is le station_is stations_is =
+    let last : ltb (length (c.amplitude ++ p.0 ∷ [])) (length b.constituents) ≡ false = le-ltb _ _ (omega (arith, length-append c.amplitude (p.0 ∷ []))) in
+    rw (stations_is, station_is, a_is, e_is, ← name_is, e, last) refl
+
+-- an element of a list that is lent
+pub element_is : {A : Type 0} (xs ys : List A) (i j : ℕ) (x d : A) → xs ≡ ys → i ≡ j → j < length ys → get_or xs i x ≡ get_or ys j d
+element_is xs ys i j x d xs_is i_is lt = rw (xs_is, i_is) (get_or_default ys j x d lt)

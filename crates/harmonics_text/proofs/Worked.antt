@@ -1,0 +1,56 @@
+-- The worked files, computed.
+use lib.Utf8.{encode}
+use Rattle.std.proofs.Common.{◌≡◌, [], ◌∷◌, codes, negsuc, take, Ok, Err, refl}
+use Rattle.std.specs.Prelude.{map}
+use Rattle.harmonics_text.specs.declared.fault.Why.TheVariants.{BadCount, BadMeridian, CutShort, TooFine}
+use Rattle.harmonics_text.specs.Worked.{pier_lines, file_of, pier_book, pier_with, changes}
+use Rattle.harmonics_text.specs.Lines.{cut, numbered, is_kept, kept, tokens, trimmed}
+use Rattle.harmonics_text.specs.Rules.{in_scale, number_of, digits_of, whole_of, from_to, count_of, first_year_of, name_of, new_name_of, constituent_from, constituent_of, named, end_of, same_count_of, values_from, station_name_of, two_digits_of, minutes_of, clock_of, meridian_of, zone_of, place_from, place_of, units_of, datum_of, pair_from, pair_of}
+use Rattle.harmonics_text.specs.Reading.{constituents, values, table, pairs, station, most_stations, stations, book, book_of}
+use Rattle.decimal_text.specs.Decimal.{after_point, made_of, decimal_of, scaled, scaled_or_bad, read_of}
+
+pub pier_is : book_of (file_of pier_lines) ≡ Ok pier_book
+unfolding cut numbered is_kept kept tokens trimmed in_scale number_of digits_of whole_of from_to count_of first_year_of name_of new_name_of constituent_from constituent_of named end_of same_count_of values_from station_name_of two_digits_of minutes_of clock_of meridian_of zone_of place_from place_of units_of datum_of pair_from pair_of constituents values table pairs station most_stations stations book book_of after_point made_of decimal_of scaled scaled_or_bad read_of encode
+pier_is = refl
+
+pub cut_short_is : book_of (file_of (take 15 pier_lines)) ≡ Err (record { line = 16; why = CutShort })
+unfolding cut numbered is_kept kept tokens trimmed in_scale number_of digits_of whole_of from_to count_of first_year_of name_of new_name_of constituent_from constituent_of named end_of same_count_of values_from station_name_of two_digits_of minutes_of clock_of meridian_of zone_of place_from place_of units_of datum_of pair_from pair_of constituents values table pairs station most_stations stations book book_of after_point made_of decimal_of scaled scaled_or_bad read_of encode
+cut_short_is = refl
+
+pub changes_are : map (λ c. book_of (pier_with c)) changes ≡ map (λ c. Err (record { line = c.at; why = c.why })) changes
+unfolding cut numbered is_kept kept tokens trimmed in_scale number_of digits_of whole_of from_to count_of first_year_of name_of new_name_of constituent_from constituent_of named end_of same_count_of values_from station_name_of two_digits_of minutes_of clock_of meridian_of zone_of place_from place_of units_of datum_of pair_from pair_of constituents values table pairs station most_stations stations book book_of after_point made_of decimal_of scaled scaled_or_bad read_of encode
+changes_are = refl
+
+pub empty_is : book_of [] ≡ Err (record { line = 1; why = CutShort })
+unfolding cut numbered is_kept kept tokens trimmed in_scale number_of digits_of whole_of from_to count_of first_year_of name_of new_name_of constituent_from constituent_of named end_of same_count_of values_from station_name_of two_digits_of minutes_of clock_of meridian_of zone_of place_from place_of units_of datum_of pair_from pair_of constituents values table pairs station most_stations stations book book_of after_point made_of decimal_of scaled scaled_or_bad read_of encode
+empty_is = refl
+
+pub too_fine_is : book_of (codes "# a comment\n1\n\nS2 30.00000001\r\n") ≡ Err (record { line = 4; why = TooFine })
+unfolding cut numbered is_kept kept tokens trimmed in_scale number_of digits_of whole_of from_to count_of first_year_of name_of new_name_of constituent_from constituent_of named end_of same_count_of values_from station_name_of two_digits_of minutes_of clock_of meridian_of zone_of place_from place_of units_of datum_of pair_from pair_of constituents values table pairs station most_stations stations book book_of after_point made_of decimal_of scaled scaled_or_bad read_of encode
+too_fine_is = refl
+
+-- ---- lines
+
+pub tokens_are : tokens (codes " S2  30 ") ≡ codes "S2" ∷ codes "30" ∷ []
+unfolding tokens digits_of whole_of from_to count_of two_digits_of minutes_of clock_of meridian_of zone_of place_from place_of encode
+tokens_are = refl
+
+pub count_is : count_of (codes "12 ") ≡ Ok 12
+unfolding tokens digits_of whole_of from_to count_of two_digits_of minutes_of clock_of meridian_of zone_of place_from place_of encode
+count_is = refl
+
+pub two_counts_are : count_of (codes "1 2") ≡ Err BadCount
+unfolding tokens digits_of whole_of from_to count_of two_digits_of minutes_of clock_of meridian_of zone_of place_from place_of encode
+two_counts_are = refl
+
+pub no_count_is : count_of (codes "0") ≡ Err BadCount
+unfolding tokens digits_of whole_of from_to count_of two_digits_of minutes_of clock_of meridian_of zone_of place_from place_of encode
+no_count_is = refl
+
+pub west_is : place_of (codes "-5:30 :America/Caracas") ≡ Ok (record { meridian = negsuc 329; zone = codes "America/Caracas" })
+unfolding tokens digits_of whole_of from_to count_of two_digits_of minutes_of clock_of meridian_of zone_of place_from place_of encode
+west_is = refl
+
+pub no_minute_is : place_of (codes "0:60 :UTC") ≡ Err BadMeridian
+unfolding tokens digits_of whole_of from_to count_of two_digits_of minutes_of clock_of meridian_of zone_of place_from place_of encode
+no_minute_is = refl

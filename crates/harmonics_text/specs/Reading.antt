@@ -1,0 +1,113 @@
+-- The book of a harmonics file: its parts in order, each of some of the lines that are kept (XTide's text harmonics file; this project).
+use Rattle.std.specs.Prelude.{◌≡◌, ℕ, zero, suc, ℤ, ◌+◌, List, [], ◌∷◌, ◌++◌, length, Option, Some, None, Result, Ok, Err, if◌then◌else◌}
+use Rattle.harmonics_text.specs.declared.book.Constituent.{Constituent}
+use Rattle.harmonics_text.specs.declared.book.Station.{Station}
+use Rattle.harmonics_text.specs.declared.book.Book.{Book}
+use Rattle.harmonics_text.specs.declared.fault.BookFault.{BookFault}
+use Rattle.harmonics_text.specs.declared.fault.BookFault.TheVariants.{NoMemory}
+use Rattle.harmonics_text.specs.declared.fault.BookFault.TheVariants as faults
+use Rattle.harmonics_text.specs.declared.fault.Why.{Why}
+use Rattle.harmonics_text.specs.declared.fault.Why.TheVariants.{CutShort, LineTooLong, TooManyStations}
+use Rattle.harmonics_text.specs.declared.scale.Scale.{Scale}
+use Rattle.harmonics_text.specs.declared.scale.Scale.TheVariants.{Angle, Factor}
+use Rattle.harmonics_text.specs.Lines.{Line, tokens, cut, numbered, kept, without_cr, is_too_long}
+use Rattle.harmonics_text.specs.Rules.{◌>>=◌, count_of, constituent_of, first_year_of, named, values_from, end_of, same_count_of, station_name_of, place_of, datum_of, pair_of}
+
+-- the first fault of a file: a line's number and what is wrong there
+pub record At : Type 0 where
+  pub line : ℕ
+  pub why : Why
+
+-- a part takes lines from the front; it fails at a line, or (None) because no line is left
+abbrev pub Part : Type 0 → Type 0
+Part A = List Line → Result (A × List Line) (Option At)
+
+abbrev pub at_line : {A : Type 0} → ℕ → Result A Why → Result A (Option At)
+at_line n (Ok x) = Ok x
+at_line n (Err why) = Err (Some (record { line = n; why = why }))
+
+-- a rule over a line; the length is tested first
+abbrev pub checked : {A : Type 0} → (List ℕ → Result A Why) → List ℕ → Result A Why
+checked rule text = if is_too_long text then Err LineTooLong else rule (without_cr text)
+
+-- a part of one line
+abbrev pub one : {A : Type 0} → (List ℕ → Result A Why) → Part A
+one rule [] = Err None
+one rule (l ∷ ls) = at_line l.number (checked rule l.text) >>= λ x. Ok (x, ls)
+
+-- so many constituents after the earlier ones
+unfoldable pub constituents : ℕ → List Constituent → Part (List Constituent)
+constituents zero earlier ls = Ok (earlier, ls)
+constituents (suc left) earlier ls = one (constituent_of earlier) ls >>= λ c. constituents left (earlier ++ c.0 ∷ []) c.1
+
+-- so many values after the earlier ones, over as many lines as they take
+unfoldable pub values : Scale → ℕ → List ℤ → Part (List ℤ)
+values s zero earlier ls = Ok (earlier, ls)
+values s (suc left) earlier [] = Err None
+values s (suc left) earlier (l ∷ ls) =
+    at_line l.number (checked (λ text. values_from s (suc left) earlier (tokens text)) l.text) >>= λ v. values s v.0 v.1 ls
+
+-- for each constituent its name on a line, and a value for each year
+unfoldable pub table : Scale → ℕ → List Constituent → List ℤ → Part (List ℤ)
+table s years [] earlier ls = Ok (earlier, ls)
+table s years (c ∷ cs) earlier ls = do
+  name ← one (named c.name) ls
+  more ← values s years earlier name.1
+  table s years cs more.0 more.1
+
+-- the amplitude and the epoch of each constituent, after the earlier ones
+unfoldable pub pairs : List Constituent → List ℤ → List ℤ → Part (List ℤ × List ℤ)
+pairs [] amplitude epoch ls = Ok ((amplitude, epoch), ls)
+pairs (c ∷ cs) amplitude epoch ls = one (pair_of c.name) ls >>= λ p. pairs cs (amplitude ++ p.0.0 ∷ []) (epoch ++ p.0.1 ∷ []) p.1
+
+unfoldable pub station : List Constituent → Part Station
+station cs ls = do
+  name ← one station_name_of ls
+  place ← one place_of name.1
+  datum ← one datum_of place.1
+  pair ← pairs cs [] [] datum.1
+  Ok (record { name = name.0; meridian = place.0.meridian; zone = place.0.zone; datum = datum.0.0; units = datum.0.1; amplitude = pair.0.0; epoch = pair.0.1 }, pair.1)
+
+-- the most stations of a file
+unfoldable pub most_stations : ℕ
+most_stations = 20000
+
+-- stations to the end of the file after the earlier ones, and no more than so many
+unfoldable pub stations : ℕ → List Constituent → List Station → List Line → Result (List Station) (Option At)
+stations left cs earlier [] = Ok earlier
+stations zero cs earlier (l ∷ ls) = at_line l.number (checked (λ text. Err TooManyStations) l.text)
+stations (suc left) cs earlier (l ∷ ls) = station cs (l ∷ ls) >>= λ s. stations left cs (earlier ++ s.0 ∷ []) s.1
+
+-- the ten parts
+unfoldable pub book : List Line → Result Book (Option At)
+book ls = do
+  count ← one count_of ls
+  cs ← constituents count.0 [] count.1
+  first_year ← one first_year_of cs.1
+  years ← one count_of first_year.1
+  angles ← table Angle years.0 cs.0 [] years.1
+  first_end ← one end_of angles.1
+  again ← one (same_count_of years.0) first_end.1
+  factors ← table Factor years.0 cs.0 [] again.1
+  second_end ← one end_of factors.1
+  all ← stations most_stations cs.0 [] second_end.1
+  Ok (record { constituents = cs.0; first_year = first_year.0; years = years.0; angles = angles.0; factors = factors.0; stations = all })
+
+-- where a part wants a line and none is left, the file is cut short one past its last line
+abbrev pub cut_short : {A : Type 0} → ℕ → Result A (Option At) → Result A At
+cut_short end (Ok x) = Ok x
+cut_short end (Err None) = Err (record { line = end; why = CutShort })
+cut_short end (Err (Some fault)) = Err fault
+
+-- the book that a file's bytes hold, or its first fault
+unfoldable pub book_of : List ℕ → Result Book At
+book_of bytes = let lines = cut bytes in cut_short (1 + length lines) (book (kept (numbered 1 lines)))
+
+-- What a call returned is what the definition gives, unless memory ran out.
+abbrev pub FailsBook : BookFault → Result Book At → Type 0
+FailsBook NoMemory read = Unit {0}
+FailsBook (faults.At line why) read = read ≡ Err (record { line = line; why = why })
+
+abbrev pub GivesBook : Result Book BookFault → Result Book At → Type 0
+GivesBook (Ok b) read = read ≡ Ok b
+GivesBook (Err e) read = FailsBook e read

@@ -1,0 +1,224 @@
+-- The rules for each line of a harmonics file (XTide's text harmonics file; this project). A rule reads a line's text.
+use Rattle.std.specs.Prelude.{ℕ, zero, suc, codes, ℤ, pos, negsuc, neg_ℤ, int_lt, ◌+◌, ◌*◌, ◌==◌, nat_eq, nat_le, nat_lt, Bool, true, false, ◌&&◌, ◌||◌, if◌then◌else◌, List, [], ◌∷◌, ◌++◌, length, drop, Option, Some, None, Result, Ok, Err, encode_utf8_all, option_and_then}
+use Rattle.std.specs.List.{list_all, list_any, starts_with, before_first, after_first, position_or_len}
+use Rattle.std.specs.Char.{is_ascii_digit}
+use Rattle.std.specs.Str.{bytes_eq}
+use Rattle.std.specs.Str.Parse.{digits_value, starts_with_minus, without_leading_sign}
+use Rattle.decimal_text.specs.declared.fault.DecimalFault.{DecimalFault}
+use Rattle.decimal_text.specs.declared.fault.DecimalFault.TheVariants as decimals
+use Rattle.decimal_text.specs.Decimal.{read_of}
+use Rattle.harmonics_text.specs.declared.book.Constituent.{Constituent}
+use Rattle.harmonics_text.specs.declared.book.Units.{Units}
+use Rattle.harmonics_text.specs.declared.book.Units.TheVariants.{Feet, Meters, Knots, KnotsSquared}
+use Rattle.harmonics_text.specs.declared.fault.Why.{Why}
+use Rattle.harmonics_text.specs.declared.fault.Why.TheVariants.{BadCount, BadName, BadNumber, TooFine, OutOfRange, YearsDiffer, WrongConstituent, NoEnd, BadMeridian, BadUnits}
+use Rattle.harmonics_text.specs.declared.scale.Scale.{Scale}
+use Rattle.harmonics_text.specs.declared.scale.Scale.TheVariants.{Speed, Angle, Factor, Height}
+use Rattle.harmonics_text.specs.declared.place.Place.{Place}
+use Rattle.harmonics_text.specs.Lines.{tokens, only, only_two, trimmed}
+
+-- the first fault ends a reading
+infixl 10 ◌>>=◌
+abbrev pub ◌>>=◌ : {A B E : Type 0} → Result A E → (A → Result B E) → Result B E
+(Ok x) >>= f = f x
+(Err e) >>= f = Err e
+
+abbrev pub or_fault : {A : Type 0} → Why → Option A → Result A Why
+or_fault why None = Err why
+or_fault why (Some x) = Ok x
+
+-- ---- numbers
+
+-- speeds, arguments and epochs in ten-millionths of a degree, factors and heights in millionths
+abbrev pub places_of : Scale → ℕ
+places_of Speed = 7
+places_of Angle = 7
+places_of Factor = 6
+places_of Height = 6
+
+abbrev pub least_of : Scale → ℤ
+least_of Speed = pos 0
+least_of Angle = negsuc 7199999999
+least_of Factor = pos 0
+least_of Height = negsuc 9999999999
+
+abbrev pub most_of : Scale → ℤ
+most_of Speed = pos 3600000000
+most_of Angle = pos 7200000000
+most_of Factor = pos 10000000
+most_of Height = pos 10000000000
+
+-- bad form and length first, then the places, then the range
+unfoldable pub in_scale : Scale → Result ℤ DecimalFault → Result ℤ Why
+in_scale s (Ok n) = if int_lt n (least_of s) || int_lt (most_of s) n then Err OutOfRange else Ok n
+in_scale s (Err decimals.TooFine) = Err TooFine
+in_scale s (Err decimals.BadForm) = Err BadNumber
+in_scale s (Err decimals.TooLong) = Err BadNumber
+
+unfoldable pub number_of : Scale → List ℕ → Result ℤ Why
+number_of s text = in_scale s (read_of text (places_of s))
+
+-- the number of one digit or more, at most so many
+unfoldable pub digits_of : ℕ → List ℕ → Option ℕ
+digits_of most text =
+    if nat_le 1 (length text) && nat_le (length text) most && list_all is_ascii_digit text
+    then Some (digits_value 10 text) else None
+
+-- a line with a number of one to nine digits alone
+unfoldable pub whole_of : List ℕ → Option ℕ
+whole_of text = option_and_then (digits_of 9) (only (tokens text))
+
+unfoldable pub from_to : ℕ → ℕ → Why → ℕ → Result ℕ Why
+from_to least most why n = if nat_le least n && nat_le n most then Ok n else Err why
+
+unfoldable pub count_of : List ℕ → Result ℕ Why
+count_of text = or_fault BadCount (whole_of text) >>= from_to 1 500 BadCount
+
+unfoldable pub first_year_of : List ℕ → Result ℤ Why
+first_year_of text = do
+  n ← or_fault BadNumber (whole_of text)
+  year ← from_to 2 8800 OutOfRange n
+  Ok (pos year)
+
+-- ---- names
+
+-- in ISO 8859-1: printable ASCII with the space, or from 128 on
+abbrev pub is_name_byte : ℕ → Bool
+is_name_byte b = (nat_le 32 b && nat_le b 126) || (nat_le 128 b && nat_le b 255)
+
+-- kept in UTF-8
+unfoldable pub name_of : ℕ → List ℕ → Result (List ℕ) Why
+name_of most latin =
+    if nat_le 1 (length latin) && nat_le (length latin) most && list_all is_name_byte latin
+    then Ok (encode_utf8_all latin) else Err BadName
+
+-- these bytes write the name
+abbrev pub is_name : List ℕ → List ℕ → Bool
+is_name latin name = bytes_eq (encode_utf8_all latin) name
+
+-- 'x' stands for an absent constituent, '*END*' ends a part
+abbrev pub is_absent : List ℕ → Bool
+is_absent token = bytes_eq token (codes "x")
+
+abbrev pub is_end : List ℕ → Bool
+is_end token = bytes_eq token (codes "*END*")
+
+abbrev pub has_name : List Constituent → List ℕ → Bool
+has_name cs name = list_any (λ c. bytes_eq c.name name) cs
+
+-- no earlier constituent has it
+unfoldable pub new_name_of : List Constituent → List ℕ → Result (List ℕ) Why
+new_name_of earlier token =
+    if is_absent token || is_end token then Err BadName
+    else name_of 32 token >>= λ name. if has_name earlier name then Err BadName else Ok name
+
+-- ---- the lines
+
+unfoldable pub constituent_from : List Constituent → List (List ℕ) → Result Constituent Why
+constituent_from earlier [] = Err BadName
+constituent_from earlier (first ∷ rest) = do
+  name ← new_name_of earlier first
+  second ← or_fault BadNumber (only rest)
+  n ← number_of Speed second
+  Ok (record { name = name; speed = n })
+
+unfoldable pub constituent_of : List Constituent → List ℕ → Result Constituent Why
+constituent_of earlier text = constituent_from earlier (tokens text)
+
+abbrev pub if_true : Bool → Why → Result (Unit {0}) Why
+if_true true why = Ok tt
+if_true false why = Err why
+
+unfoldable pub named : List ℕ → List ℕ → Result (Unit {0}) Why
+named name text = or_fault WrongConstituent (only (tokens text)) >>= λ token. if_true (is_name token name) WrongConstituent
+
+unfoldable pub end_of : List ℕ → Result (Unit {0}) Why
+end_of text = or_fault NoEnd (only (tokens text)) >>= λ token. if_true (is_end token) NoEnd
+
+unfoldable pub same_count_of : ℕ → List ℕ → Result (Unit {0}) Why
+same_count_of years text = count_of text >>= λ n. if_true (n == years) YearsDiffer
+
+-- how many values are still to come, and those so far
+unfoldable pub values_from : Scale → ℕ → List ℤ → List (List ℕ) → Result (ℕ × List ℤ) Why
+values_from s left values [] = Ok (left, values)
+values_from s zero values (token ∷ more) = Err BadNumber
+values_from s (suc left) values (token ∷ more) = number_of s token >>= λ n. values_from s left (values ++ n ∷ []) more
+
+-- ---- a station's lines
+
+unfoldable pub station_name_of : List ℕ → Result (List ℕ) Why
+station_name_of text = name_of 200 (trimmed text)
+
+abbrev pub is_colon : ℕ → Bool
+is_colon b = b == 58
+
+unfoldable pub two_digits_of : List ℕ → Option ℕ
+two_digits_of text = if length text == 2 then digits_of 2 text else None
+
+-- an hour up to 15 and a minute
+unfoldable pub minutes_of : Option ℕ → Option ℕ → Option ℕ
+minutes_of None minute = None
+minutes_of (Some hour) None = None
+minutes_of (Some hour) (Some minute) = if nat_le hour 15 && nat_le minute 59 then Some (60 * hour + minute) else None
+
+-- one or two digits, a colon, two digits
+unfoldable pub clock_of : List ℕ → Option ℕ
+clock_of text =
+    if nat_lt (position_or_len is_colon text) (length text)
+    then minutes_of (digits_of 2 (before_first is_colon text)) (two_digits_of (after_first is_colon text))
+    else None
+
+unfoldable pub meridian_of : List ℕ → Result ℤ Why
+meridian_of token =
+    or_fault BadMeridian (clock_of (without_leading_sign token)) >>= λ n.
+    Ok (if starts_with_minus token then neg_ℤ (pos n) else pos n)
+
+abbrev pub is_zone_byte : ℕ → Bool
+is_zone_byte b = (nat_le 33 b && nat_le b 126) || (nat_le 128 b && nat_le b 255)
+
+-- one colon before it isn't kept
+unfoldable pub zone_of : List ℕ → Result (List ℕ) Why
+zone_of token =
+    if nat_le (length token) 100 && list_all is_zone_byte token
+    then Ok (encode_utf8_all (if starts_with nat_eq token (codes ":") then drop 1 token else token))
+    else Err BadMeridian
+
+unfoldable pub place_from : List (List ℕ) → Result Place Why
+place_from [] = Err BadMeridian
+place_from (first ∷ []) = meridian_of first >>= λ m. Ok (record { meridian = m; zone = [] })
+place_from (first ∷ second ∷ []) = do
+  m ← meridian_of first
+  zone ← zone_of second
+  Ok (record { meridian = m; zone = zone })
+place_from (first ∷ second ∷ third ∷ more) = Err BadMeridian
+
+unfoldable pub place_of : List ℕ → Result Place Why
+place_of text = place_from (tokens text)
+
+unfoldable pub units_of : List ℕ → Result Units Why
+units_of token =
+    if bytes_eq token (codes "feet") then Ok Feet
+    else if bytes_eq token (codes "meters") then Ok Meters
+    else if bytes_eq token (codes "knots") then Ok Knots
+    else if bytes_eq token (codes "knots^2") then Ok KnotsSquared
+    else Err BadUnits
+
+unfoldable pub datum_of : List ℕ → Result (ℤ × Units) Why
+datum_of text = do
+  both ← or_fault BadUnits (only_two (tokens text))
+  n ← number_of Height both.0
+  units ← units_of both.1
+  Ok (n, units)
+
+-- an amplitude and an epoch, which don't count for an absent constituent
+unfoldable pub pair_from : List ℕ → List (List ℕ) → Result (ℤ × ℤ) Why
+pair_from name [] = Err WrongConstituent
+pair_from name (first ∷ rest) = do
+  known ← if_true (is_absent first || is_name first name) WrongConstituent
+  both ← or_fault BadNumber (only_two rest)
+  amplitude ← number_of Height both.0
+  epoch ← number_of Angle both.1
+  Ok (if is_absent first then (pos 0, pos 0) else (amplitude, epoch))
+
+unfoldable pub pair_of : List ℕ → List ℕ → Result (ℤ × ℤ) Why
+pair_of name text = pair_from name (tokens text)

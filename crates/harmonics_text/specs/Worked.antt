@@ -1,0 +1,57 @@
+-- A small file, what it holds, and its faults where one line is another (this project).
+use Rattle.std.specs.Prelude.{ℕ, ◌-◌, pos, List, [], ◌∷◌, ◌++◌, codes, slice_set}
+use Rattle.harmonics_text.specs.declared.book.Book.{Book}
+use Rattle.harmonics_text.specs.declared.book.Units.TheVariants.{Feet}
+use Rattle.harmonics_text.specs.declared.fault.Why.{Why}
+use Rattle.harmonics_text.specs.declared.fault.Why.TheVariants.{BadCount, BadName, BadNumber, TooFine, OutOfRange, YearsDiffer, WrongConstituent, NoEnd, BadMeridian, BadUnits}
+
+abbrev pub pier_lines : List (List ℕ)
+pier_lines =
+    codes "# Pier test" ∷ codes "1" ∷ codes "S2 30.0000000" ∷ codes "1999" ∷ codes "3"
+    ∷ codes "S2" ∷ codes "0 0 0" ∷ codes "*END*" ∷ codes "3" ∷ codes "S2" ∷ codes "1 1 1" ∷ codes "*END*"
+    ∷ codes "Pier" ∷ codes "0:00 :UTC" ∷ codes "0 feet" ∷ codes "S2 1 0" ∷ []
+
+-- each line with its LF
+abbrev pub file_of : List (List ℕ) → List ℕ
+file_of [] = []
+file_of (line ∷ lines) = line ++ 10 ∷ file_of lines
+
+abbrev pub pier_book : Book
+pier_book = record {
+  constituents = record { name = codes "S2"; speed = pos 300000000 } ∷ [];
+  first_year = pos 1999;
+  years = 3;
+  angles = pos 0 ∷ pos 0 ∷ pos 0 ∷ [];
+  factors = pos 1000000 ∷ pos 1000000 ∷ pos 1000000 ∷ [];
+  stations = record { name = codes "Pier"; meridian = pos 0; zone = codes "UTC"; datum = pos 0; units = Feet; amplitude = pos 1000000 ∷ []; epoch = pos 0 ∷ [] } ∷ [];
+}
+
+-- another text for a line, and the fault that comes of it
+pub record Change : Type 0 where
+  pub line : ℕ
+  pub text : List ℕ
+  pub at : ℕ
+  pub why : Why
+
+abbrev pub change : ℕ → List ℕ → ℕ → Why → Change
+change line text at why = record { line = line; text = text; at = at; why = why }
+
+abbrev pub pier_with : Change → List ℕ
+pier_with c = file_of (slice_set pier_lines (c.line - 1) c.text)
+
+abbrev pub changes : List Change
+changes =
+    change 2 (codes "0") 2 BadCount
+    ∷ change 3 (codes "x 30") 3 BadName
+    ∷ change 3 (codes "S2 30,0") 3 BadNumber
+    ∷ change 3 (codes "S2 360.0000001") 3 OutOfRange
+    ∷ change 3 (codes "S2 30.00000001") 3 TooFine
+    ∷ change 4 (codes "1") 4 OutOfRange
+    ∷ change 7 (codes "0 0 0 0") 7 BadNumber
+    ∷ change 7 (codes "0 0") 8 BadNumber
+    ∷ change 9 (codes "2") 9 YearsDiffer
+    ∷ change 12 (codes "*end*") 12 NoEnd
+    ∷ change 14 (codes "0:60 :UTC") 14 BadMeridian
+    ∷ change 15 (codes "0 fathoms") 15 BadUnits
+    ∷ change 16 (codes "M2 1 0") 16 WrongConstituent
+    ∷ []

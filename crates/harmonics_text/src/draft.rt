@@ -1,0 +1,291 @@
+//! A book that is read line by line.
+
+ghost use Rattle.std.specs.Prelude.{◌≡◌, ◌<◌, ◌≤◌, length};
+ghost use Rattle.harmonics_text.specs.Rules.{end_of, same_count_of};
+ghost use Rattle.harmonics_text.specs.Drafts.{Gives, IsDraft, with_constituents, with_angles, with_factors, new_book, after_constituent, after_years, after_angles, after_years_again, after_factors, after_nothing, after_pair, after_record, after_text, after_line, book_in};
+
+use crate::book::Book;
+use crate::column::Column;
+use crate::fault::{LineFault, Why};
+use crate::heading::{Heading, constituent, is_end};
+use crate::lines::{is_all_blank, is_comment, is_too_long, only_token, trimmed, without_cr};
+use crate::lists::{Constituents, Stations};
+use crate::names::name_of;
+use crate::numbers::{count, first_year};
+use crate::place::place_of_line;
+use crate::record::{Constants, Record, amplitude_and_epoch, datum, into_station};
+use crate::scale::Scale;
+use crate::table::{Table, start_table, with_line};
+use decimal_text::Numbers;
+use std::alloc::Global;
+
+/// What is read so far, and with it what the next line must be.
+#[derive(Drop)]
+pub enum Draft {
+    Count,
+    /// How many constituents are still to come, at least one, and those before.
+    Constituents(u32, Constituents),
+    FirstYear(Constituents),
+    Years(Constituents, i32),
+    Angles(Heading, Table),
+    AnglesEnd(Heading, Numbers),
+    YearsAgain(Heading, Numbers),
+    Factors(Heading, Numbers, Table),
+    FactorsEnd(Heading, Numbers, Numbers),
+    Stations(Book, Record),
+}
+
+impl Draft {
+    /// The draft after a line of the file.
+    #[tactic(auto, unfolding(crate::specs::Drafts::after_line))]
+    pub fn after_line(self, alloc: Global, line: &[u8]) -> Result<Draft, LineFault>
+        requires { IsDraft self }
+        ensures { Gives (λ d. d) result (after_line self line.now) }
+    {
+        if is_comment(line) {
+            return Ok(self);
+        }
+        if is_too_long(line) {
+            return Err(LineFault::Bad(Why::LineTooLong));
+        }
+        let text = without_cr(line);
+        if is_all_blank(text) {
+            return Ok(self);
+        }
+        self.after_text(alloc, text)
+    }
+
+    /// The draft after a line that is kept.
+    #[tactic(auto, unfolding(crate::specs::Drafts::after_text, crate::specs::Drafts::after_count))]
+    fn after_text(self, alloc: Global, text: &[u8]) -> Result<Draft, LineFault>
+        requires { IsDraft self }
+        ensures { Gives (λ d. d) result (after_text self text.now) }
+    {
+        match self {
+            Draft::Count => {
+                let left = count(text)?;
+                Ok(Draft::Constituents(left, Constituents::empty(alloc)))
+            }
+            Draft::Constituents(left, earlier) => after_constituent(alloc, left, earlier, text),
+            Draft::FirstYear(constituents) => {
+                let first_year = first_year(text)?;
+                Ok(Draft::Years(constituents, first_year))
+            }
+            Draft::Years(constituents, first_year) => {
+                after_years(alloc, constituents, first_year, text)
+            }
+            Draft::Angles(heading, table) => after_angles(heading, table, text),
+            Draft::AnglesEnd(heading, angles) => {
+                check_end(text)?;
+                Ok(Draft::YearsAgain(heading, angles))
+            }
+            Draft::YearsAgain(heading, angles) => after_years_again(alloc, heading, angles, text),
+            Draft::Factors(heading, angles, table) => {
+                after_factors(heading, angles, table, text)
+            }
+            Draft::FactorsEnd(heading, angles, factors) => {
+                check_end(text)?;
+                Ok(Draft::Stations(new_book(alloc, heading, angles, factors), Record::Nothing))
+            }
+            Draft::Stations(book, begun) => after_record(alloc, book, begun, text),
+        }
+    }
+
+    /// The book, where the last part is complete.
+    pub fn into_book(self) -> Option<Book>
+        ensures { result ≡ book_in self }
+    {
+        match self {
+            Draft::Stations(book, Record::Nothing) => Some(book),
+            _ => None,
+        }
+    }
+}
+
+#[tactic(auto, unfolding(crate::specs::Rules::end_of))]
+fn check_end(text: &[u8]) -> Result<(), Why>
+    ensures { result ≡ end_of text.now }
+{
+    let Some(token) = only_token(text) else {
+        return Err(Why::NoEnd);
+    };
+    if is_end(token) {
+        Ok(())
+    } else {
+        Err(Why::NoEnd)
+    }
+}
+
+#[tactic(auto, unfolding(crate::specs::Drafts::after_constituent))]
+fn after_constituent(
+    alloc: Global,
+    left: u32,
+    mut earlier: Constituents,
+    text: &[u8],
+) -> Result<Draft, LineFault>
+    ensures { Gives (λ d. d) result (after_constituent left earlier text.now) }
+{
+    let next = constituent(alloc, &earlier, text)?;
+    earlier.push(next)?;
+    if left > 1 {
+        Ok(Draft::Constituents(left - 1, earlier))
+    } else {
+        Ok(Draft::FirstYear(earlier))
+    }
+}
+
+#[tactic(auto, unfolding(crate::specs::Drafts::after_years))]
+fn after_years(
+    alloc: Global,
+    constituents: Constituents,
+    first_year: i32,
+    text: &[u8],
+) -> Result<Draft, LineFault>
+    ensures { Gives (λ d. d) result (after_years constituents first_year text.now) }
+{
+    let years = count(text)?;
+    let heading = Heading {
+        constituents,
+        first_year,
+        years,
+    };
+    Ok(Draft::Angles(heading, start_table(alloc)))
+}
+
+fn with_angles(heading: Heading, table: Table) -> Draft
+    ensures { result ≡ with_angles heading table }
+{
+    if table.place < heading.constituents.as_slice().len() {
+        Draft::Angles(heading, table)
+    } else {
+        Draft::AnglesEnd(heading, table.values.into_numbers())
+    }
+}
+
+#[tactic(auto, unfolding(crate::specs::Drafts::after_angles))]
+fn after_angles(heading: Heading, table: Table, text: &[u8]) -> Result<Draft, LineFault>
+    requires here { table.place < length heading.constituents }
+    requires few { length heading.constituents ≤ 500 }
+    ensures { Gives (λ d. d) result (after_angles heading table text.now) }
+{
+    let table = with_line(table, &heading, Scale::Angle, text)?;
+    Ok(with_angles(heading, table))
+}
+
+#[tactic(auto, unfolding(crate::specs::Rules::same_count_of))]
+fn check_years(years: u32, text: &[u8]) -> Result<(), Why>
+    ensures { result ≡ same_count_of years text.now }
+{
+    if count(text)? == years {
+        Ok(())
+    } else {
+        Err(Why::YearsDiffer)
+    }
+}
+
+#[tactic(auto, unfolding(crate::specs::Drafts::after_years_again))]
+fn after_years_again(
+    alloc: Global,
+    heading: Heading,
+    angles: Numbers,
+    text: &[u8],
+) -> Result<Draft, LineFault>
+    ensures { Gives (λ d. d) result (after_years_again heading angles text.now) }
+{
+    check_years(heading.years, text)?;
+    Ok(Draft::Factors(heading, angles, start_table(alloc)))
+}
+
+fn with_factors(heading: Heading, angles: Numbers, table: Table) -> Draft
+    ensures { result ≡ with_factors heading angles table }
+{
+    if table.place < heading.constituents.as_slice().len() {
+        Draft::Factors(heading, angles, table)
+    } else {
+        Draft::FactorsEnd(heading, angles, table.values.into_numbers())
+    }
+}
+
+#[tactic(auto, unfolding(crate::specs::Drafts::after_factors))]
+fn after_factors(
+    heading: Heading,
+    angles: Numbers,
+    table: Table,
+    text: &[u8],
+) -> Result<Draft, LineFault>
+    requires here { table.place < length heading.constituents }
+    requires few { length heading.constituents ≤ 500 }
+    ensures { Gives (λ d. d) result (after_factors heading angles table text.now) }
+{
+    let table = with_line(table, &heading, Scale::Factor, text)?;
+    Ok(with_factors(heading, angles, table))
+}
+
+/// The book with no station yet.
+fn new_book(alloc: Global, heading: Heading, angles: Numbers, factors: Numbers) -> Book
+    ensures { result ≡ new_book heading angles factors }
+{
+    Book {
+        constituents: heading.constituents,
+        first_year: heading.first_year,
+        years: heading.years,
+        angles,
+        factors,
+        stations: Stations::empty(alloc),
+    }
+}
+
+#[tactic(auto, unfolding(crate::specs::Drafts::after_nothing, crate::specs::Rules::station_name_of))]
+fn after_nothing(alloc: Global, book: Book, text: &[u8]) -> Result<Draft, LineFault>
+    ensures { Gives (λ d. d) result (after_nothing book text.now) }
+{
+    if book.stations.as_slice().len() >= 20_000 {
+        return Err(LineFault::Bad(Why::TooManyStations));
+    }
+    let name = name_of(alloc, trimmed(text), 200)?;
+    Ok(Draft::Stations(book, Record::Name(name)))
+}
+
+#[tactic(auto, unfolding(crate::specs::Drafts::after_record))]
+fn after_record(alloc: Global, book: Book, begun: Record, text: &[u8]) -> Result<Draft, LineFault>
+    requires { IsDraft (Draft.Stations book begun) }
+    ensures { Gives (λ d. d) result (after_record book begun text.now) }
+{
+    match begun {
+        Record::Nothing => after_nothing(alloc, book, text),
+        Record::Name(name) => {
+            let place = place_of_line(alloc, text)?;
+            Ok(Draft::Stations(book, Record::Place(name, place)))
+        }
+        Record::Place(name, place) => {
+            let (datum, units) = datum(text)?;
+            let constants = Constants {
+                name,
+                place,
+                datum,
+                units,
+                amplitude: Column::new(alloc),
+                epoch: Column::new(alloc),
+            };
+            Ok(Draft::Stations(book, Record::Constants(constants)))
+        }
+        Record::Constants(constants) => after_pair(book, constants, text),
+    }
+}
+
+#[tactic(auto, unfolding(crate::specs::Drafts::after_pair))]
+fn after_pair(mut book: Book, mut station: Constants, text: &[u8]) -> Result<Draft, LineFault>
+    requires { length station.amplitude < length book.constituents }
+    ensures { Gives (λ d. d) result (after_pair book station text.now) }
+{
+    let place = station.amplitude.len();
+    let constituents = book.constituents.as_slice();
+    let (amplitude, epoch) = amplitude_and_epoch(&constituents[place].name, text)?;
+    station.amplitude.push(amplitude)?;
+    station.epoch.push(epoch)?;
+    if place + 1 < constituents.len() {
+        return Ok(Draft::Stations(book, Record::Constants(station)));
+    }
+    book.stations.push(into_station(station))?;
+    Ok(Draft::Stations(book, Record::Nothing))
+}

@@ -1,0 +1,106 @@
+//! What can be wrong with a file of harmonic constants.
+
+ghost use Rattle.std.specs.Prelude.{◌≡◌};
+
+use std::alloc::AllocError;
+
+/// Why a line was not taken.
+#[derive(Clone, Copy, Debug, PartialEq, Eq)]
+pub enum LineFault {
+    NoMemory,
+    Bad(Why),
+}
+
+/// What is wrong with a line. The file format numbers these reasons, from 1.
+#[derive(Clone, Copy, Debug, PartialEq, Eq)]
+pub enum Why {
+    BadCount,
+    BadName,
+    BadNumber,
+    TooFine,
+    OutOfRange,
+    YearsDiffer,
+    WrongConstituent,
+    NoEnd,
+    BadMeridian,
+    BadUnits,
+    CutShort,
+    TooManyStations,
+    LineTooLong,
+}
+
+impl Why {
+    ghost use Rattle.harmonics_text.specs.Whys.{number_of, text_of};
+
+    /// The reason's number, from 1 to 13.
+    pub fn number(self) -> u32
+        ensures { result ≡ number_of self }
+    {
+        match self {
+            Why::BadCount => 1,
+            Why::BadName => 2,
+            Why::BadNumber => 3,
+            Why::TooFine => 4,
+            Why::OutOfRange => 5,
+            Why::YearsDiffer => 6,
+            Why::WrongConstituent => 7,
+            Why::NoEnd => 8,
+            Why::BadMeridian => 9,
+            Why::BadUnits => 10,
+            Why::CutShort => 11,
+            Why::TooManyStations => 12,
+            Why::LineTooLong => 13,
+        }
+    }
+
+    /// The reason in words.
+    pub fn text(self) -> &'static str
+        ensures { result.now ≡ text_of self }
+    {
+        match self {
+            Why::BadCount => "bad count",
+            Why::BadName => "bad name",
+            Why::BadNumber => "bad number",
+            Why::TooFine => "too fine",
+            Why::OutOfRange => "out of range",
+            Why::YearsDiffer => "years differ",
+            Why::WrongConstituent => "wrong constituent",
+            Why::NoEnd => "no end",
+            Why::BadMeridian => "bad meridian",
+            Why::BadUnits => "bad units",
+            Why::CutShort => "cut short",
+            Why::TooManyStations => "too many stations",
+            Why::LineTooLong => "line too long",
+        }
+    }
+}
+
+impl From<AllocError> for LineFault {
+    ghost use Rattle.harmonics_text.specs.declared.fault.LineFault.TheVariants.{NoMemory};
+
+    ghost from_gives = { λ _ e. e ≡ NoMemory };
+
+    fn from(_e: AllocError) -> LineFault {
+        LineFault::NoMemory
+    }
+}
+
+impl From<Why> for LineFault {
+    ghost use Rattle.harmonics_text.specs.declared.fault.LineFault.TheVariants.{Bad};
+
+    ghost from_gives = { λ why e. e ≡ Bad why };
+
+    fn from(why: Why) -> LineFault {
+        LineFault::Bad(why)
+    }
+}
+
+/// Why a file has no book.
+#[derive(Clone, Copy, Debug, PartialEq, Eq)]
+pub enum BookFault {
+    /// There was not enough memory.
+    NoMemory,
+    /// The first line that breaks a rule, and the first reason. Where the file ends too early, the
+    /// line is one past its last.
+    At { line: u32, why: Why },
+}

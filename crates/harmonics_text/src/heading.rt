@@ -1,0 +1,81 @@
+//! The first four parts: the constituents with their speeds, and the years.
+
+ghost use Rattle.std.specs.Prelude.{◌≡◌};
+ghost use Rattle.harmonics_text.specs.Rules.{is_absent, is_end, has_name, new_name_of, constituent_of};
+ghost use Rattle.harmonics_text.specs.Drafts.{Gives};
+
+use crate::book::Constituent;
+use crate::fault::{LineFault, Why};
+use crate::lines::{next_token, only_token};
+use crate::lists::Constituents;
+use crate::names::name_of;
+use crate::numbers::number;
+use crate::scale::Scale;
+use decimal_text::Text;
+use std::alloc::Global;
+
+/// What stands before the tables.
+#[derive(Drop)]
+pub struct Heading {
+    pub constituents: Constituents,
+    pub first_year: i32,
+    /// How many years each table has.
+    pub years: u32,
+}
+
+/// Whether the token stands for an absent constituent.
+pub fn is_absent(token: &[u8]) -> bool
+    ensures { result ≡ is_absent token.now }
+{
+    token == b"x".as_slice()
+}
+
+/// Whether the token ends a part.
+pub fn is_end(token: &[u8]) -> bool
+    ensures { result ≡ is_end token.now }
+{
+    token == b"*END*".as_slice()
+}
+
+fn has_name(constituents: &[Constituent], name: &Text) -> bool
+    ensures { result ≡ has_name constituents.now name.now }
+{
+    constituents
+        .iter()
+        .any(|c| c.name.as_str() == name.as_str())
+}
+
+/// The name of a constituent after those before it.
+#[tactic(auto, unfolding(crate::specs::Rules::new_name_of))]
+fn new_name(alloc: Global, earlier: &Constituents, token: &[u8]) -> Result<Text, LineFault>
+    ensures { Gives (λ t. t) result (new_name_of earlier.now token.now) }
+{
+    if is_absent(token) || is_end(token) {
+        return Err(LineFault::Bad(Why::BadName));
+    }
+    let name = name_of(alloc, token, 32)?;
+    if has_name(earlier.as_slice(), &name) {
+        return Err(LineFault::Bad(Why::BadName));
+    }
+    Ok(name)
+}
+
+/// The constituent of a line, after those before it.
+#[tactic(auto, unfolding(crate::specs::Rules::constituent_of, crate::specs::Rules::constituent_from))]
+pub fn constituent(
+    alloc: Global,
+    earlier: &Constituents,
+    text: &[u8],
+) -> Result<Constituent, LineFault>
+    ensures { Gives (λ c. c) result (constituent_of earlier.now text.now) }
+{
+    let Some((first, rest)) = next_token(text) else {
+        return Err(LineFault::Bad(Why::BadName));
+    };
+    let name = new_name(alloc, earlier, first)?;
+    let Some(second) = only_token(rest) else {
+        return Err(LineFault::Bad(Why::BadNumber));
+    };
+    let speed = number(second, Scale::Speed)?;
+    Ok(Constituent { name, speed })
+}

@@ -1,0 +1,31 @@
+//! The text file of harmonic constants: what it holds, and how it is read.
+//!
+//! A [`Book`] is the content of one file, after the text files of XTide's tools: the constituents
+//! with their speeds, the equilibrium arguments and node factors of each year, and the stations
+//! with their amplitudes and epochs. [`read_book`] makes it from the file's bytes.
+#![tactic(auto)]
+
+mod book;
+mod column;
+mod draft;
+mod fault;
+mod heading;
+mod laws;
+mod lines;
+mod lists;
+mod names;
+mod numbers;
+mod place;
+mod reading;
+mod record;
+mod scale;
+mod table;
+
+pub use book::{Book, Constituent, Station, Units};
+pub use fault::{BookFault, Why};
+pub use laws::{worked_files, worked_lines};
+pub use lists::{Constituents, Stations};
+pub use reading::read_book;
+
+#[cfg(test)]
+mod tests;

@@ -1,0 +1,133 @@
+//! Lines of a file and tokens of a line.
+
+ghost use Rattle.std.specs.Prelude.{◌≡◌, ◌<◌, ◌∷◌, [], length, MatchOption, IfSome, position, option_map};
+ghost use Rattle.std.specs.List.{list_all};
+ghost use Rattle.std.specs.Option.{option_copied};
+ghost use Rattle.harmonics_text.specs.Lines.{cut, is_lf, is_blank, is_visible, is_comment, is_too_long, without_cr, tokens, only, only_two, trimmed, without_blank_end};
+
+fn lf_at(bytes: &[u8]) -> Option<usize>
+    ensures { result ≡ position is_lf bytes.now }
+{
+    bytes.iter().position(|b| *b == b'\n')
+}
+
+/// The first line without its LF, and what follows it. There is none where no byte is left.
+pub fn next_line(bytes: &[u8]) -> Option<(&[u8], &[u8])>
+    ensures shorter { IfSome result (λ r. length r.1.now < length bytes.now) }
+    ensures exact { MatchOption result (bytes.now ≡ []) (λ r. cut bytes.now ≡ r.0.now ∷ cut r.1.now) }
+{
+    if bytes.is_empty() {
+        return None;
+    }
+    match lf_at(bytes) {
+        None => Some((bytes, &[])),
+        Some(end) => {
+            let (line, rest) = bytes.split_at(end);
+            let (_, rest) = rest.split_at(1);
+            Some((line, rest))
+        }
+    }
+}
+
+/// Whether the line is a comment.
+pub fn is_comment(line: &[u8]) -> bool
+    ensures { result ≡ is_comment line.now }
+{
+    line.starts_with(b"#".as_slice())
+}
+
+/// Whether the line is longer than any but a comment may be.
+pub fn is_too_long(line: &[u8]) -> bool
+    ensures { result ≡ is_too_long line.now }
+{
+    line.len() > 4096
+}
+
+/// The line without one CR at its end.
+pub fn without_cr(line: &[u8]) -> &[u8]
+    ensures { result.now ≡ without_cr line.now }
+{
+    if line.ends_with(b"\r".as_slice()) {
+        line.split_at(line.len() - 1).0
+    } else {
+        line
+    }
+}
+
+fn is_blank(b: u8) -> bool
+    ensures { result ≡ is_blank b }
+{
+    b == b' ' || b == b'\t'
+}
+
+/// Whether the text is white space alone.
+pub fn is_all_blank(text: &[u8]) -> bool
+    ensures { result ≡ list_all is_blank text.now }
+{
+    text.iter().all(|b| is_blank(*b))
+}
+
+fn visible_at(text: &[u8]) -> Option<usize>
+    ensures { result ≡ position is_visible text.now }
+{
+    text.iter().position(|b| !is_blank(*b))
+}
+
+fn blank_at(text: &[u8]) -> Option<usize>
+    ensures { result ≡ position is_blank text.now }
+{
+    text.iter().position(|b| is_blank(*b))
+}
+
+/// The first token of a line and what follows it. There is none where only white space is left.
+pub fn next_token(text: &[u8]) -> Option<(&[u8], &[u8])>
+    ensures shorter { IfSome result (λ r. length r.1.now < length text.now) }
+    ensures exact { MatchOption result (tokens text.now ≡ []) (λ r. tokens text.now ≡ r.0.now ∷ tokens r.1.now) }
+{
+    let start = visible_at(text)?;
+    let (_, visible) = text.split_at(start);
+    let end = blank_at(visible).unwrap_or(visible.len());
+    Some(visible.split_at(end))
+}
+
+/// The only token of a line.
+pub fn only_token(text: &[u8]) -> Option<&[u8]>
+    ensures { option_copied result ≡ only (tokens text.now) }
+{
+    let (token, rest) = next_token(text)?;
+    match next_token(rest) {
+        None => Some(token),
+        Some(_) => None,
+    }
+}
+
+/// The two tokens of a line that has no more.
+pub fn only_two_tokens(text: &[u8]) -> Option<(&[u8], &[u8])>
+    ensures { option_map (λ r. (r.0.now, r.1.now)) result ≡ only_two (tokens text.now) }
+{
+    let (first, rest) = next_token(text)?;
+    let (second, rest) = next_token(rest)?;
+    match next_token(rest) {
+        None => Some((first, second)),
+        Some(_) => None,
+    }
+}
+
+/// The text without the white space around it.
+pub fn trimmed(text: &[u8]) -> &[u8]
+    ensures { result.now ≡ trimmed text.now }
+{
+    let start = visible_at(text).unwrap_or(text.len());
+    let (_, visible) = text.split_at(start);
+    without_blank_end(visible)
+}
+
+fn without_blank_end(text: &[u8]) -> &[u8]
+    ensures { result.now ≡ without_blank_end text.now }
+{
+    let mut end = text.len();
+    while end > 0 && is_blank(text[end - 1]) {
+        end -= 1;
+    }
+    text.split_at(end).0
+}

@@ -1,0 +1,108 @@
+//! Numbers of the file: counts and decimals.
+
+ghost use Rattle.std.specs.Prelude.{◌≡◌, ◌<◌, ◌≤◌, ◌^◌, length, Ok, true};
+ghost use Rattle.std.specs.List.{list_all};
+ghost use Rattle.std.specs.Char.{is_ascii_digit};
+ghost use Rattle.std.specs.Str.Parse.{digits_value};
+ghost use Rattle.harmonics_text.specs.Rules.{digits_of, whole_of, count_of, first_year_of, in_scale, number_of};
+
+use crate::fault::Why;
+use crate::lines::only_token;
+use crate::scale::Scale;
+use decimal_text::{DecimalFault, read};
+
+fn are_digits(text: &[u8]) -> bool
+    ensures { result ≡ list_all is_ascii_digit text.now }
+{
+    text.iter().all(|b| b.is_ascii_digit())
+}
+
+/// The value of at most nine digits.
+fn digits_value(text: &[u8]) -> u32
+    requires few { length text.now ≤ 9 }
+    requires digits { list_all is_ascii_digit text.now ≡ true }
+    ensures { result ≡ digits_value 10 text.now }
+{
+    let mut value = 0;
+    for b in text {
+        value = value * 10 + u32::from(*b - b'0');
+    }
+    value
+}
+
+/// The number of one digit or more, at most so many.
+#[tactic(auto, unfolding(crate::specs::Rules::digits_of))]
+pub fn digits(text: &[u8], most: usize) -> Option<u32>
+    requires { most ≤ 9 }
+    ensures { result ≡ digits_of most text.now }
+{
+    if text.is_empty() || text.len() > most || !are_digits(text) {
+        return None;
+    }
+    Some(digits_value(text))
+}
+
+/// The number of one to nine digits that the line holds.
+#[tactic(auto, unfolding(crate::specs::Rules::whole_of))]
+fn whole_number(text: &[u8]) -> Option<u32>
+    ensures { result ≡ whole_of text.now }
+{
+    digits(only_token(text)?, 9)
+}
+
+/// The number of constituents or years that the line holds.
+#[tactic(auto, unfolding(crate::specs::Rules::count_of, crate::specs::Rules::from_to))]
+pub fn count(text: &[u8]) -> Result<u32, Why>
+    ensures { result ≡ count_of text.now }
+{
+    match whole_number(text) {
+        None => Err(Why::BadCount),
+        Some(n) => {
+            if n >= 1 && n <= 500 {
+                Ok(n)
+            } else {
+                Err(Why::BadCount)
+            }
+        }
+    }
+}
+
+/// The first year of the tables.
+#[tactic(auto, unfolding(crate::specs::Rules::first_year_of, crate::specs::Rules::from_to))]
+pub fn first_year(text: &[u8]) -> Result<i32, Why>
+    ensures { result ≡ first_year_of text.now }
+{
+    match whole_number(text) {
+        None => Err(Why::BadNumber),
+        Some(n) => {
+            if n >= 2 && n <= 8800 {
+                Ok(n as i32)
+            } else {
+                Err(Why::OutOfRange)
+            }
+        }
+    }
+}
+
+#[tactic(auto, unfolding(crate::specs::Rules::in_scale))]
+fn in_scale(value: i128, scale: Scale) -> Result<i64, Why>
+    ensures { result ≡ in_scale scale (Ok value) }
+{
+    if value < i128::from(scale.least()) || i128::from(scale.most()) < value {
+        return Err(Why::OutOfRange);
+    }
+    Ok(value as i64)
+}
+
+/// The decimal in its scale.
+#[tactic(auto, unfolding(crate::specs::Rules::number_of, crate::specs::Rules::in_scale))]
+pub fn number(text: &[u8], scale: Scale) -> Result<i64, Why>
+    ensures { result ≡ number_of scale text.now }
+{
+    match read(text, scale.places()) {
+        Ok(value) => in_scale(value, scale),
+        Err(DecimalFault::TooFine) => Err(Why::TooFine),
+        Err(DecimalFault::BadForm) => Err(Why::BadNumber),
+        Err(DecimalFault::TooLong) => Err(Why::BadNumber),
+    }
+}

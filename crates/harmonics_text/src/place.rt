@@ -1,0 +1,145 @@
+//! The meridian and the time zone of a station.
+
+ghost use Rattle.std.specs.Prelude.{◌≡◌, ◌≤◌, IfSome, position, encode_utf8_all};
+ghost use Rattle.std.specs.List.{list_all};
+ghost use Rattle.std.specs.Str.Parse.{starts_with_minus, without_leading_sign};
+ghost use Rattle.harmonics_text.specs.Rules.{is_colon, two_digits_of, minutes_of, clock_of, meridian_of, is_zone_byte, zone_of, place_of};
+ghost use Rattle.harmonics_text.specs.Drafts.{Gives};
+
+use crate::fault::{LineFault, Why};
+use crate::lines::next_token;
+use crate::names::utf8_of;
+use crate::numbers::digits;
+use decimal_text::Text;
+use std::alloc::Global;
+
+/// Where a station's clock stands.
+#[derive(Drop)]
+pub struct Place {
+    /// In minutes east of Greenwich.
+    pub meridian: i32,
+    pub zone: Text,
+}
+
+fn colon_at(text: &[u8]) -> Option<usize>
+    ensures { result ≡ position is_colon text.now }
+{
+    text.iter().position(|b| *b == b':')
+}
+
+#[tactic(auto, unfolding(crate::specs::Rules::two_digits_of))]
+fn two_digits(text: &[u8]) -> Option<u32>
+    ensures { result ≡ two_digits_of text.now }
+{
+    if text.len() == 2 {
+        digits(text, 2)
+    } else {
+        None
+    }
+}
+
+#[tactic(auto, unfolding(crate::specs::Rules::minutes_of))]
+fn minutes(hour: Option<u32>, minute: Option<u32>) -> Option<u32>
+    ensures exact { result ≡ minutes_of hour minute }
+    ensures small { IfSome result (λ n. n ≤ 959) }
+{
+    let hour = hour?;
+    let minute = minute?;
+    if hour > 15 || minute > 59 {
+        return None;
+    }
+    Some(60 * hour + minute)
+}
+
+/// The minutes of `H:MM` or `HH:MM`.
+#[tactic(auto, unfolding(crate::specs::Rules::clock_of))]
+fn clock_minutes(clock: &[u8]) -> Option<u32>
+    ensures exact { result ≡ clock_of clock.now }
+    ensures small { IfSome result (λ n. n ≤ 959) }
+{
+    let at = colon_at(clock)?;
+    let (hour, rest) = clock.split_at(at);
+    let (_, minute) = rest.split_at(1);
+    minutes(digits(hour, 2), two_digits(minute))
+}
+
+/// Whether a minus stands first, and the text without its sign.
+fn split_sign(text: &[u8]) -> (bool, &[u8])
+    ensures minus { result.0 ≡ starts_with_minus text.now }
+    ensures rest { result.1.now ≡ without_leading_sign text.now }
+{
+    if text.is_empty() {
+        return (false, text);
+    }
+    let (first, rest) = text.split_at(1);
+    match first[0] {
+        b'-' => (true, rest),
+        b'+' => (false, rest),
+        _ => (false, text),
+    }
+}
+
+/// The minutes of a meridian, with its sign.
+#[tactic(auto, unfolding(crate::specs::Rules::meridian_of))]
+fn meridian_minutes(token: &[u8]) -> Result<i32, Why>
+    ensures { result ≡ meridian_of token.now }
+{
+    let (negative, clock) = split_sign(token);
+    match clock_minutes(clock) {
+        None => Err(Why::BadMeridian),
+        Some(minutes) => {
+            let minutes = minutes as i32;
+            Ok(if negative { -minutes } else { minutes })
+        }
+    }
+}
+
+fn is_zone_byte(b: u8) -> bool
+    ensures { result ≡ is_zone_byte b }
+{
+    matches!(b, 33..=126 | 128..=255)
+}
+
+fn is_zone(token: &[u8]) -> bool
+    ensures { result ≡ list_all is_zone_byte token.now }
+{
+    token.iter().all(|b| is_zone_byte(*b))
+}
+
+/// The name of a zone, without the colon before it.
+#[tactic(auto, unfolding(crate::specs::Rules::zone_of))]
+fn zone_name(alloc: Global, token: &[u8]) -> Result<Text, LineFault>
+    ensures { Gives (λ t. t) result (zone_of token.now) }
+{
+    if token.len() > 100 || !is_zone(token) {
+        return Err(LineFault::Bad(Why::BadMeridian));
+    }
+    if token.starts_with(b":".as_slice()) {
+        Ok(utf8_of(alloc, token.split_at(1).1)?)
+    } else {
+        Ok(utf8_of(alloc, token)?)
+    }
+}
+
+/// The meridian and the zone of a line.
+#[tactic(auto, unfolding(crate::specs::Rules::place_of, crate::specs::Rules::place_from))]
+pub fn place_of_line(alloc: Global, text: &[u8]) -> Result<Place, LineFault>
+    ensures { Gives (λ p. p) result (place_of text.now) }
+{
+    let Some((first, rest)) = next_token(text) else {
+        return Err(LineFault::Bad(Why::BadMeridian));
+    };
+    let Some((second, rest)) = next_token(rest) else {
+        let meridian = meridian_minutes(first)?;
+        return Ok(Place {
+            meridian,
+            zone: Text::empty(alloc),
+        });
+    };
+    if next_token(rest).is_some() {
+        return Err(LineFault::Bad(Why::BadMeridian));
+    }
+    let meridian = meridian_minutes(first)?;
+    let zone = zone_name(alloc, second)?;
+    Ok(Place { meridian, zone })
+}

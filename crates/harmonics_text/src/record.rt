@@ -1,0 +1,116 @@
+//! The record of a station.
+
+ghost use Rattle.std.specs.Prelude.{◌≡◌, pos, if◌then◌else◌};
+ghost use Rattle.harmonics_text.specs.Rules.{units_of, datum_of, pair_of};
+ghost use Rattle.harmonics_text.specs.Drafts.{station_of};
+
+use crate::book::{Station, Units};
+use crate::column::Column;
+use crate::fault::Why;
+use crate::heading::is_absent;
+use crate::lines::{next_token, only_two_tokens};
+use crate::names::is_name;
+use crate::numbers::number;
+use crate::place::Place;
+use crate::scale::Scale;
+use decimal_text::Text;
+
+/// A station whose constants are being read.
+#[derive(Drop)]
+pub struct Constants {
+    pub name: Text,
+    pub place: Place,
+    pub datum: i64,
+    pub units: Units,
+    pub amplitude: Column,
+    pub epoch: Column,
+}
+
+/// What is read of the station that is next.
+#[derive(Drop)]
+pub enum Record {
+    Nothing,
+    Name(Text),
+    Place(Text, Place),
+    Constants(Constants),
+}
+
+/// The station with its constants as they are.
+pub fn into_station(constants: Constants) -> Station
+    ensures { result ≡ station_of constants }
+{
+    let Constants {
+        name,
+        place,
+        datum,
+        units,
+        amplitude,
+        epoch,
+    } = constants;
+    let Place { meridian, zone } = place;
+    Station {
+        name,
+        meridian,
+        zone,
+        datum,
+        units,
+        amplitude: amplitude.into_numbers(),
+        epoch: epoch.into_numbers(),
+    }
+}
+
+#[tactic(auto, unfolding(crate::specs::Rules::units_of))]
+fn parse_units(token: &[u8]) -> Result<Units, Why>
+    ensures { result ≡ units_of token.now }
+{
+    if token == b"feet".as_slice() {
+        Ok(Units::Feet)
+    } else if token == b"meters".as_slice() {
+        Ok(Units::Meters)
+    } else if token == b"knots".as_slice() {
+        Ok(Units::Knots)
+    } else if token == b"knots^2".as_slice() {
+        Ok(Units::KnotsSquared)
+    } else {
+        Err(Why::BadUnits)
+    }
+}
+
+/// The datum of a line and its unit.
+#[tactic(auto, unfolding(crate::specs::Rules::datum_of))]
+pub fn datum(text: &[u8]) -> Result<(i64, Units), Why>
+    ensures { result ≡ datum_of text.now }
+{
+    let Some((first, second)) = only_two_tokens(text) else {
+        return Err(Why::BadUnits);
+    };
+    let datum = number(first, Scale::Height)?;
+    let units = parse_units(second)?;
+    Ok((datum, units))
+}
+
+fn pair(absent: bool, amplitude: i64, epoch: i64) -> (i64, i64)
+    ensures { result ≡ (if absent then (pos 0, pos 0) else (amplitude, epoch)) }
+{
+    if absent { (0, 0) } else { (amplitude, epoch) }
+}
+
+/// The amplitude and the epoch that the line has for the constituent of this name.
+#[tactic(auto, unfolding(crate::specs::Rules::pair_of, crate::specs::Rules::pair_from))]
+pub fn amplitude_and_epoch(name: &Text, text: &[u8]) -> Result<(i64, i64), Why>
+    ensures { result ≡ pair_of name.now text.now }
+{
+    let Some((first, rest)) = next_token(text) else {
+        return Err(Why::WrongConstituent);
+    };
+    let absent = is_absent(first);
+    if !absent && !is_name(first, name) {
+        return Err(Why::WrongConstituent);
+    }
+    let Some((second, third)) = only_two_tokens(rest) else {
+        return Err(Why::BadNumber);
+    };
+    let amplitude = number(second, Scale::Height)?;
+    let epoch = number(third, Scale::Angle)?;
+    Ok(pair(absent, amplitude, epoch))
+}

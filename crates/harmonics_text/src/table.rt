@@ -1,0 +1,115 @@
+//! The tables of equilibrium arguments and node factors.
+
+ghost use Rattle.std.specs.Prelude.{◌≡◌, ◌<◌, ◌≤◌, length};
+ghost use Rattle.harmonics_text.specs.Rules.{named};
+ghost use Rattle.harmonics_text.specs.Drafts.{Gives, at_place, pushed, new_table, after_values, after_name, after_table_line};
+
+use crate::column::Column;
+use crate::fault::{LineFault, Why};
+use crate::heading::Heading;
+use crate::lines::{next_token, only_token};
+use crate::names::is_name;
+use crate::numbers::number;
+use crate::scale::Scale;
+use decimal_text::Text;
+use std::alloc::Global;
+
+/// A table as far as it is read.
+#[derive(Drop)]
+pub struct Table {
+    /// The place of the constituent that is next.
+    pub place: usize,
+    /// How many of its values are still to come: 0 before its name.
+    pub left: u32,
+    pub values: Column,
+}
+
+/// The table with nothing read.
+pub fn start_table(alloc: Global) -> Table
+    ensures { result ≡ new_table }
+{
+    Table {
+        place: 0,
+        left: 0,
+        values: Column::new(alloc),
+    }
+}
+
+/// Adds the number of a token.
+#[tactic(auto, unfolding(crate::specs::Drafts::pushed))]
+fn push_number(values: &mut Column, scale: Scale, token: &[u8]) -> Result<(), LineFault>
+    ensures { Gives (λ _. values.new) result (pushed scale values.old token.now) }
+{
+    values.push(number(token, scale)?)?;
+    Ok(())
+}
+
+/// The place after a line that leaves so many values to come.
+fn next_place(left: u32, place: usize) -> usize
+    requires { place < 500 }
+    ensures { result ≡ at_place left place }
+{
+    if left == 0 { place + 1 } else { place }
+}
+
+/// The values of a line.
+#[tactic(auto, unfolding(crate::specs::Drafts::after_values))]
+fn with_values(table: Table, scale: Scale, text: &[u8]) -> Result<Table, LineFault>
+    requires { table.place < 500 }
+    ensures { Gives (λ t. t) result (after_values scale table text.now) }
+{
+    let mut left = table.left;
+    let mut values = table.values;
+    let mut rest = text;
+    while let Some((token, after)) = next_token(rest) {
+        if left == 0 {
+            return Err(LineFault::Bad(Why::BadNumber));
+        }
+        push_number(&mut values, scale, token)?;
+        left -= 1;
+        rest = after;
+    }
+    Ok(Table {
+        place: next_place(left, table.place),
+        left,
+        values,
+    })
+}
+
+/// The line that names the constituent of the values after it.
+#[tactic(auto, unfolding(crate::specs::Rules::named))]
+fn check_name(name: &Text, text: &[u8]) -> Result<(), Why>
+    ensures { result ≡ named name.now text.now }
+{
+    let Some(token) = only_token(text) else {
+        return Err(Why::WrongConstituent);
+    };
+    if is_name(token, name) {
+        Ok(())
+    } else {
+        Err(Why::WrongConstituent)
+    }
+}
+
+/// The next line of a table that is not complete.
+#[tactic(auto, unfolding(crate::specs::Drafts::after_table_line, crate::specs::Drafts::after_name))]
+pub fn with_line(
+    table: Table,
+    heading: &Heading,
+    scale: Scale,
+    text: &[u8],
+) -> Result<Table, LineFault>
+    requires here { table.place < length heading.now.constituents }
+    requires few { length heading.now.constituents ≤ 500 }
+    ensures { Gives (λ t. t) result (after_table_line scale heading.now table text.now) }
+{
+    if table.left > 0 {
+        return with_values(table, scale, text);
+    }
+    check_name(&heading.constituents.as_slice()[table.place].name, text)?;
+    Ok(Table {
+        place: table.place,
+        left: heading.years,
+        values: table.values,
+    })
+}

@@ -1,0 +1,168 @@
+use super::*;
+use std::alloc::{AllocError, Global};
+use std::test::Fail;
+
+const PIER: &str =
+    "# Pier test\n1\nS2 30.0000000\n1999\n3\nS2\n0 0 0\n*END*\n3\nS2\n1 1 1\n*END*\nPier\n0:00 :UTC\n0 feet\nS2 1 0\n";
+
+/// The file with another text in a line.
+fn changed(alloc: Global, line: usize, text: &str) -> Result<String, AllocError> {
+    let mut file = String::new(alloc);
+    for (i, old) in PIER.lines().enumerate() {
+        file.push_str(if i + 1 == line { text } else { old })?;
+        file.push_str("\n")?;
+    }
+    Ok(file)
+}
+
+/// The line and the number of a file's fault: two zeros where it has a book.
+fn fault(alloc: Global, bytes: &[u8]) -> (u32, u32) {
+    if bytes.len() > 400_000_000 {
+        return (0, 98);
+    }
+    match read_book(alloc, bytes) {
+        Ok(_) => (0, 0),
+        Err(BookFault::NoMemory) => (0, 99),
+        Err(BookFault::At { line, why }) => (line, why.number()),
+    }
+}
+
+#[test]
+fn the_pier_is_read(rt: HostRuntime) -> Result<(), Fail> {
+    let book = read_book(rt.alloc(), PIER.as_bytes())
+        .ok()
+        .ok_or("the file has a book")?;
+    assert_eq!(rt; book.first_year, 1999);
+    assert_eq!(rt; book.years, 3);
+    assert_eq!(rt; book.angles.as_slice(), [0, 0, 0].as_slice());
+    assert_eq!(rt;
+        book.factors.as_slice(),
+        [1_000_000, 1_000_000, 1_000_000].as_slice()
+    );
+    for constituent in book.constituents.as_slice() {
+        assert_eq!(rt; constituent.name.as_str(), "S2");
+        assert_eq!(rt; constituent.speed, 300_000_000);
+    }
+    assert_eq!(rt; book.stations.as_slice().len(), 1);
+    Ok(())
+}
+
+const REAL: [u8; 227] =
+    *b"# Constituents\r\n2\r\nM2 28.9841042\r\n  S2\t30.0000000  \r\n\r\n2000\r\n1\r\nM2\r\n120.50\r\n# between\r\nS2\r\n0.00\r\n*END*\r\n1\r\nM2\r\n0.9850\r\nS2\r\n1.0000\r\n*END*\r\n# A station\r\nPort\xe9, Bay\r\n-5:00 :America/New_York\r\n2.5 feet\r\nM2 1.234 45.0\r\nS2 0.4 300.0\r\n";
+
+#[test]
+fn a_file_as_people_write_it(rt: HostRuntime) -> Result<(), Fail> {
+    let book = read_book(rt.alloc(), &REAL)
+        .ok()
+        .ok_or("the file has a book")?;
+    assert_eq!(rt; book.constituents.as_slice().len(), 2);
+    assert_eq!(rt; book.angles.as_slice(), [1_205_000_000, 0].as_slice());
+    assert_eq!(rt; book.factors.as_slice(), [985_000, 1_000_000].as_slice());
+    for station in book.stations.as_slice() {
+        assert_eq!(rt; station.name.as_str(), "Port\u{e9}, Bay");
+        assert_eq!(rt; station.meridian, -300);
+        assert_eq!(rt; station.zone.as_str(), "America/New_York");
+        assert_eq!(rt; station.datum, 2_500_000);
+        assert_eq!(rt; station.units, Units::Feet);
+        assert_eq!(rt;
+            station.amplitude.as_slice(),
+            [1_234_000, 400_000].as_slice()
+        );
+        assert_eq!(rt;
+            station.epoch.as_slice(),
+            [450_000_000, 3_000_000_000].as_slice()
+        );
+    }
+    Ok(())
+}
+
+/// A line, its text, and the line and the number of the fault.
+const CHANGES: [(usize, &str, u32, u32); 28] = [
+    (2, "0", 2, 1),
+    (3, "x 30", 3, 2),
+    (3, "S2 30,0", 3, 3),
+    (3, "S2 360.0000001", 3, 5),
+    (3, "S2 30.00000001", 3, 4),
+    (3, "S2 30.00000000", 0, 0),
+    (3, "S2 +30", 0, 0),
+    (4, "1", 4, 5),
+    (7, "0 0 0 0", 7, 3),
+    (7, "0 0", 8, 3),
+    (7, "0 0\n0", 0, 0),
+    (7, "0 0 y 0 0", 7, 3),
+    (9, "2", 9, 6),
+    (10, "M2", 10, 7),
+    (12, "*end*", 12, 8),
+    (13, "#", 15, 9),
+    (13, "\t", 15, 9),
+    (14, "0:60 :UTC", 14, 9),
+    (14, "-15:59", 0, 0),
+    (14, "+0:30 UTC", 0, 0),
+    (15, "0 fathoms", 15, 10),
+    (15, "0 knots^2", 0, 0),
+    (15, "0 feet 1", 15, 10),
+    (16, "M2 1 0", 16, 7),
+    (16, "x 1 0", 0, 0),
+    (16, "x 1 y", 16, 3),
+    (16, "S2 1", 16, 3),
+    (16, "# S2 1 0", 17, 11),
+];
+
+#[test]
+fn changes_of_a_line(rt: HostRuntime) -> Result<(), Fail> {
+    for (line, text, at, number) in &CHANGES {
+        let file = changed(rt.alloc(), *line, text)?;
+        assert_eq!(rt;
+            fault(rt.alloc(), file.as_bytes()),
+            (*at, *number),
+            "line {line}: {text}"
+        );
+    }
+    Ok(())
+}
+
+#[test]
+fn long_lines(rt: HostRuntime) -> Result<(), Fail> {
+    let mut name = String::new(rt.alloc());
+    for _ in 0..4097u32 {
+        name.push_str("a")?;
+    }
+    assert_eq!(rt;
+        fault(
+            rt.alloc(),
+            changed(rt.alloc(), 13, name.as_str())?.as_bytes()
+        ),
+        (13, 13)
+    );
+    let mut comment = String::from_str(rt.alloc(), "*END*\n#")?;
+    for _ in 0..20_000u32 {
+        comment.push_str(" a comment that goes on and on as it likes and is not read")?;
+    }
+    assert_eq!(rt;
+        fault(
+            rt.alloc(),
+            changed(rt.alloc(), 12, comment.as_str())?.as_bytes()
+        ),
+        (0, 0)
+    );
+    Ok(())
+}
+
+#[test]
+fn prefixes(rt: HostRuntime) {
+    let pier = PIER.as_bytes();
+    assert_eq!(rt; pier.len(), 96);
+    assert_eq!(rt; fault(rt.alloc(), b""), (1, 11));
+    for end in 0..97usize {
+        let whole = end == 66 || end == 67 || end == 95 || end == 96;
+        let (front, _) = pier.split_at(end.min(pier.len()));
+        assert_eq!(rt; fault(rt.alloc(), front) == (0, 0), whole, "{end} bytes");
+    }
+}
+
+#[test]
+fn reasons_in_words(rt: HostRuntime) {
+    assert_eq!(rt; Why::BadCount.text(), "bad count");
+    assert_eq!(rt; Why::LineTooLong.text(), "line too long");
+    assert_eq!(rt; Why::LineTooLong.number(), 13);
+}
