@@ -1,0 +1,115 @@
+-- The tide of a station within the limits.
+use Rattle.std.proofs.Common.{◌≡◌, ℕ, zero, suc, ◌+◌, ◌*◌, ◌<◌, ◌≤◌, Bool, true, false, List, [], ◌∷◌, length, get_or, Option, Some, None, ℤ, pos, inl, inr, refl, sym, ap, ◌∙◌, add-zero, arith}
+use Rattle.std.specs.Prelude.{unsigned_abs, filter, map, fold, nat_eq, All}
+use Rattle.std.specs.Option.{option_or}
+use Rattle.std.proofs.lemmas.Bool.{eqb-true, cases_lt}
+use Rattle.std.proofs.lemmas.Int.{ints}
+use Rattle.std.proofs.lemmas.List.{get_or-map, length-map}
+use Rattle.std.proofs.lemmas.List.Elements.{All-filter}
+use Rattle.std.proofs.lemmas.List.FromFn.{get_or-map-range_with_len, length-map-range_with_len}
+use Rattle.harmonics_text.specs.declared.book.Station.{Station}
+use Rattle.harmonics_text.specs.declared.book.Book.{Book}
+use Rattle.harmonics_text.specs.Books.{IsBook, IsStation}
+use Rattle.station_curve.specs.declared.fault.CurveFault.{CurveFault}
+use Rattle.station_curve.specs.declared.years.Year.{Year}
+use Rattle.station_curve.specs.Waves.{Harmonic, amount_of, steepness_of}
+use Rattle.station_curve.specs.Limits.{IsGentle}
+use Rattle.station_curve.specs.Curves.{waves_of, is_present, year_fault, first_fault, tide_of}
+use Rattle.station_curve.specs.Prepared.{AreReady}
+use Rattle.station_curve.proofs.Products.{abs_span}
+use Rattle.station_curve.proofs.BookValues.{speed_small}
+use Rattle.station_curve.proofs.WavesOf.{none_fault, length-waves_of, get_or-waves_of}
+
+-- a sum over the waves that are present is that over all, where absent ones add nothing
+with_first : {B : Type 0} (add : B → Harmonic → B) → ((a : B) (h : Harmonic) → h.amplitude ≡ pos 0 → add a h ≡ a) → (a : B) (h : Harmonic) (hs : List Harmonic) → ((x : B) → fold add x (filter is_present hs) ≡ fold add x hs) → (absent : Bool) → nat_eq (unsigned_abs h.amplitude) 0 ≡ absent → fold add a (filter is_present (h ∷ hs)) ≡ fold add a (h ∷ hs)
+with_first add none a h hs rest false e = rw e (rest (add a h))
+with_first add none a h hs rest true e =
+    let zero_size : unsigned_abs h.amplitude ≡ 0 = eqb-true (unsigned_abs h.amplitude) 0 e in
+    let nothing : h.amplitude ≡ pos 0 = omega (arith, ints, zero_size) in
+    rw e (rest a ∙ ap (λ x. fold add x hs) (sym (none a h nothing)))
+
+pub fold-present : {B : Type 0} (add : B → Harmonic → B) → ((a : B) (h : Harmonic) → h.amplitude ≡ pos 0 → add a h ≡ a) → (a : B) (hs : List Harmonic) → fold add a (filter is_present hs) ≡ fold add a hs
+fold-present add none a [] = refl
+fold-present add none a (h ∷ hs) = with_first add none a h hs (λ x. fold-present add none x hs) (nat_eq (unsigned_abs h.amplitude) 0) refl
+
+pub amount-present : (hs : List Harmonic) → amount_of (filter is_present hs) ≡ amount_of hs
+amount-present hs = fold-present (λ a h. a + unsigned_abs h.amplitude) (λ a h e. ap (λ z. a + unsigned_abs z) e ∙ add-zero a) 0 hs
+
+pub steepness-present : (hs : List Harmonic) → steepness_of (filter is_present hs) ≡ steepness_of hs
+steepness-present hs = fold-present (λ a h. a + unsigned_abs h.amplitude * h.speed) (λ a h e. ap (λ z. a + unsigned_abs z * h.speed) e ∙ omega arith) 0 hs
+
+-- no year before the last is beyond a limit
+both_none : (a b : Option CurveFault) → option_or a b ≡ None → (a ≡ None) × (b ≡ None)
+both_none None b h = (refl, h)
+both_none (Some x) b h = cc
+
+pub no_fault : (b : Book) (s : Station) (years k : ℕ) → first_fault b s years ≡ None → k < years → year_fault b s k ≡ None
+unfolding first_fault
+no_fault b s zero k h below = absurd (omega (arith, below))
+no_fault b s (suc years) k h below =
+    let parts = both_none (first_fault b s years) (year_fault b s years) h in
+    elim (cases_lt k years) [
+      | inl before ↦ no_fault b s years k parts.0 before
+      | inr at ↦
+          let same : years ≡ k = omega (arith, below, at) in
+          rw (← same) parts.1
+    ]
+
+-- the years of the tide
+pub length-tide_of : (b : Book) (s : Station) → length (tide_of b s).years ≡ b.years
+unfolding tide_of
+length-tide_of b s = length-map-range_with_len (λ year. filter is_present (waves_of b s year)) 0 b.years
+
+pub waves_in-tide_of : (b : Book) (s : Station) (k : ℕ) (d : List Harmonic) → k < b.years → get_or (tide_of b s).years k d ≡ filter is_present (waves_of b s k)
+unfolding tide_of
+waves_in-tide_of b s k d below = get_or-map-range_with_len (λ year. filter is_present (waves_of b s year)) 0 b.years k k d below (omega arith)
+
+slow : (b : Book) (s : Station) (year : ℕ) → IsBook b → All (λ h. h.speed ≤ 3600000000) (waves_of b s year)
+slow b s year book k d below =
+    let in_list : k < length b.constituents = omega (arith, below, length-waves_of b s year) in
+    rw (get_or-waves_of b s year k d in_list) (speed_small b k book in_list)
+
+pub gentle_tide : (b : Book) (s : Station) → IsBook b → IsStation (length b.constituents) s → first_fault b s b.years ≡ None → IsGentle (tide_of b s)
+unfolding tide_of
+gentle_tide b s book station none = record {
+  years = rw (length-tide_of b s) (record { least = book.first_year.least; most = book.first_year.most; some = book.some_years; few = book.few_years });
+  datum = abs_span s.datum 9999999999 station.datum.least station.datum.most;
+  amounts = λ k d h.
+      let below : k < b.years = omega (arith, h, length-tide_of b s) in
+      rw (waves_in-tide_of b s k d below, amount-present (waves_of b s k)) (none_fault b s k (no_fault b s b.years k none below)).0;
+  steepnesses = λ k d h.
+      let below : k < b.years = omega (arith, h, length-tide_of b s) in
+      rw (waves_in-tide_of b s k d below, steepness-present (waves_of b s k)) (none_fault b s k (no_fault b s b.years k none below)).1;
+  speeds = λ k d h.
+      let below : k < b.years = omega (arith, h, length-tide_of b s) in
+      rw (waves_in-tide_of b s k d below) (All-filter is_present (λ h. h.speed ≤ 3600000000) (waves_of b s k) (slow b s k book));
+}
+
+-- the tide that is kept
+same_list : (xs ys : List (List Harmonic)) → length xs ≡ length ys → ((k : ℕ) (d : List Harmonic) → k < length xs → get_or xs k d ≡ get_or ys k d) → xs ≡ ys
+same_list [] [] e h = refl
+same_list [] (y ∷ ys) e h = absurd (omega (arith, e))
+same_list (x ∷ xs) [] e h = absurd (omega (arith, e))
+same_list (x ∷ xs) (y ∷ ys) e h =
+    let first : x ≡ y = h 0 x (omega arith) in
+    let rest : xs ≡ ys = same_list xs ys (omega (arith, e)) (λ k d below. h (suc k) d (omega (arith, below))) in
+    rw (first, rest) refl
+
+pub kept_years : (b : Book) (s : Station) (years : List Year) → AreReady b s b.years years → map (λ y. y.waves.items) years ≡ (tide_of b s).years
+kept_years b s years ready =
+    same_list (map (λ y. y.waves.items) years) (tide_of b s).years
+    (length-map years (λ y. y.waves.items) ∙ ready.counted ∙ sym (length-tide_of b s))
+    (λ k d h. kept b s years ready k d (omega (arith, h, length-map years (λ y. y.waves.items), ready.counted)))
+  where
+    kept : (b : Book) (s : Station) (years : List Year) → AreReady b s b.years years → (k : ℕ) (d : List Harmonic) → k < b.years → get_or (map (λ y. y.waves.items) years) k d ≡ get_or (tide_of b s).years k d
+    kept b s [] ready k d below = absurd (omega (arith, below, ready.counted))
+    kept b s (y ∷ ys) ready k d below =
+        get_or-map (λ y. y.waves.items) (y ∷ ys) k y d (omega (arith, below, ready.counted)) ∙ ready.waves k y below
+        ∙ sym (waves_in-tide_of b s k d below)
+
+pub kept_tide : (b : Book) (s : Station) (years : List Year) (first_year datum : ℤ) → AreReady b s b.years years → first_year ≡ b.first_year → datum ≡ s.datum → record { first_year = first_year; datum = datum; years = map (λ y. y.waves.items) years } ≡ tide_of b s
+unfolding tide_of
+kept_tide b s years first_year datum ready is_first is_datum =
+    ap (λ f. record { first_year = f; datum = datum; years = map (λ y. y.waves.items) years }) is_first
+    ∙ ap (λ d. record { first_year = b.first_year; datum = d; years = map (λ y. y.waves.items) years }) is_datum
+    ∙ ap (λ ys. record { first_year = b.first_year; datum = s.datum; years = ys }) (kept_years b s years ready)

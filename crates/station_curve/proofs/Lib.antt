@@ -1,0 +1,11 @@
+mod Blending
+mod BookValues
+mod Near
+mod Products
+mod Ready
+mod WavesOf
+mod ReadyYears
+mod Circling
+mod Gentle
+mod Predicting
+mod Answering

@@ -1,0 +1,150 @@
+-- The kept tide has the level and the slope that every constituent of the book gives.
+use Rattle.std.proofs.Common.{◌≡◌, ℕ, ◌-◌, ◌*◌, ◌^◌, ◌<◌, List, [], ◌∷◌, length, ℤ, pos, negsuc, neg_ℤ, ◌+ℤ◌, ◌-ℤ◌, ◌*ℤ◌, refl, ap, ◌∙◌, zero-add, arith}
+use Rattle.std.specs.Prelude.{unsigned_abs, filter, fold, All}
+use Rattle.std.specs.List.{range_with_len}
+use Rattle.std.proofs.lemmas.Int.{ints}
+use Rattle.std.proofs.lemmas.List.Elements.{All-head, All-tail}
+use Rattle.std.proofs.lemmas.List.Folds.{fold-map}
+use Rattle.std.proofs.lemmas.List.FromFn.{get_or-range_with_len, length-range_with_len}
+use Rattle.decimal_text.specs.Rounding.{rounded_of}
+use Rattle.fixed_sine.specs.Circle.{radian}
+use Rattle.fixed_sine.specs.Sine.{isin_of, icos_of}
+use Rattle.harmonics_text.specs.declared.book.Station.{Station}
+use Rattle.harmonics_text.specs.declared.book.Book.{Book}
+use Rattle.harmonics_text.specs.Books.{IsBook}
+use Rattle.year_blend.specs.declared.parts.Place.{Place}
+use Rattle.year_blend.specs.declared.parts.Place.TheVariants.{Plain, Blend}
+use Rattle.year_blend.specs.Places.{InDomain, place_of}
+use Rattle.year_blend.specs.Weights.{total_weight, weight_of, weight_slope_of}
+use Rattle.year_blend.proofs.PlaceLemmas.{place_of-rule}
+use Rattle.station_curve.specs.Waves.{Harmonic, phase_at, height_at, fall_at, heights_of, falls_of}
+use Rattle.station_curve.specs.Limits.{IsNear, IsNearPlace}
+use Rattle.station_curve.specs.Levels.{minutes_into, blended, drift, year_level, year_slope, level_of, slope_of, millionths_of}
+use Rattle.station_curve.specs.Schureman.{constituents_of, amplitude_of, speed_of, phase_of, predicted_year_level, predicted_year_slope, predicted_level, predicted_slope, predicted_millionths}
+use Rattle.station_curve.specs.Curves.{wave_of, waves_of, is_present, tide_of, Predicts}
+use Rattle.station_curve.proofs.BookValues.{speed_pos}
+use Rattle.station_curve.proofs.Circling.{phase_onward}
+use Rattle.station_curve.proofs.Gentle.{fold-present, length-tide_of, waves_in-tide_of}
+use Rattle.station_curve.proofs.Near.{near_place}
+
+-- sums of equal terms
+sums_same : (u v : ℕ → ℤ) (ks : List ℕ) → All (λ k. u k ≡ v k) ks → (a : ℤ) → fold (λ sum k. sum +ℤ u k) a ks ≡ fold (λ sum k. sum +ℤ v k) a ks
+sums_same u v [] all a = refl
+sums_same u v (k ∷ ks) all a =
+    ap (λ x. fold (λ sum k. sum +ℤ u k) (a +ℤ x) ks) (All-head (λ k. u k ≡ v k) k ks all)
+    ∙ sums_same u v ks (All-tail (λ k. u k ≡ v k) k ks all) (a +ℤ v k)
+
+each_below : (u v : ℕ → ℤ) (n : ℕ) → ((k : ℕ) → k < n → u k ≡ v k) → All (λ k. u k ≡ v k) (range_with_len 0 n)
+each_below u v n same k d h =
+    let below : k < n = omega (arith, h, length-range_with_len 0 n) in
+    rw (get_or-range_with_len 0 n k d below, zero-add k) (same k below)
+
+-- a constituent's part, from the year's wave
+part_of_level : (b : Book) (s : Station) (year k : ℕ) (m : ℤ) → IsBook b → k < length b.constituents → IsNear b.first_year year m → height_at (minutes_into b.first_year year m) (wave_of b s year k) ≡ amplitude_of b s year k *ℤ icos_of (phase_of b s year m k)
+part_of_level b s year k m book in_list near =
+    ap (λ p. amplitude_of b s year k *ℤ icos_of p) (phase_onward b s year m k (unsigned_abs (speed_of b k)) (speed_pos b k book in_list) near)
+
+part_of_slope : (b : Book) (s : Station) (year k : ℕ) (m : ℤ) → IsBook b → k < length b.constituents → IsNear b.first_year year m → fall_at (minutes_into b.first_year year m) (wave_of b s year k) ≡ (amplitude_of b s year k *ℤ speed_of b k) *ℤ isin_of (phase_of b s year m k)
+part_of_slope b s year k m book in_list near =
+    ap (λ p. (amplitude_of b s year k *ℤ pos (unsigned_abs (speed_of b k))) *ℤ isin_of p) (phase_onward b s year m k (unsigned_abs (speed_of b k)) (speed_pos b k book in_list) near)
+    ∙ ap (λ w. (amplitude_of b s year k *ℤ w) *ℤ isin_of (phase_of b s year m k)) (speed_pos b k book in_list)
+
+-- absent waves add nothing
+zero_times : (z : ℤ) → pos 0 *ℤ z ≡ pos 0
+zero_times (pos n) = ap pos (omega arith)
+zero_times (negsuc n) = omega (arith, ints)
+
+no_height : (t : ℕ) (a : ℤ) (h : Harmonic) → h.amplitude ≡ pos 0 → a +ℤ height_at t h ≡ a
+no_height t a h e = ap (λ z. a +ℤ (z *ℤ icos_of (phase_at h t))) e ∙ ap (λ z. a +ℤ z) (zero_times (icos_of (phase_at h t))) ∙ omega (arith, ints)
+
+no_fall : (t : ℕ) (a : ℤ) (h : Harmonic) → h.amplitude ≡ pos 0 → a +ℤ fall_at t h ≡ a
+no_fall t a h e =
+    ap (λ z. a +ℤ ((z *ℤ pos h.speed) *ℤ isin_of (phase_at h t))) e ∙ ap (λ z. a +ℤ (z *ℤ isin_of (phase_at h t))) (zero_times (pos h.speed))
+    ∙ ap (λ z. a +ℤ z) (zero_times (isin_of (phase_at h t))) ∙ omega (arith, ints)
+
+-- the sums of a year
+heights_same : (b : Book) (s : Station) (year : ℕ) (m : ℤ) → IsBook b → IsNear b.first_year year m → heights_of (minutes_into b.first_year year m) (filter is_present (waves_of b s year)) ≡ fold (λ sum k. sum +ℤ (amplitude_of b s year k *ℤ icos_of (phase_of b s year m k))) (pos 0) (constituents_of b)
+unfolding waves_of
+heights_same b s year m book near =
+    let t = minutes_into b.first_year year m in
+    fold-present (λ sum h. sum +ℤ height_at t h) (no_height t) (pos 0) (waves_of b s year)
+    ∙ fold-map (λ sum h. sum +ℤ height_at t h) (wave_of b s year) (pos 0) (constituents_of b)
+    ∙ sums_same (λ k. height_at t (wave_of b s year k)) (λ k. amplitude_of b s year k *ℤ icos_of (phase_of b s year m k)) (constituents_of b)
+    (each_below (λ k. height_at t (wave_of b s year k)) (λ k. amplitude_of b s year k *ℤ icos_of (phase_of b s year m k)) (length b.constituents) (λ k h. part_of_level b s year k m book h near)) (pos 0)
+
+falls_same : (b : Book) (s : Station) (year : ℕ) (m : ℤ) → IsBook b → IsNear b.first_year year m → falls_of (minutes_into b.first_year year m) (filter is_present (waves_of b s year)) ≡ fold (λ sum k. sum +ℤ ((amplitude_of b s year k *ℤ speed_of b k) *ℤ isin_of (phase_of b s year m k))) (pos 0) (constituents_of b)
+unfolding waves_of
+falls_same b s year m book near =
+    let t = minutes_into b.first_year year m in
+    fold-present (λ sum h. sum +ℤ fall_at t h) (no_fall t) (pos 0) (waves_of b s year)
+    ∙ fold-map (λ sum h. sum +ℤ fall_at t h) (wave_of b s year) (pos 0) (constituents_of b)
+    ∙ sums_same (λ k. fall_at t (wave_of b s year k)) (λ k. (amplitude_of b s year k *ℤ speed_of b k) *ℤ isin_of (phase_of b s year m k)) (constituents_of b)
+    (each_below (λ k. fall_at t (wave_of b s year k)) (λ k. (amplitude_of b s year k *ℤ speed_of b k) *ℤ isin_of (phase_of b s year m k)) (length b.constituents) (λ k h. part_of_slope b s year k m book h near)) (pos 0)
+
+year_level_same : (b : Book) (s : Station) (m : ℤ) (year : ℕ) → IsBook b → year < b.years → IsNear b.first_year year m → year_level (tide_of b s) m year ≡ predicted_year_level b s m year
+unfolding year_level predicted_year_level tide_of
+year_level_same b s m year book below near =
+    ap (λ hs. (pos (10 ^ 9) *ℤ s.datum) +ℤ heights_of (minutes_into b.first_year year m) hs) (waves_in-tide_of b s year [] below)
+    ∙ ap (λ h. (pos (10 ^ 9) *ℤ s.datum) +ℤ h) (heights_same b s year m book near)
+
+year_slope_same : (b : Book) (s : Station) (m : ℤ) (year : ℕ) → IsBook b → year < b.years → IsNear b.first_year year m → year_slope (tide_of b s) m year ≡ predicted_year_slope b s m year
+unfolding year_slope predicted_year_slope tide_of
+year_slope_same b s m year book below near =
+    ap (λ hs. neg_ℤ (falls_of (minutes_into b.first_year year m) hs)) (waves_in-tide_of b s year [] below)
+    ∙ ap neg_ℤ (falls_same b s year m book near)
+
+-- what agrees in the years of a place is blended alike
+AgreeAt : (ℕ → ℤ) → (ℕ → ℤ) → Place → Type 0
+AgreeAt f g (Plain year) = f year ≡ g year
+AgreeAt f g (Blend year x) = (f year ≡ g year) × (f (year - 1) ≡ g (year - 1))
+
+agree : (f g : ℕ → ℤ) (first_year : ℤ) (years : ℕ) (m : ℤ) (p : Place) → IsNearPlace first_year years m p → ((year : ℕ) → year < years → IsNear first_year year m → f year ≡ g year) → AgreeAt f g p
+unfolding AgreeAt
+agree f g first_year years m (Plain year) near same = same year near.0 near.1
+agree f g first_year years m (Blend year x) near same = (same year near.1 near.2, same (year - 1) (omega (arith, near.0, near.1)) near.3)
+
+blended_same : (f g : ℕ → ℤ) (p : Place) → AgreeAt f g p → blended f p ≡ blended g p
+unfolding AgreeAt
+blended_same f g (Plain year) e = ap (λ v. pos total_weight *ℤ v) e
+blended_same f g (Blend year x) e =
+    ap (λ v. ((pos total_weight -ℤ weight_of x) *ℤ f (year - 1)) +ℤ (weight_of x *ℤ v)) e.0
+    ∙ ap (λ v. ((pos total_weight -ℤ weight_of x) *ℤ v) +ℤ (weight_of x *ℤ g year)) e.1
+
+drift_same : (f g : ℕ → ℤ) (p : Place) → AgreeAt f g p → drift f p ≡ drift g p
+unfolding AgreeAt
+drift_same f g (Plain year) e = refl
+drift_same f g (Blend year x) e =
+    ap (λ v. (weight_slope_of x *ℤ pos radian) *ℤ (v -ℤ f (year - 1))) e.0
+    ∙ ap (λ v. (weight_slope_of x *ℤ pos radian) *ℤ (g year -ℤ v)) e.1
+
+near_the_place : (b : Book) (m : ℤ) → IsBook b → InDomain b.first_year b.years m → IsNearPlace b.first_year b.years m (place_of b.first_year b.years m)
+near_the_place b m book within =
+    near_place b.first_year b.years m (place_of b.first_year b.years m) book.first_year.least
+    (place_of-rule b.first_year b.years m (record { least = book.first_year.least; most = book.first_year.most; some = book.some_years; few = book.few_years }) within)
+
+level_same : (b : Book) (s : Station) (m : ℤ) → IsBook b → InDomain b.first_year b.years m → level_of (tide_of b s) m ≡ predicted_level b s m
+unfolding level_of predicted_level tide_of
+level_same b s m book within =
+    let p = place_of b.first_year b.years m in
+    ap (λ n. blended (year_level (tide_of b s) m) (place_of b.first_year n m)) (length-tide_of b s)
+    ∙ blended_same (year_level (tide_of b s) m) (predicted_year_level b s m) p
+    (agree (year_level (tide_of b s) m) (predicted_year_level b s m) b.first_year b.years m p (near_the_place b m book within) (λ year below near. year_level_same b s m year book below near))
+
+slope_same : (b : Book) (s : Station) (m : ℤ) → IsBook b → InDomain b.first_year b.years m → slope_of (tide_of b s) m ≡ predicted_slope b s m
+unfolding slope_of predicted_slope tide_of
+slope_same b s m book within =
+    let p = place_of b.first_year b.years m in
+    let near = near_the_place b m book within in
+    ap (λ n. blended (year_slope (tide_of b s) m) (place_of b.first_year n m) +ℤ drift (year_level (tide_of b s) m) (place_of b.first_year n m)) (length-tide_of b s)
+    ∙ ap (λ v. v +ℤ drift (year_level (tide_of b s) m) p) (blended_same (year_slope (tide_of b s) m) (predicted_year_slope b s m) p
+    (agree (year_slope (tide_of b s) m) (predicted_year_slope b s m) b.first_year b.years m p near (λ year below near. year_slope_same b s m year book below near)))
+    ∙ ap (λ v. blended (predicted_year_slope b s m) p +ℤ v) (drift_same (year_level (tide_of b s) m) (predicted_year_level b s m) p
+    (agree (year_level (tide_of b s) m) (predicted_year_level b s m) b.first_year b.years m p near (λ year below near. year_level_same b s m year book below near)))
+
+pub predicts_tide : (b : Book) (s : Station) → IsBook b → Predicts b s (tide_of b s)
+unfolding millionths_of predicted_millionths
+predicts_tide b s book = record {
+  level = λ m h. level_same b s m book h;
+  slope = λ m h. slope_same b s m book h;
+  millionths = λ m h. ap (λ l. rounded_of l (total_weight * 10 ^ 9)) (level_same b s m book h);
+}

@@ -1,0 +1,52 @@
+-- Products of signed numbers, which fit.
+use Rattle.std.proofs.Common.{◌≡◌, ℕ, suc, ◌+◌, ◌*◌, ◌^◌, ◌<◌, ◌≤◌, ℤ, pos, negsuc, ◌+ℤ◌, ◌-ℤ◌, ◌*ℤ◌, ◌≤ℤ◌, ◌<ℤ◌, refl, sym, ap, ◌∙◌, arith}
+use Rattle.std.specs.Prelude.{unsigned_abs}
+use Rattle.std.proofs.lemmas.Int.{ints, to_z-of_z, unsigned_abs-mul, fits_signed_mul, fits_signed_from_abs}
+use Rattle.std.proofs.lemmas.Nat.{mul-le, div_below}
+use mir.Syntax.{Width, w64}
+use mir.Val.{to_z, of_z, hbits}
+use Rattle.decimal_text.specs.Rounding.{half_up}
+
+pub cast_small : (w : Width) (a : ℤ) (m : ℕ) → unsigned_abs a ≤ m → m < 2 ^ hbits w → to_z w (of_z w a) ≡ a
+cast_small w a m h fits = to_z-of_z w a (fits_signed_from_abs w a (omega arith))
+
+pub abs_times : (a b : ℤ) (m n : ℕ) → unsigned_abs a ≤ m → unsigned_abs b ≤ n → unsigned_abs (a *ℤ b) ≤ m * n
+abs_times a b m n h k = rw (unsigned_abs-mul a b) (mul-le (unsigned_abs a) (unsigned_abs b) m n h k)
+
+pub times : (w : Width) (a b : ℤ) (m n : ℕ) → unsigned_abs a ≤ m → unsigned_abs b ≤ n → m < 2 ^ hbits w → n < 2 ^ hbits w → m * n < 2 ^ hbits w → to_z w (of_z w (to_z w (of_z w a) *ℤ to_z w (of_z w b))) ≡ a *ℤ b
+times w a b m n h k fits_m fits_n fits =
+    rw (cast_small w a m h fits_m, cast_small w b n k fits_n) (to_z-of_z w (a *ℤ b) (fits_signed_mul w a b m n h k fits))
+
+pub abs_below : (z : ℤ) (n : ℕ) → pos 0 ≤ℤ z → z ≤ℤ pos n → unsigned_abs z ≤ n
+abs_below (pos a) n least most = omega (arith, ints)
+abs_below (negsuc a) n least most = absurd (omega (arith, ints))
+
+pub abs_within : (z : ℤ) (low high : ℕ) → pos low ≤ℤ z → z ≤ℤ pos high → unsigned_abs z ≤ high
+abs_within (pos a) low high least most = omega (arith, ints, most)
+abs_within (negsuc a) low high least most = absurd (omega (arith, ints, least))
+
+-- a fraction of at most k rounds to at most k
+pub half_up-le : (n unit k : ℕ) → 0 < unit → n ≤ k * unit → half_up n unit ≤ k
+half_up-le n unit k some most =
+    let below = div_below (2 * n + unit) (2 * unit) (k + 1) (omega arith) (omega (arith, most)) in
+    omega (arith, below)
+
+pub abs_span : (z : ℤ) (n : ℕ) → negsuc n ≤ℤ z → z ≤ℤ pos (suc n) → unsigned_abs z ≤ suc n
+abs_span (pos a) n least most = omega (arith, ints, most)
+abs_span (negsuc a) n least most = omega (arith, ints, least)
+
+pub zero_of_bits : (z : ℤ) (n : ℕ) → unsigned_abs z ≤ n → n < 2 ^ 63 → of_z w64 z ≡ 0 → z ≡ pos 0
+zero_of_bits z n h small e = sym (cast_small w64 z n h small) ∙ ap (to_z w64) e
+
+pub abs_plus : (x y : ℤ) (m n : ℕ) → unsigned_abs x ≤ m → unsigned_abs y ≤ n → unsigned_abs (x +ℤ y) ≤ m + n
+abs_plus x y m n h k = omega (arith, ints, h, k)
+
+pub abs_minus : (x y : ℤ) (m n : ℕ) → unsigned_abs x ≤ m → unsigned_abs y ≤ n → unsigned_abs (x -ℤ y) ≤ m + n
+abs_minus x y m n h k = omega (arith, ints, h, k)
+
+pub pos_abs : (z : ℤ) → pos 0 ≤ℤ z → pos (unsigned_abs z) ≡ z
+pos_abs (pos n) h = refl
+pos_abs (negsuc n) h = absurd (omega (arith, ints, h))
+
+pub abs_onto : (z : ℤ) (n : ℕ) → pos 0 ≤ℤ z → z <ℤ pos n → unsigned_abs z ≤ n
+abs_onto z n least below = abs_below z n least (omega (arith, ints, below))

@@ -1,0 +1,36 @@
+-- What a station's curve that is ready says of its tide.
+use Rattle.std.proofs.Common.{◌≡◌, ℕ, ◌<◌, ◌≤◌, [], length, get_or, sym, ap, subst, ◌∙◌, arith}
+use Rattle.std.proofs.lemmas.List.{get_or-map, length-map}
+use Rattle.year_blend.specs.Places.{start_of}
+use Rattle.station_curve.specs.declared.years.Year.{Year}
+use Rattle.station_curve.specs.declared.curve.StationCurve.TheInside.{Inside}
+use Rattle.station_curve.specs.Waves.{Tide, amount_of, steepness_of}
+use Rattle.station_curve.specs.Limits.{IsGentle, most_amount, most_steepness}
+use Rattle.station_curve.specs.Inside.{tide_in, IsReady}
+use Rattle.station_curve.specs.Levels.{waves_in}
+
+-- a year as it is kept beside the tide's
+pub record IsYearOf (tide : Tide) (year : ℕ) (y : Year) : Type 0 where
+  pub start : y.start ≡ start_of tide.first_year year
+  pub waves : y.waves.items ≡ waves_in tide year
+  pub amount : amount_of y.waves.items ≤ most_amount
+  pub steepness : steepness_of y.waves.items ≤ most_steepness
+
+inside_year : (s : Inside) (year : ℕ) (y : Year) → IsReady s → year < length (tide_in s).years → y ≡ get_or s.years.items year y → IsYearOf (tide_in s) year y
+inside_year s year y ready in_list is =
+    let in_years : year < length s.years.items = omega (arith, length-map s.years.items (λ y. y.waves.items)) in
+    let waves : y.waves.items ≡ waves_in (tide_in s) year =
+    ap (λ y. y.waves.items) is ∙ sym (get_or-map (λ y. y.waves.items) s.years.items year y [] in_years) in
+    record {
+      start = ap (λ y. y.start) is ∙ ready.starts year y in_years;
+      waves = waves;
+      amount = rw waves (ready.gentle.amounts year [] in_list);
+      steepness = rw waves (ready.gentle.steepnesses year [] in_list);
+    }
+
+pub year_of : (s : Inside) (tide : Tide) (year : ℕ) (y : Year) → IsReady s → tide_in s ≡ tide → year < length tide.years → y ≡ get_or s.years.items year y → IsYearOf tide year y
+year_of s tide year y ready is in_list at =
+    subst (λ (t : Tide). year < length t.years → IsYearOf t year y) is (λ h. inside_year s year y ready h at) in_list
+
+pub gentle_of : (s : Inside) (tide : Tide) → IsReady s → tide_in s ≡ tide → IsGentle tide
+gentle_of s tide ready is = subst IsGentle is ready.gentle

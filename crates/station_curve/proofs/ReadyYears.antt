@@ -1,0 +1,59 @@
+-- One more year that is ready.
+use Rattle.std.proofs.Common.{◌≡◌, ℕ, zero, suc, ◌+◌, ◌-◌, ◌<◌, List, [], ◌∷◌, ◌++◌, length, get_or, length-append, Some, None, inl, inr, refl, ap, subst, ◌∙◌, add-one, add-zero, add-suc, arith}
+use Rattle.std.specs.Prelude.{filter}
+use Rattle.std.proofs.lemmas.List.{get_or_append_left}
+use Rattle.std.proofs.Math.Seq.{get_or-append_seam}
+use Rattle.std.proofs.lemmas.Bool.{cases_lt}
+use Rattle.harmonics_text.specs.declared.book.Station.{Station}
+use Rattle.harmonics_text.specs.declared.book.Book.{Book}
+use Rattle.year_blend.specs.Places.{start_of}
+use Rattle.station_curve.specs.declared.years.Year.{Year}
+use Rattle.station_curve.specs.declared.fault.CurveFault.{CurveFault}
+use Rattle.station_curve.specs.Curves.{waves_of, is_present, year_fault, first_fault}
+use Rattle.station_curve.specs.Prepared.{AreReady}
+
+-- the first fault
+pub none_more : (b : Book) (s : Station) (year : ℕ) → first_fault b s year ≡ None → year_fault b s year ≡ None → first_fault b s (year + 1) ≡ None
+unfolding first_fault
+none_more b s year before here = rw add-one (simp (before, here))
+
+pub some_more : (b : Book) (s : Station) (year : ℕ) (fault : CurveFault) → first_fault b s year ≡ None → year_fault b s year ≡ Some fault → first_fault b s (year + 1) ≡ Some fault
+unfolding first_fault
+some_more b s year fault before here = rw add-one (simp (before, here))
+
+stays : (b : Book) (s : Station) (year more : ℕ) (fault : CurveFault) → first_fault b s year ≡ Some fault → first_fault b s (year + more) ≡ Some fault
+unfolding first_fault
+stays b s year zero fault h = rw add-zero h
+stays b s year (suc more) fault h = rw add-suc (simp (stays b s year more fault h))
+
+pub fault_stays : (b : Book) (s : Station) (year years : ℕ) (fault : CurveFault) → first_fault b s (year + 1) ≡ Some fault → year < years → first_fault b s years ≡ Some fault
+fault_stays b s year years fault h below =
+    let all : (year + 1) + (years - (year + 1)) ≡ years = omega (arith, below) in
+    rw (← all) (stays b s (year + 1) (years - (year + 1)) fault h)
+
+pub ready_none : (b : Book) (s : Station) → AreReady b s 0 []
+unfolding first_fault
+ready_none b s = record {
+  counted = refl;
+  waves = λ k d h. absurd (omega (arith, h));
+  starts = λ k d h. absurd (omega (arith, h));
+  within = refl;
+}
+
+-- what holds of the years so far and of the last one holds of all
+last_too : (P : ℕ → Year → Type 0) (years : List Year) (y : Year) (count : ℕ) → length years ≡ count → ((k : ℕ) (d : Year) → k < count → P k (get_or years k d)) → P count y → (k : ℕ) (d : Year) → k < count + 1 → P k (get_or (years ++ y ∷ []) k d)
+last_too P years y count counted before last k d h =
+    elim (cases_lt k count) [
+      | inl below ↦ rw (get_or_append_left years (y ∷ []) d k (omega (arith, below, counted))) (before k d below)
+      | inr above ↦
+          let at : length years ≡ k = omega (arith, h, above, counted) in
+          subst (λ (i : ℕ). P i (get_or (years ++ y ∷ []) i d)) at (rw (get_or-append_seam years y [] d) (rw counted last))
+    ]
+
+pub ready_more : (b : Book) (s : Station) (year : ℕ) (years : List Year) (y : Year) → AreReady b s year years → year_fault b s year ≡ None → y.start ≡ start_of b.first_year year → y.waves.items ≡ filter is_present (waves_of b s year) → AreReady b s (year + 1) (years ++ y ∷ [])
+ready_more b s year years y ready fault start waves = record {
+  counted = length-append years (y ∷ []) ∙ ap (λ n. n + 1) ready.counted;
+  waves = last_too (λ k y. y.waves.items ≡ filter is_present (waves_of b s k)) years y year ready.counted ready.waves waves;
+  starts = last_too (λ k y. y.start ≡ start_of b.first_year k) years y year ready.counted ready.starts start;
+  within = none_more b s year ready.within fault;
+}

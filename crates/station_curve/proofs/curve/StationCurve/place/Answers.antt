@@ -1,0 +1,24 @@
+use Rattle.std.proofs.Common.{◌≡◌, length, ap, ◌∙◌, lit<}
+use Rattle.std.proofs.lemmas.Int.{to_z-of_z}
+use mir.Syntax.{w32, w64}
+use mir.Val.{to_z, of_z}
+use Rattle.station_curve.proofs.Near.{near_place}
+use Rattle.station_curve.proofs.Products.{cast_small, abs_within}
+use Rattle.station_curve.proofs.Ready.{gentle_of}
+use Rattle.station_curve.proofs.curve.StationCurve.place.Goals as goal
+
+pub returns-clause-value : goal.returns-clause-value
+returns-clause-value c =
+    let years = c.self.invariant.gentle.years in
+    let first : to_z w32 (of_z w32 c.self.inside.first_year) ≡ c.args.self.now.first_year =
+    cast_small w32 c.self.inside.first_year 8800 (abs_within c.self.inside.first_year 2 8800 years.least years.most) (lit< tt) ∙ ap (λ t. t.first_year) c.self.view_is in
+    rw (first, c.years.ensures, to_z-of_z w64 c.args.m c.ranges.m) at c.place.ensures.value
+
+pub returns-clause-near : goal.returns-clause-near
+returns-clause-near c =
+    let years = c.self.invariant.gentle.years in
+    let first : to_z w32 (of_z w32 c.self.inside.first_year) ≡ c.args.self.now.first_year =
+    cast_small w32 c.self.inside.first_year 8800 (abs_within c.self.inside.first_year 2 8800 years.least years.most) (lit< tt) ∙ ap (λ t. t.first_year) c.self.view_is in
+    near_place c.args.self.now.first_year (length c.args.self.now.years) c.args.m c.place.result
+    (gentle_of c.self.inside c.args.self.now c.self.invariant c.self.view_is).years.least
+    (rw (first, c.years.ensures, to_z-of_z w64 c.args.m c.ranges.m) at c.place.ensures.rule)

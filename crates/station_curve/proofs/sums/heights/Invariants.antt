@@ -1,0 +1,9 @@
+use Rattle.std.proofs.Common.{◌≡◌, ◌*◌, ◌^◌, ◌≤◌, take}
+use Rattle.std.specs.Prelude.{unsigned_abs}
+use Rattle.station_curve.specs.Waves.{heights_of, amount_of}
+use Rattle.station_curve.proofs.sums.heights.Given as goal
+
+abbrev pub invariant-loop-wave : goal.invariant-loop-wave
+invariant-loop-wave l =
+    let read = take l.wave-index l.waves in
+    record { value : l.sum ≡ heights_of l.minutes read; size : unsigned_abs l.sum ≤ 10 ^ 9 * amount_of read }

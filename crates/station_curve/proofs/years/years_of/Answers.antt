@@ -1,0 +1,32 @@
+use Rattle.std.proofs.Common.{◌≡◌, pos, ◌+ℤ◌, inr, ◌∙◌, arith, lit<}
+use Rattle.std.proofs.lemmas.Int.{ints}
+use mir.Syntax.{w32, w64}
+use mir.Val.{to_z, of_z}
+use Rattle.year_blend.specs.Places.{start_of}
+use Rattle.year_blend.proofs.YearLemmas.{year_start_of_size}
+use Rattle.station_curve.proofs.Products.{cast_small}
+use Rattle.station_curve.proofs.ReadyYears.{ready_none, ready_more, some_more, fault_stays}
+use Rattle.station_curve.proofs.years.years_of.Goals as goal
+
+pub loop-year-init : goal.loop-year-init
+loop-year-init c = rw c.new-years.ensures.items (ready_none c.args.book.now c.args.station.now)
+
+pub loop-year-preserved : goal.loop-year-preserved
+loop-year-preserved c =
+    let b = c.args.book.now in
+    let year = c.loop-year.year in
+    let first = c.requires.book.first_year in
+    let few = c.requires.book.few_years in
+    let below = c.loop-year-test.true in
+    let calendar : to_z w32 (of_z w32 (to_z w32 (of_z w32 b.first_year) +ℤ to_z w32 year)) ≡ b.first_year +ℤ pos year =
+    omega (arith, ints, first.least, first.most, few, below) in
+    let is_start : c.year_start-start.result ≡ start_of b.first_year year = rw calendar at c.year_start-start.ensures in
+    let size = year_start_of_size (b.first_year +ℤ pos year) (record { least = omega (arith, ints, first.least); most = omega (arith, ints, first.most, few, below) }) in
+    let small : to_z w64 (of_z w64 c.year_start-start.result) ≡ c.year_start-start.result =
+    rw is_start (cast_small w64 (start_of b.first_year year) 4000000000 (omega (arith, size)) (lit< tt)) in
+    rw c.in_ok-push.ensures.items (ready_more b c.args.station.now year c.loop-year.years.items _ c.loop-year.invariant c.in_default.ensures (small ∙ is_start) c.in_ok-waves.ensures)
+
+pub returns-in-Err : goal.returns-in-Err
+returns-in-Err c =
+    inr (fault_stays c.args.book.now c.args.station.now c.loop-year.year c.args.book.now.years c.in-Err.fault
+    (some_more c.args.book.now c.args.station.now c.loop-year.year c.in-Err.fault c.loop-year.invariant.within c.in-Err.ensures) c.loop-year-test.true)

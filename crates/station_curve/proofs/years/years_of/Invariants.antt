@@ -1,0 +1,5 @@
+use Rattle.station_curve.specs.Prepared.{AreReady}
+use Rattle.station_curve.proofs.years.years_of.Given as goal
+
+abbrev pub invariant-loop-year : goal.invariant-loop-year
+invariant-loop-year l = AreReady l.book l.station l.year l.years.items

@@ -1,0 +1,78 @@
+-- Which curve a station has, and why it may have none (this project).
+use Rattle.std.specs.Prelude.{◌≡◌, ℕ, zero, suc, ◌==◌, nat_lt, not, Bool, true, false, if◌then◌else◌, List, map, filter, Option, Some, None, Result, Ok, Err, ℤ, pos, ◌+ℤ◌, ◌-ℤ◌, unsigned_abs}
+use Rattle.std.specs.List.{range_with_len}
+use Rattle.std.specs.Option.{option_or}
+use Rattle.harmonics_text.specs.declared.book.Units.{Units}
+use Rattle.harmonics_text.specs.declared.book.Units.TheVariants.{Feet, Meters, Knots, KnotsSquared}
+use Rattle.harmonics_text.specs.declared.book.Station.{Station}
+use Rattle.harmonics_text.specs.declared.book.Book.{Book}
+use Rattle.year_blend.specs.Places.{start_of, InDomain}
+use Rattle.station_curve.specs.declared.fault.CurveFault.{CurveFault}
+use Rattle.station_curve.specs.declared.fault.CurveFault.TheVariants.{Hydraulic, TooLarge, TooSteep, NoMemory}
+use Rattle.station_curve.specs.Waves.{Harmonic, Tide, amount_of, steepness_of}
+use Rattle.station_curve.specs.Levels.{level_of, slope_of, millionths_of}
+use Rattle.station_curve.specs.Limits.{most_amount, most_steepness}
+use Rattle.station_curve.specs.Schureman.{constituents_of, speed_of, amplitude_of, phase_of, predicted_level, predicted_slope, predicted_millionths}
+
+-- a constituent in a year
+abbrev pub wave_of : Book → Station → ℕ → ℕ → Harmonic
+wave_of b s year k = record {
+  amplitude = amplitude_of b s year k;
+  speed = unsigned_abs (speed_of b k);
+  phase = phase_of b s year (start_of b.first_year year -ℤ pos 60) k;
+}
+
+-- every constituent's, absent ones included
+unfoldable pub waves_of : Book → Station → ℕ → List Harmonic
+waves_of b s year = map (wave_of b s year) (constituents_of b)
+
+abbrev pub is_present : Harmonic → Bool
+is_present h = not (unsigned_abs h.amplitude == 0)
+
+-- the tide of all years, without waves that have no amplitude
+unfoldable pub tide_of : Book → Station → Tide
+tide_of b s = record {
+  first_year = b.first_year;
+  datum = s.datum;
+  years = map (λ year. filter is_present (waves_of b s year)) (range_with_len 0 b.years);
+}
+
+-- what is beyond the limits in a year
+unfoldable pub year_fault : Book → Station → ℕ → Option CurveFault
+year_fault b s year =
+    if nat_lt most_amount (amount_of (waves_of b s year)) then Some (TooLarge (b.first_year +ℤ pos year))
+    else if nat_lt most_steepness (steepness_of (waves_of b s year)) then Some (TooSteep (b.first_year +ℤ pos year))
+    else None
+
+-- the first that is found in the first years, that many
+unfoldable pub first_fault : Book → Station → ℕ → Option CurveFault
+first_fault b s zero = None
+first_fault b s (suc year) = option_or (first_fault b s year) (year_fault b s year)
+
+-- a current whose speed is the root of what the constants give
+abbrev pub is_hydraulic : Units → Bool
+is_hydraulic KnotsSquared = true
+is_hydraulic Feet = false
+is_hydraulic Meters = false
+is_hydraulic Knots = false
+
+abbrev pub tide_or : Tide → Option CurveFault → Result Tide CurveFault
+tide_or tide None = Ok tide
+tide_or tide (Some fault) = Err fault
+
+unfoldable pub curve_of : Book → Station → Result Tide CurveFault
+curve_of b s = if is_hydraulic s.units then Err Hydraulic else tide_or (tide_of b s) (first_fault b s b.years)
+
+-- the expected answer, or want of memory
+abbrev pub Gives : Result Tide CurveFault → Result Tide CurveFault → Type 0
+Gives expected (Ok tide) = expected ≡ Ok tide
+Gives expected (Err NoMemory) = Unit {0}
+Gives expected (Err Hydraulic) = expected ≡ Err Hydraulic
+Gives expected (Err (TooLarge year)) = expected ≡ Err (TooLarge year)
+Gives expected (Err (TooSteep year)) = expected ≡ Err (TooSteep year)
+
+-- the tide has the station's level and slope at each minute, by every constituent of the book
+pub record Predicts (b : Book) (s : Station) (tide : Tide) : Type 0 where
+  pub level : (m : ℤ) → InDomain b.first_year b.years m → level_of tide m ≡ predicted_level b s m
+  pub slope : (m : ℤ) → InDomain b.first_year b.years m → slope_of tide m ≡ predicted_slope b s m
+  pub millionths : (m : ℤ) → InDomain b.first_year b.years m → millionths_of tide m ≡ predicted_millionths b s m

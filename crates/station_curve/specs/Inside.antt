@@ -1,0 +1,15 @@
+-- What a station's curve keeps.
+use Rattle.std.specs.Prelude.{◌≡◌, ℕ, ◌<◌, length, map, slice_index_or}
+use Rattle.year_blend.specs.Places.{start_of}
+use Rattle.station_curve.specs.declared.years.Year.{Year}
+use Rattle.station_curve.specs.declared.curve.StationCurve.TheInside.{Inside}
+use Rattle.station_curve.specs.Waves.{Tide}
+use Rattle.station_curve.specs.Limits.{IsGentle}
+
+-- the tide of its years
+abbrev pub tide_in : Inside → Tide
+tide_in s = record { first_year = s.first_year; datum = s.datum; years = map (λ y. y.waves.items) s.years.items }
+
+pub record IsReady (s : Inside) : Type 0 where
+  pub gentle : IsGentle (tide_in s)
+  pub starts : (k : ℕ) (d : Year) → k < length s.years.items → (slice_index_or s.years.items k d).start ≡ start_of s.first_year k

@@ -1,0 +1,50 @@
+-- Level and slope of a tide at each minute of its years (Schureman, Special Publication 98; the blend at a new year is this project's).
+use Rattle.std.specs.Prelude.{ℕ, ◌-◌, ◌*◌, ◌^◌, List, [], length, ℤ, pos, neg_ℤ, ◌+ℤ◌, ◌-ℤ◌, ◌*ℤ◌, unsigned_abs, slice_index_or}
+use Rattle.decimal_text.specs.Rounding.{rounded_of}
+use Rattle.fixed_sine.specs.Circle.{radian}
+use Rattle.year_blend.specs.declared.parts.Place.{Place}
+use Rattle.year_blend.specs.declared.parts.Place.TheVariants.{Plain, Blend}
+use Rattle.year_blend.specs.Places.{start_of, place_of}
+use Rattle.year_blend.specs.Weights.{total_weight, weight_of, weight_slope_of}
+use Rattle.station_curve.specs.Waves.{Harmonic, Tide, heights_of, falls_of}
+
+-- minutes since an hour before the year began
+abbrev pub minutes_into : ℤ → ℕ → ℤ → ℕ
+minutes_into first_year year m = unsigned_abs ((m -ℤ start_of first_year year) +ℤ pos 60)
+
+-- a value in the plain part of a year, and both years' values by their weights in a blend
+abbrev pub blended : (ℕ → ℤ) → Place → ℤ
+blended value (Plain year) = pos total_weight *ℤ value year
+blended value (Blend year x) =
+    ((pos total_weight -ℤ weight_of x) *ℤ value (year - 1)) +ℤ (weight_of x *ℤ value year)
+
+-- what the moving weight adds to the slope
+abbrev pub drift : (ℕ → ℤ) → Place → ℤ
+drift level (Plain year) = pos 0
+drift level (Blend year x) =
+    (weight_slope_of x *ℤ pos radian) *ℤ (level year -ℤ level (year - 1))
+
+abbrev pub waves_in : Tide → ℕ → List Harmonic
+waves_in tide year = slice_index_or tide.years year []
+
+-- by one year's constants, in billionths of a millionth
+unfoldable pub year_level : Tide → ℤ → ℕ → ℤ
+year_level tide m year =
+    (pos (10 ^ 9) *ℤ tide.datum) +ℤ heights_of (minutes_into tide.first_year year m) (waves_in tide year)
+
+unfoldable pub year_slope : Tide → ℤ → ℕ → ℤ
+year_slope tide m year = neg_ℤ (falls_of (minutes_into tide.first_year year m) (waves_in tide year))
+
+abbrev pub place_in_tide : Tide → ℤ → Place
+place_in_tide tide m = place_of tide.first_year (length tide.years) m
+
+unfoldable pub level_of : Tide → ℤ → ℤ
+level_of tide m = blended (year_level tide m) (place_in_tide tide m)
+
+unfoldable pub slope_of : Tide → ℤ → ℤ
+slope_of tide m =
+    blended (year_slope tide m) (place_in_tide tide m) +ℤ drift (year_level tide m) (place_in_tide tide m)
+
+-- the level in whole millionths of the station's unit
+unfoldable pub millionths_of : Tide → ℤ → ℤ
+millionths_of tide m = rounded_of (level_of tide m) (total_weight * 10 ^ 9)

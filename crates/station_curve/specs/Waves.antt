@@ -1,0 +1,43 @@
+-- A tide as a sum of waves, one for each constituent (Schureman, Special Publication 98).
+use Rattle.std.specs.Prelude.{ℕ, ◌+◌, ◌*◌, ◌%◌, List, ℤ, pos, ◌+ℤ◌, ◌*ℤ◌, unsigned_abs, fold, sum_by}
+use Rattle.fixed_sine.specs.Circle.{circle}
+use Rattle.fixed_sine.specs.Sine.{isin_of, icos_of}
+
+-- a constituent in one year at one station: its amplitude in millionths of the station's unit, the units of the circle
+-- that it advances a minute, and where on the circle it stands an hour before the year begins
+pub record Harmonic : Type 0 where
+  pub amplitude : ℤ
+  pub speed : ℕ
+  pub phase : ℕ
+
+-- where it stands t minutes later
+abbrev pub phase_at : Harmonic → ℕ → ℕ
+phase_at h t = (h.phase + h.speed * t) % circle
+
+-- its part of the level, in billionths of a millionth
+abbrev pub height_at : ℕ → Harmonic → ℤ
+height_at t h = h.amplitude *ℤ icos_of (phase_at h t)
+
+-- how much it takes off the level a minute, in the same unit and for one unit of the circle
+abbrev pub fall_at : ℕ → Harmonic → ℤ
+fall_at t h = (h.amplitude *ℤ pos h.speed) *ℤ isin_of (phase_at h t)
+
+abbrev pub heights_of : ℕ → List Harmonic → ℤ
+heights_of t hs = fold (λ sum h. sum +ℤ height_at t h) (pos 0) hs
+
+abbrev pub falls_of : ℕ → List Harmonic → ℤ
+falls_of t hs = fold (λ sum h. sum +ℤ fall_at t h) (pos 0) hs
+
+-- the sum of the amplitudes' sizes
+abbrev pub amount_of : List Harmonic → ℕ
+amount_of hs = sum_by (λ h. unsigned_abs h.amplitude) hs
+
+-- the sum of each size times the speed
+abbrev pub steepness_of : List Harmonic → ℕ
+steepness_of hs = sum_by (λ h. unsigned_abs h.amplitude * h.speed) hs
+
+-- the waves of each year from the first on, and the mean level in millionths of the unit
+pub record Tide : Type 0 where
+  pub first_year : ℤ
+  pub datum : ℤ
+  pub years : List (List Harmonic)

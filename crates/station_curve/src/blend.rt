@@ -1,0 +1,50 @@
+//! How the values of two years make one in a blend.
+
+ghost use Rattle.std.specs.Prelude.{◌≡◌, ◌*◌, ◌^◌, ◌≤◌, pos, ◌+ℤ◌, ◌-ℤ◌, ◌*ℤ◌, ◌≤ℤ◌, unsigned_abs};
+ghost use Rattle.fixed_sine.specs.Circle.{radian};
+ghost use Rattle.year_blend.specs.Weights.{total_weight, weight_slope_of, IsNearNewYear};
+
+use fixed_sine::RADIAN;
+use year_blend::{TOTAL_WEIGHT, weight_slope};
+
+/// A value by its weight.
+pub fn weighted(weight: i64, value: i128) -> i128
+    requires value { unsigned_abs value ≤ 10 ^ 26 }
+    requires least { pos 0 ≤ℤ weight }
+    requires most { weight ≤ℤ pos total_weight }
+    ensures value { result ≡ weight *ℤ value }
+    ensures size { unsigned_abs result ≤ total_weight * 10 ^ 26 }
+{
+    i128::from(weight) * value
+}
+
+/// The values of the earlier and the later year by the weight of the later.
+pub fn mixed(earlier: i128, later: i128, weight: i64) -> i128
+    requires earlier { unsigned_abs earlier ≤ 10 ^ 26 }
+    requires later { unsigned_abs later ≤ 10 ^ 26 }
+    requires least { pos 0 ≤ℤ weight }
+    requires most { weight ≤ℤ pos total_weight }
+    ensures value { result ≡ ((pos total_weight -ℤ weight) *ℤ earlier) +ℤ (weight *ℤ later) }
+    ensures size { unsigned_abs result ≤ 2 * (total_weight * 10 ^ 26) }
+{
+    weighted(TOTAL_WEIGHT - weight, earlier) + weighted(weight, later)
+}
+
+/// What the moving weight adds to the slope, by how much higher the later year's level is.
+pub fn drift(change: i64, x: i64) -> i128
+    requires change { unsigned_abs change ≤ 2 * 10 ^ 18 }
+    requires near { IsNearNewYear x }
+    ensures value { result ≡ (weight_slope_of x *ℤ pos radian) *ℤ change }
+    ensures size { unsigned_abs result ≤ (64800000 * radian) * (2 * 10 ^ 18) }
+{
+    i128::from(weight_rise(x)) * i128::from(change)
+}
+
+/// How much the weight rises a minute, times the units of a radian.
+fn weight_rise(x: i64) -> i64
+    requires { IsNearNewYear x }
+    ensures value { result ≡ weight_slope_of x *ℤ pos radian }
+    ensures size { unsigned_abs result ≤ 64800000 * radian }
+{
+    weight_slope(x) * RADIAN
+}

@@ -1,0 +1,162 @@
+//! A station's constants in one year of a book.
+
+ghost use Rattle.std.specs.Prelude.{◌≡◌, ◌+◌, ◌*◌, ◌^◌, ◌<◌, ◌≤◌, length, filter, Some, None, MatchResult, IfOk, unsigned_abs, pos, ◌+ℤ◌, ◌-ℤ◌, ◌*ℤ◌};
+ghost use Rattle.decimal_text.specs.Rounding.{rounded_of};
+ghost use Rattle.fixed_sine.specs.Circle.{circle};
+ghost use Rattle.harmonics_text.specs.Books.{IsBook, IsStation};
+ghost use Rattle.year_blend.specs.Places.{start_of};
+ghost use Rattle.station_curve.specs.Waves.{amount_of, steepness_of};
+ghost use Rattle.station_curve.specs.Limits.{most_amount, most_steepness};
+ghost use Rattle.station_curve.specs.Schureman.{speed_of, amplitude_of, phase_of};
+ghost use Rattle.station_curve.specs.Curves.{waves_of, is_present, year_fault};
+
+use crate::fault::CurveFault;
+use crate::wave::Wave;
+use decimal_text::rounded;
+use fixed_sine::reduce;
+use harmonics_text::{Book, Station};
+use std::alloc::{AllocError, Global};
+
+/// The most that the amplitudes of a year may sum to.
+const MOST_AMOUNT: u64 = 1_000_000_000;
+
+/// The most that the amplitudes times the speeds of a year may sum to.
+const MOST_STEEPNESS: u128 = 100_000_000_000_000_000;
+
+/// Whether a year is within the limits.
+pub fn check_year(book: &Book, station: &Station, year: u32) -> Result<(), CurveFault>
+    requires book { IsBook book.now }
+    requires station { IsStation (length book.now.constituents) station.now }
+    requires year { year < book.now.years }
+    ensures { MatchResult result
+        (λ _. year_fault book.now station.now year ≡ None)
+        (λ fault. year_fault book.now station.now year ≡ Some fault) }
+{
+    let (amount, steepness) = sums(book, station, year);
+    let year = book.first_year + year as i32;
+    if amount > MOST_AMOUNT {
+        return Err(CurveFault::TooLarge { year });
+    }
+    if steepness > MOST_STEEPNESS {
+        return Err(CurveFault::TooSteep { year });
+    }
+    Ok(())
+}
+
+/// The sum of the amplitudes' sizes in a year, and of each size times the speed.
+fn sums(book: &Book, station: &Station, year: u32) -> (u64, u128)
+    requires book { IsBook book.now }
+    requires station { IsStation (length book.now.constituents) station.now }
+    requires year { year < book.now.years }
+    ensures amount { result.0 ≡ amount_of (waves_of book.now station.now year) }
+    ensures steepness { result.1 ≡ steepness_of (waves_of book.now station.now year) }
+{
+    let mut amount = 0;
+    let mut steepness = 0;
+    for k in 0..book.constituents.as_slice().len() {
+        let size = amplitude(book, station, year, k).unsigned_abs();
+        amount += size;
+        steepness += u128::from(size) * u128::from(speed(book, k));
+    }
+    (amount, steepness)
+}
+
+/// The waves of a year within the limits, those without amplitude left out.
+pub fn year_waves(
+    alloc: Global,
+    book: &Book,
+    station: &Station,
+    year: u32,
+) -> Result<Vec<Wave>, AllocError>
+    requires book { IsBook book.now }
+    requires station { IsStation (length book.now.constituents) station.now }
+    requires year { year < book.now.years }
+    requires within { year_fault book.now station.now year ≡ None }
+    ensures { IfOk result (λ waves. waves.items ≡ filter is_present (waves_of book.now station.now year)) }
+{
+    let mut waves = Vec::new(alloc);
+    for k in 0..book.constituents.as_slice().len() {
+        let amplitude = amplitude(book, station, year, k);
+        if amplitude != 0 {
+            waves.push(Wave::new(amplitude, speed(book, k), phase(book, station, year, k)))?;
+        }
+    }
+    Ok(waves)
+}
+
+/// A constituent's amplitude in a year, in millionths.
+fn amplitude(book: &Book, station: &Station, year: u32, k: usize) -> i64
+    requires book { IsBook book.now }
+    requires station { IsStation (length book.now.constituents) station.now }
+    requires year { year < book.now.years }
+    requires place { k < length book.now.constituents }
+    ensures value { result ≡ amplitude_of book.now station.now year k }
+    ensures size { unsigned_abs result ≤ 10 ^ 11 }
+{
+    let amplitude = station.amplitude.as_slice()[k];
+    if amplitude == 0 {
+        return 0;
+    }
+    let factor = book.factors.as_slice()[place_in_table(book, year, k)];
+    effective(amplitude, factor)
+}
+
+/// An amplitude times a node factor, in millionths.
+fn effective(amplitude: i64, factor: i64) -> i64
+    requires amplitude { unsigned_abs amplitude ≤ 10 ^ 10 }
+    requires factor { unsigned_abs factor ≤ 10 ^ 7 }
+    ensures value { result ≡ rounded_of (amplitude *ℤ factor) 1000000 }
+    ensures size { unsigned_abs result ≤ 10 ^ 11 }
+{
+    rounded(i128::from(amplitude * factor), 1_000_000) as i64
+}
+
+/// Where a table of all years has a constituent's value of a year.
+fn place_in_table(book: &Book, year: u32, k: usize) -> usize
+    requires book { IsBook book.now }
+    requires year { year < book.now.years }
+    requires place { k < length book.now.constituents }
+    ensures value { result ≡ k * book.now.years + year }
+    ensures within { result < length book.now.constituents * book.now.years }
+{
+    k * book.years as usize + year as usize
+}
+
+/// A constituent's speed, in units of the circle a minute.
+fn speed(book: &Book, k: usize) -> u64
+    requires book { IsBook book.now }
+    requires place { k < length book.now.constituents }
+    ensures value { pos result ≡ speed_of book.now k }
+    ensures size { result ≤ 3600000000 }
+{
+    let constituent = &book.constituents.as_slice()[k];
+    constituent.speed as u64
+}
+
+/// Where on the circle a constituent stands an hour before a year.
+fn phase(book: &Book, station: &Station, year: u32, k: usize) -> u64
+    requires book { IsBook book.now }
+    requires station { IsStation (length book.now.constituents) station.now }
+    requires year { year < book.now.years }
+    requires place { k < length book.now.constituents }
+    ensures value { result ≡ phase_of book.now station.now year (start_of book.now.first_year year -ℤ pos 60) k }
+    ensures turn { result < circle }
+{
+    let argument = book.angles.as_slice()[place_in_table(book, year, k)];
+    let epoch = station.epoch.as_slice()[k];
+    let minutes = i64::from(station.meridian) - 60;
+    let angle = angle(speed(book, k) as i64, minutes, argument, epoch);
+    reduce(i128::from(angle)) as u64
+}
+
+/// The angle of a constituent by its speed, the minutes, the year's argument and the epoch.
+fn angle(speed: i64, minutes: i64, argument: i64, epoch: i64) -> i64
+    requires speed { unsigned_abs speed ≤ 3600000000 }
+    requires minutes { unsigned_abs minutes ≤ 1100 }
+    requires argument { unsigned_abs argument ≤ 7200000000 }
+    requires epoch { unsigned_abs epoch ≤ 7200000000 }
+    ensures value { result ≡ (speed *ℤ minutes) +ℤ (pos 60 *ℤ (argument -ℤ epoch)) }
+    ensures size { unsigned_abs result ≤ 10 ^ 13 }
+{
+    speed * minutes + 60 * (argument - epoch)
+}

@@ -1,0 +1,234 @@
+//! The level and the slope of a station at each minute of a book's years.
+
+ghost use Rattle.std.specs.Prelude.{◌≡◌, ℕ, ◌+◌, ◌*◌, ◌^◌, ◌<◌, ◌≤◌, length, pos, ◌+ℤ◌, ◌*ℤ◌, unsigned_abs, IfOk, IfSome, slice_get};
+ghost use Rattle.harmonics_text.specs.Books.{IsBook, IsStation};
+ghost use Rattle.station_curve.specs.Curves.{is_hydraulic};
+ghost use Rattle.year_blend.specs.Years.{year_start_of};
+ghost use Rattle.year_blend.specs.Places.{InDomain};
+ghost use Rattle.year_blend.specs.Weights.{total_weight};
+
+use crate::blend::{drift, mixed, weighted};
+use crate::fault::CurveFault;
+use crate::sums::{falls, heights};
+use crate::years::{Year, years_of};
+use decimal_text::rounded;
+use harmonics_text::{Book, Station, Units};
+use std::alloc::{AllocError, Global};
+use std::marker::Model;
+use year_blend::{Place, TOTAL_WEIGHT, place, weight, year_start};
+
+/// The level and the slope of a station at each minute of a book's years.
+///
+/// Levels are in billionths of a millionth of the station's unit, times the weights of a blend
+/// ([`TOTAL_WEIGHT`]); slopes are how much such a level rises in a minute, times the units of a
+/// radian. No call but `new` takes memory.
+#[derive(Debug, Drop)]
+pub struct StationCurve {
+    first_year: i32,
+    datum: i64,
+    years: Vec<Year>,
+}
+
+/// Billionths of a millionth in a millionth.
+const BILLION: i128 = 1_000_000_000;
+
+impl Model for StationCurve {
+    ghost use Rattle.station_curve.specs.Waves.{Tide};
+
+    ghost Value = { Tide };
+
+    ghost use Rattle.station_curve.specs.Inside.{tide_in, IsReady};
+
+    ghost view = { tide_in };
+
+    ghost invariant = { IsReady };
+}
+
+impl StationCurve {
+    ghost use Rattle.station_curve.specs.Curves.{tide_of, curve_of, Gives, Predicts};
+    ghost use Rattle.station_curve.specs.Prepared.{AreReady};
+    ghost use Rattle.station_curve.specs.Waves.{heights_of, falls_of};
+    ghost use Rattle.station_curve.specs.Limits.{IsGentle, IsNear, IsNearPlace};
+    ghost use Rattle.station_curve.specs.Levels.{minutes_into, waves_in, place_in_tide, year_level, year_slope, level_of, slope_of, millionths_of};
+
+    /// The curve of a station by its place in the book's list.
+    ///
+    /// A hydraulic current has none. Then the years are gone through in order, and the first one
+    /// beyond a limit is named: a year too large before a year too steep.
+    pub fn new(alloc: Global, book: &Book, station: u32) -> Result<StationCurve, CurveFault>
+        requires book { IsBook book.now }
+        requires station { station < length book.now.stations }
+        ensures exact { IfSome (slice_get book.now.stations station) (λ s. Gives (curve_of book.now s) result) }
+        ensures predicts { IfSome (slice_get book.now.stations station) (λ s.
+            IfOk result (λ tide. Predicts book.now s tide)) }
+    {
+        let place = &book.stations.as_slice()[station as usize];
+        StationCurve::of_station(alloc, book, place)
+    }
+
+    /// The curve of a station.
+    fn of_station(alloc: Global, book: &Book, station: &Station) -> Result<StationCurve, CurveFault>
+        requires book { IsBook book.now }
+        requires station { IsStation (length book.now.constituents) station.now }
+        ensures exact { Gives (curve_of book.now station.now) result }
+        ensures predicts { IfOk result (λ tide. Predicts book.now station.now tide) }
+    {
+        if is_hydraulic(station.units) {
+            return Err(CurveFault::Hydraulic);
+        }
+        match years_of(alloc, book, station) {
+            Ok(years) => Ok(StationCurve::of_years(book, station, years)),
+            Err(fault) => Err(fault),
+        }
+    }
+
+    /// The curve of a station with the waves of all years.
+    fn of_years(book: &Book, station: &Station, years: Vec<Year>) -> StationCurve
+        requires book { IsBook book.now }
+        requires station { IsStation (length book.now.constituents) station.now }
+        requires years { AreReady book.now station.now book.now.years years.items }
+        ensures { result ≡ tide_of book.now station.now }
+    {
+        StationCurve {
+            first_year: book.first_year,
+            datum: station.datum,
+            years,
+        }
+    }
+
+    /// The first minute that it tells.
+    pub fn first(&self) -> i64
+        ensures { result ≡ year_start_of self.now.first_year }
+    {
+        year_start(self.first_year)
+    }
+
+    /// The last minute that it tells.
+    pub fn last(&self) -> i64
+        ensures { result ≡ year_start_of (self.now.first_year +ℤ pos (length self.now.years)) }
+    {
+        year_start(self.first_year + self.years.len() as i32)
+    }
+
+    /// The book's first year.
+    pub fn first_year(&self) -> i32
+        ensures { result ≡ self.now.first_year }
+    {
+        self.first_year
+    }
+
+    /// How many years the book has.
+    pub fn years(&self) -> u32
+        ensures { result ≡ length self.now.years }
+    {
+        self.years.len() as u32
+    }
+
+    /// That the tide is within the limits, for those who prove that their numbers fit.
+    pub fn known(&self)
+        ensures { IsGentle self.now }
+    {
+        let _years = &self.years;
+    }
+
+    /// The level at a minute, from the first to the last.
+    pub fn level(&self, m: i64) -> i128
+        requires { InDomain self.now.first_year (length self.now.years) m }
+        ensures value { result ≡ level_of self.now m }
+        ensures size { unsigned_abs result ≤ total_weight * (11 * 10 ^ 18) }
+    {
+        match self.place(m) {
+            Place::Plain { year } => weighted(TOTAL_WEIGHT, self.year_level(year, m)),
+            Place::Blend { year, x } => mixed(
+                self.year_level(year - 1, m),
+                self.year_level(year, m),
+                weight(x),
+            ),
+        }
+    }
+
+    /// The slope at a minute, from the first to the last.
+    pub fn slope(&self, m: i64) -> i128
+        requires { InDomain self.now.first_year (length self.now.years) m }
+        ensures value { result ≡ slope_of self.now m }
+        ensures size { unsigned_abs result < 10 ^ 37 }
+    {
+        match self.place(m) {
+            Place::Plain { year } => weighted(TOTAL_WEIGHT, self.year_slope(year, m)),
+            Place::Blend { year, x } => {
+                let change = self.year_heights(year, m) - self.year_heights(year - 1, m);
+                mixed(
+                    self.year_slope(year - 1, m),
+                    self.year_slope(year, m),
+                    weight(x),
+                ) + drift(change, x)
+            }
+        }
+    }
+
+    /// The level at a minute in whole millionths of the station's unit, a half away from 0.
+    pub fn millionths(&self, m: i64) -> i64
+        requires { InDomain self.now.first_year (length self.now.years) m }
+        ensures value { result ≡ millionths_of self.now m }
+        ensures size { unsigned_abs result ≤ 11 * 10 ^ 9 }
+    {
+        rounded(self.level(m), TOTAL_WEIGHT as u64 * 1_000_000_000) as i64
+    }
+
+    /// The place of a minute among the years.
+    fn place(&self, m: i64) -> Place
+        requires { InDomain self.now.first_year (length self.now.years) m }
+        ensures value { result ≡ place_in_tide self.now m }
+        ensures near { IsNearPlace self.now.first_year (length self.now.years) m result }
+    {
+        place(self.first_year, self.years(), m)
+    }
+
+    /// The level by one year's constants.
+    fn year_level(&self, year: u32, m: i64) -> i128
+        requires year { year < length self.now.years }
+        requires near { IsNear self.now.first_year year m }
+        ensures value { result ≡ year_level self.now m year }
+        ensures size { unsigned_abs result ≤ 11 * 10 ^ 18 }
+    {
+        mean_level(self.datum) + i128::from(self.year_heights(year, m))
+    }
+
+    /// The slope by one year's constants.
+    fn year_slope(&self, year: u32, m: i64) -> i128
+        requires year { year < length self.now.years }
+        requires near { IsNear self.now.first_year year m }
+        ensures value { result ≡ year_slope self.now m year }
+        ensures size { unsigned_abs result ≤ 10 ^ 26 }
+    {
+        let year = &self.years[year as usize];
+        -falls(year.waves.as_slice(), year.minutes_to(m))
+    }
+
+    /// The sum of one year's waves.
+    fn year_heights(&self, year: u32, m: i64) -> i64
+        requires year { year < length self.now.years }
+        requires near { IsNear self.now.first_year year m }
+        ensures value { result ≡ heights_of (minutes_into self.now.first_year year m) (waves_in self.now year) }
+        ensures size { unsigned_abs result ≤ 10 ^ 18 }
+    {
+        let year = &self.years[year as usize];
+        heights(year.waves.as_slice(), year.minutes_to(m))
+    }
+}
+
+/// The mean level of every minute.
+fn mean_level(datum: i64) -> i128
+    requires { unsigned_abs datum ≤ 10 ^ 10 }
+    ensures value { result ≡ pos (10 ^ 9) *ℤ datum }
+    ensures size { unsigned_abs result ≤ 10 ^ 19 }
+{
+    BILLION * i128::from(datum)
+}
+
+/// Whether a current's speed is the root of what the constants give.
+fn is_hydraulic(units: Units) -> bool
+    ensures { result ≡ is_hydraulic units }
+{
+    matches!(units, Units::KnotsSquared)
+}

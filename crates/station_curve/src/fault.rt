@@ -1,0 +1,45 @@
+//! Why a station has no curve.
+
+ghost use Rattle.std.specs.Prelude.{◌≡◌};
+
+use std::alloc::{AllocError, AllocFailed};
+use thiserror::Error;
+
+/// Why a station has no curve.
+#[derive(Clone, Copy, Debug, PartialEq, Eq, Error)]
+pub enum CurveFault {
+    /// Its unit is `knots^2`.
+    #[error("a hydraulic current")]
+    Hydraulic,
+    /// The sizes of the amplitudes sum to more than 1,000,000,000 in that calendar year, and in none
+    /// before it.
+    #[error("too large in {year}")]
+    TooLarge { year: i32 },
+    /// The sizes times the speeds sum to more than 10^17 in that calendar year, and in none before it.
+    #[error("too steep in {year}")]
+    TooSteep { year: i32 },
+    #[error("no memory")]
+    NoMemory,
+}
+
+impl From<AllocError> for CurveFault {
+    ghost use Rattle.std.specs.Prelude.{◌≡◌};
+    ghost use Rattle.station_curve.specs.declared.fault.CurveFault.TheVariants.{NoMemory};
+
+    ghost from_gives = { λ _ e. e ≡ NoMemory };
+
+    fn from(_error: AllocError) -> CurveFault {
+        CurveFault::NoMemory
+    }
+}
+
+impl<T: Drop> From<AllocFailed<T>> for CurveFault {
+    ghost use Rattle.std.specs.Prelude.{◌≡◌};
+    ghost use Rattle.station_curve.specs.declared.fault.CurveFault.TheVariants.{NoMemory};
+
+    ghost from_gives = { λ _ e. e ≡ NoMemory };
+
+    fn from(_error: AllocFailed<T>) -> CurveFault {
+        CurveFault::NoMemory
+    }
+}

@@ -1,0 +1,22 @@
+//! The tide of a station: level and slope at each minute of a book's years.
+//!
+//! A [`StationCurve`] is made of a book and the place of one of its stations. It is the sum of
+//! waves that Schureman's Special Publication 98 predicts by, in whole numbers: one wave for each
+//! constituent, by the constants of the year, and a smooth blend of both years at a new year.
+#![tactic(auto)]
+
+mod blend;
+mod constants;
+mod curve;
+mod fault;
+mod laws;
+mod sums;
+mod wave;
+mod years;
+
+pub use curve::StationCurve;
+pub use fault::CurveFault;
+pub use laws::{worked_limits, worked_waves};
+
+#[cfg(test)]
+mod tests;

@@ -1,0 +1,34 @@
+//! Sums over the waves of a year.
+
+ghost use Rattle.std.specs.Prelude.{◌≡◌, ◌*◌, ◌^◌, ◌≤◌, unsigned_abs};
+ghost use Rattle.station_curve.specs.Waves.{heights_of, falls_of, amount_of, steepness_of};
+
+use crate::wave::Wave;
+
+/// The sum of the waves' heights.
+pub fn heights(waves: &[Wave], minutes: u64) -> i64
+    requires time { minutes ≤ 600000 }
+    requires amount { amount_of waves.now ≤ 10 ^ 9 }
+    ensures value { result ≡ heights_of minutes waves.now }
+    ensures size { unsigned_abs result ≤ 10 ^ 18 }
+{
+    let mut sum = 0;
+    for wave in waves {
+        sum += wave.height(minutes);
+    }
+    sum
+}
+
+/// The sum of the waves' falls.
+pub fn falls(waves: &[Wave], minutes: u64) -> i128
+    requires time { minutes ≤ 600000 }
+    requires steepness { steepness_of waves.now ≤ 10 ^ 17 }
+    ensures value { result ≡ falls_of minutes waves.now }
+    ensures size { unsigned_abs result ≤ 10 ^ 26 }
+{
+    let mut sum = 0;
+    for wave in waves {
+        sum += wave.fall(minutes);
+    }
+    sum
+}

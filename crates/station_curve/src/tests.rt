@@ -1,0 +1,83 @@
+ghost use Rattle.std.specs.Prelude.{IfOk};
+ghost use Rattle.harmonics_text.specs.Books.{IsBook};
+
+use super::*;
+use harmonics_text::{Book, BookFault, read_book};
+use std::alloc::Global;
+use std::test::Fail;
+use year_blend::year_start;
+
+/// A book of one constituent, three years from 1999 and one station.
+fn pier(
+    alloc: Global,
+    speed: &str,
+    argument: &str,
+    amplitude: &str,
+    unit: &str,
+) -> Result<Book, BookFault>
+    ensures { IfOk result IsBook }
+{
+    let Ok(text) = format!(in alloc;
+        "1\nS2 {speed}\n1999\n3\nS2\n0 {argument} {argument}\n*END*\n3\nS2\n1 1 1\n*END*\nPier\n0:00 :UTC\n0 {unit}\nS2 {amplitude} 0\n"
+    ) else {
+        return Err(BookFault::NoMemory);
+    };
+    if text.len() > 1000 {
+        return Err(BookFault::NoMemory);
+    }
+    read_book(alloc, text.as_bytes())
+}
+
+/// The level at a minute, and whether it rises.
+fn told(curve: &StationCurve, m: i64) -> Option<(i64, bool)> {
+    let first = curve.first();
+    let last = curve.last();
+    if m < first || last < m {
+        return None;
+    }
+    Some((curve.millionths(m), curve.slope(m) > 0))
+}
+
+#[test]
+fn levels_round_a_new_year(rt: HostRuntime) -> Result<(), Fail> {
+    let book = pier(rt.alloc(), "30", "60", "1", "feet")?;
+    assert_eq!(rt; book.stations.as_slice().len(), 1);
+    let curve = StationCurve::new(rt.alloc(), &book, 0)?;
+    let rows = [
+        (15_777_960, 500_000, true),
+        (15_778_020, 866_025, true),
+        (15_778_047, 940_396, true),
+        (15_778_048, 940_281, false),
+        (15_778_080, 750_000, false),
+        (15_778_140, 0, false),
+        (15_778_200, -500_000, false),
+    ];
+    for (m, want, rising) in rows {
+        assert_eq!(rt; told(&curve, m), Some((want, rising)), "at {m}");
+    }
+    assert_eq!(rt; curve.first(), year_start(1999));
+    assert_eq!(rt; curve.last(), year_start(2002));
+    assert_eq!(rt; curve.first_year(), 1999);
+    assert_eq!(rt; curve.years(), 3);
+    Ok(())
+}
+
+#[test]
+fn limits(rt: HostRuntime) -> Result<(), Fail> {
+    let steep = Some(CurveFault::TooSteep { year: 1999 });
+    let large = Some(CurveFault::TooLarge { year: 1999 });
+    let rows = [
+        ("30", "333.333333", "feet", None),
+        ("30", "333.333334", "feet", steep),
+        ("10", "1000", "feet", None),
+        ("10", "1000.000001", "feet", large),
+        ("10", "1000.000001", "knots^2", Some(CurveFault::Hydraulic)),
+    ];
+    for (speed, amplitude, unit, want) in rows {
+        let book = pier(rt.alloc(), speed, "0", amplitude, unit)?;
+        assert_eq!(rt; book.stations.as_slice().len(), 1);
+        let made = StationCurve::new(rt.alloc(), &book, 0);
+        assert_eq!(rt; made.err(), want, "amplitude {amplitude}");
+    }
+    Ok(())
+}

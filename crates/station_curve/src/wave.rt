@@ -1,0 +1,79 @@
+//! A constituent in one year at one station.
+
+ghost use Rattle.std.specs.Prelude.{◌≡◌, ◌+◌, ◌*◌, ◌%◌, ◌^◌, ◌<◌, ◌≤◌, pos, ◌*ℤ◌, unsigned_abs};
+ghost use Rattle.fixed_sine.specs.Circle.{circle, IsOnCircle};
+ghost use Rattle.station_curve.specs.Waves.{Harmonic, phase_at, height_at, fall_at};
+
+use fixed_sine::{CIRCLE, icos, isin};
+use std::marker::Model;
+
+/// A constituent in one year at one station.
+#[derive(Debug, Drop)]
+pub struct Wave {
+    /// In millionths of the station's unit.
+    amplitude: i64,
+    /// In units of the circle a minute.
+    speed: u64,
+    /// The amplitude times the speed.
+    steepness: i64,
+    /// Where on the circle it stands an hour before the year begins.
+    phase: u64,
+}
+
+impl Model for Wave {
+    ghost use Rattle.std.specs.Prelude.{◌≡◌, ◌*◌, ◌^◌, ◌<◌, ◌≤◌, pos, ◌*ℤ◌, unsigned_abs};
+    ghost use Rattle.station_curve.specs.Waves.{Harmonic};
+    ghost use Rattle.station_curve.specs.Limits.{IsWave};
+
+    ghost Value = { Harmonic };
+
+    ghost view = { λ w. record { amplitude = w.amplitude; speed = w.speed; phase = w.phase } };
+
+    ghost invariant = { λ w. IsWave w.amplitude w.speed w.steepness w.phase };
+}
+
+impl Wave {
+    /// A constituent by its amplitude, its speed, and its phase an hour before the year.
+    pub fn new(amplitude: i64, speed: u64, phase: u64) -> Wave
+        requires amplitude { unsigned_abs amplitude ≤ 10 ^ 9 }
+        requires speed { speed ≤ 3600000000 }
+        requires steepness { unsigned_abs amplitude * speed ≤ 10 ^ 17 }
+        requires phase { phase < circle }
+        ensures { result ≡ record { amplitude = amplitude; speed = speed; phase = phase } }
+    {
+        Wave {
+            amplitude,
+            speed,
+            steepness: amplitude * speed as i64,
+            phase,
+        }
+    }
+
+    /// Its part of the level, `minutes` after an hour before the year.
+    pub fn height(&self, minutes: u64) -> i64
+        requires { minutes ≤ 600000 }
+        ensures value { result ≡ height_at minutes self.now }
+        ensures size { unsigned_abs result ≤ 10 ^ 9 * unsigned_abs self.now.amplitude }
+    {
+        self.amplitude * icos(self.phase_after(minutes))
+    }
+
+    /// What it takes off the level a minute, `minutes` after an hour before the year.
+    pub fn fall(&self, minutes: u64) -> i128
+        requires { minutes ≤ 600000 }
+        ensures value { result ≡ fall_at minutes self.now }
+        ensures size { unsigned_abs result
+            ≤ 10 ^ 9 * (unsigned_abs self.now.amplitude * self.now.speed) }
+    {
+        i128::from(self.steepness) * i128::from(isin(self.phase_after(minutes)))
+    }
+
+    /// Where on the circle it stands, `minutes` after an hour before the year.
+    fn phase_after(&self, minutes: u64) -> i64
+        requires { minutes ≤ 600000 }
+        ensures value { unsigned_abs result ≡ phase_at self.now minutes }
+        ensures range { IsOnCircle result }
+    {
+        ((self.phase + self.speed * minutes) % CIRCLE as u64) as i64
+    }
+}
