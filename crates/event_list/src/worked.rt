@@ -1,0 +1,20 @@
+//! Names of events that were worked out by hand.
+
+ghost use Rattle.std.specs.Prelude.{◌≡◌, pos, negsuc, false, true, codes};
+ghost use Rattle.harmonics_text.specs.declared.book.Units.{Units};
+ghost use Rattle.curve_law.specs.declared.kind.Kind.{Kind};
+ghost use Rattle.event_list.specs.declared.event_word.EventWord.{EventWord};
+ghost use Rattle.event_list.specs.Words.{has_word, word_of, word_text};
+
+/// Names at levels on each side of 0 and at 0 itself, where a current counts as ebb.
+pub fn worked_rows()
+    ensures flood { word_text (word_of Units.Knots Kind.High (pos 1)) ≡ codes "Max Flood" }
+    ensures still { word_text (word_of Units.Knots Kind.High (pos 0)) ≡ codes "Min Ebb" }
+    ensures ebb { word_text (word_of Units.Knots Kind.Low (negsuc 0)) ≡ codes "Max Ebb" }
+    ensures low_flood { word_text (word_of Units.Knots Kind.Low (pos 1000000)) ≡ codes "Min Flood" }
+    ensures tide { word_text (word_of Units.Feet Kind.High (negsuc 0)) ≡ codes "High Tide" }
+    ensures slack { word_text (word_of Units.Knots Kind.EbbBegins (pos 0)) ≡ codes "Slack Ebb Begins" }
+    ensures no_slack { has_word Units.Meters Kind.FloodBegins ≡ false }
+    ensures mark { has_word Units.Meters Kind.MarkFalling ≡ true }
+    ensures hydraulic { has_word Units.KnotsSquared Kind.High ≡ false }
+{}
