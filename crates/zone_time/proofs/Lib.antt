@@ -1,0 +1,4 @@
+pub mod DateLemmas
+pub mod FormLemmas
+pub mod MomentLemmas
+pub mod ReadingLemmas

@@ -1,0 +1,60 @@
+-- Moments as text: the date and the time of universal time to the minute (ISO 8601, extended format).
+use Rattle.std.specs.Prelude.{ℕ, ◌+◌, ◌-◌, ◌*◌, ℤ, pos, negsuc, ◌+ℤ◌, ◌*ℤ◌, ◌≤ℤ◌, unsigned_abs, Bool, nat_le, ◌==◌, ◌&&◌, if◌then◌else◌, Option, Some, None, List, ◌++◌, codes, length, slice_index}
+use Rattle.std.specs.List.{list_all, zip}
+use Rattle.std.specs.Int.{int_div_euclid, int_rem_euclid}
+use Rattle.jiff_core.specs.Calendar.{days_in_month, days_from_civil}
+use Rattle.zone_time.specs.Dates.{date_text, clock_text}
+
+-- a minute of the years from 1 to 9999
+pub record IsMoment (m : ℤ) : Type 0 where
+  pub first : negsuc 1035593279 ≤ℤ m
+  pub last : m ≤ℤ pos 4223371679
+
+-- the day that a minute lies in
+abbrev pub day_of : ℤ → ℤ
+day_of m = int_div_euclid m (pos 1440)
+
+-- its place in the day
+abbrev pub minute_of_day : ℤ → ℕ
+minute_of_day m = unsigned_abs (int_rem_euclid m (pos 1440))
+
+-- the text of a moment
+unfoldable pub moment_text : ℤ → List ℕ
+moment_text m = date_text (day_of m) ++ codes "T" ++ clock_text (minute_of_day m) ++ codes "Z"
+
+abbrev pub is_digit : ℕ → Bool
+is_digit b = nat_le 48 b && nat_le b 57
+
+-- a byte fits a byte of a pattern: a digit fits 0, and any other byte itself alone
+abbrev pub fits : ℕ → ℕ → Bool
+fits b wanted = if wanted == 48 then is_digit b else b == wanted
+
+unfoldable pub has_form : List ℕ → Bool
+has_form text =
+    (length text == 17) && list_all (λ (b, wanted). fits b wanted) (zip text (codes "0000-00-00T00:00Z"))
+
+-- the number of the two digits at a place
+abbrev pub pair_at : List ℕ → ℕ → ℕ
+pair_at text i = 10 * (slice_index text i - 48) + (slice_index text (i + 1) - 48)
+
+-- the calendar has this day, in a year from 1 to 9999
+abbrev pub is_date : ℕ → ℕ → ℕ → Bool
+is_date y m d =
+    (nat_le 1 y && nat_le y 9999) && (nat_le 1 m && nat_le m 12) && (nat_le 1 d && nat_le d (days_in_month (pos y) m))
+
+abbrev pub year_at : List ℕ → ℕ
+year_at text = 100 * pair_at text 0 + pair_at text 2
+
+-- the text names a minute that there is
+abbrev pub names_moment : List ℕ → Bool
+names_moment text =
+    has_form text && is_date (year_at text) (pair_at text 5) (pair_at text 8)
+    && nat_le (pair_at text 11) 23 && nat_le (pair_at text 14) 59
+
+-- the moment that a text names
+unfoldable pub moment_of : List ℕ → Option ℤ
+moment_of text =
+    if names_moment text
+    then Some (days_from_civil (pos (year_at text)) (pair_at text 5) (pair_at text 8) *ℤ pos 1440
+    +ℤ pos (60 * pair_at text 11 + pair_at text 14))
+    else None

@@ -1,0 +1,25 @@
+//! Moments and local times.
+//!
+//! A moment is a whole number of minutes since 1970-01-01T00:00Z. [`read_moment`] and
+//! [`write_moment`] go between moments and texts such as `2000-01-10T00:00Z`, by the calendar of
+//! `jiff`. A [`Local`] is what a clock in some zone shows at a moment.
+#![tactic(auto)]
+
+mod dates;
+mod laws;
+mod local;
+mod local_text;
+mod reading;
+mod worked;
+mod writing;
+
+pub use dates::{write_clock, write_date};
+pub use laws::{days_have_their_date, moments_have_one_text};
+pub use local::{Label, Local};
+pub use local_text::{write_local, write_time};
+pub use reading::read_moment;
+pub use worked::{worked_locals, worked_readings, worked_texts};
+pub use writing::write_moment;
+
+#[cfg(test)]
+mod tests;

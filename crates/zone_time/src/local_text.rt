@@ -1,0 +1,55 @@
+//! Local times as text.
+
+ghost use Rattle.std.specs.Prelude.{◌≡◌, ◌+◌, ◌≤◌, ◌++◌, length};
+ghost use Rattle.arrayvec.specs.ArrayString.{array_string_len};
+ghost use Rattle.zone_time.specs.Locals.{IsWritten, IsLabel, IsLocal, time_text, label_text, local_text};
+
+use crate::dates::{write_clock, write_date};
+use crate::local::{Label, Local};
+use arrayvec::ArrayString;
+
+const MINUTES_OF_DAY: i64 = 1440;
+
+/// Appends a local time with its label, as `2000-01-10 06:00 UTC` or `2000-01-10 01:00 -05:00`, in
+/// 20 or 23 bytes. The year is from 0 to 9999, and a label is at most 1560 minutes.
+#[tactic(auto, unfolding(crate::specs::Locals::local_text))]
+pub fn write_local<const N: usize>(local: &Local, out: &mut ArrayString<N>)
+    requires local { IsLocal local.now }
+    requires room { array_string_len out.old + 23 ≤ N }
+    ensures bytes { out.new.bytes ≡ out.old.bytes ++ local_text local.now }
+    ensures short { array_string_len out.new ≤ array_string_len out.old + 23 }
+{
+    write_time(local.minute, out);
+    out.push(' ');
+    write_label(local.label, out);
+}
+
+/// Appends a local minute, counted from 1970-01-01 00:00, as `2000-01-10 06:00`. The year is from 0
+/// to 9999.
+#[tactic(auto, unfolding(crate::specs::Locals::time_text))]
+pub fn write_time<const N: usize>(minute: i64, out: &mut ArrayString<N>)
+    requires minute { IsWritten minute }
+    requires room { array_string_len out.old + 16 ≤ N }
+    ensures bytes { out.new.bytes ≡ out.old.bytes ++ time_text minute }
+    ensures len { array_string_len out.new ≡ array_string_len out.old + 16 }
+{
+    write_date(minute.div_euclid(MINUTES_OF_DAY), out);
+    out.push(' ');
+    write_clock(minute.rem_euclid(MINUTES_OF_DAY) as u32, out);
+}
+
+#[tactic(auto, unfolding(crate::specs::Locals::label_text))]
+fn write_label<const N: usize>(label: Label, out: &mut ArrayString<N>)
+    requires label { IsLabel label }
+    requires room { array_string_len out.old + 6 ≤ N }
+    ensures bytes { out.new.bytes ≡ out.old.bytes ++ label_text label }
+    ensures short { array_string_len out.new ≤ array_string_len out.old + 6 }
+{
+    match label {
+        Label::Utc => out.push_str("UTC"),
+        Label::Minutes(ahead) => {
+            out.push(if ahead < 0 { '-' } else { '+' });
+            write_clock(ahead.unsigned_abs(), out);
+        }
+    }
+}

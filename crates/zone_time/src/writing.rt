@@ -1,0 +1,23 @@
+//! Moments to text.
+
+ghost use Rattle.std.specs.Prelude.{◌≡◌, []};
+ghost use Rattle.zone_time.specs.Moments.{IsMoment, moment_text};
+
+use crate::dates::{write_clock, write_date};
+use arrayvec::ArrayString;
+
+const MINUTES_OF_DAY: i64 = 1440;
+
+/// Writes a moment as `2000-01-10T00:00Z`. It is given in minutes since 1970-01-01T00:00Z, and its
+/// year is from 1 to 9999.
+#[tactic(auto, unfolding(crate::specs::Moments::moment_text))]
+pub fn write_moment(m: i64, out: &mut ArrayString<20>)
+    requires moment { IsMoment m }
+    requires empty { out.old.bytes ≡ [] }
+    ensures { out.new.bytes ≡ moment_text m }
+{
+    write_date(m.div_euclid(MINUTES_OF_DAY), out);
+    out.push('T');
+    write_clock(m.rem_euclid(MINUTES_OF_DAY) as u32, out);
+    out.push('Z');
+}
