@@ -1,0 +1,118 @@
+use Rattle.std.proofs.Common.{◌≡◌, ◌≢◌, ℕ, zero, suc, ◌+◌, ◌≤◌, ℤ, pos, negsuc, ◌+ℤ◌, ◌-ℤ◌, ◌≤ℤ◌, unsigned_abs, int_lt, Bool, true, false, not, ◌&&◌, cond, List, [], ◌∷◌, ◌++◌, refl, arith}
+use Rattle.std.specs.List.{flat_map}
+use Rattle.std.proofs.lemmas.Grind.{flat_map-append}
+use Rattle.curve_law.specs.Track.{Track, plain_list, has_event, side_at, event_at}
+use Rattle.curve_law.specs.declared.event.Event.{Event}
+use Rattle.jiff_core.specs.Calendar.{day_count}
+use Rattle.jiff_core.proofs.MarchLemmas.{day_count-early}
+use Rattle.jiff_core.proofs.SignedLemmas.{signed_arith, one_part}
+use Rattle.std.proofs.lemmas.Int.{ints}
+use Rattle.year_blend.specs.Years.{year_start_of}
+use Rattle.year_blend.specs.Places.{AreYears, InDomain}
+use Rattle.year_blend.proofs.YearLemmas.{year_start_of-day_count, year_start_of_mono, year_start_of_high}
+use Rattle.tide_desk.specs.Listings.{IsDeskMinute, turn_track, listing_of}
+use Rattle.harmonics_text.specs.declared.book.Book.{Book}
+use Rattle.harmonics_text.specs.declared.book.Station.{Station}
+use Rattle.harmonics_text.specs.declared.book.Units.{Units}
+use Rattle.harmonics_text.specs.Books.{IsBook}
+use Rattle.station_curve.specs.Curves.{Predicts}
+use Rattle.station_curve.specs.Waves.{Tide}
+use Rattle.tide_desk.specs.Answers.{turns_of}
+use Rattle.tide_desk.specs.Stations.{has_minute, IsSpan}
+use Rattle.curve_law.proofs.TrackLemmas.{plain_list-zero, plain_list-one, plain_list-suc, plain_list-add}
+
+-- the lines of one more minute
+pub listed_more : (t : Track) (a : ℤ) (n : ℕ) (m : ℤ) (line : Event → List ℕ) → m ≡ a +ℤ pos n → flat_map line (plain_list t a (n + 1)) ≡ flat_map line (plain_list t a n) ++ flat_map line (plain_list t m 1)
+listed_more t a n m line e = rw (e, plain_list-add t a n 1, flat_map-append) refl
+
+sides_agree : (x y here there : Bool) → here ≡ x → there ≡ y → there ≡ here → cond x (not y) y ≡ false
+sides_agree true true here there e f g = refl
+sides_agree true false here there e f g = cc
+sides_agree false true here there e f g = cc
+sides_agree false false here there e f g = refl
+
+sides_differ : (x y here there : Bool) → here ≡ x → there ≡ y → there ≢ here → cond x (not y) y ≡ true
+sides_differ true true here there e f g = absurd (g (cc))
+sides_differ true false here there e f g = refl
+sides_differ false true here there e f g = refl
+sides_differ false false here there e f g = absurd (g (cc))
+
+pub quiet_minute : (t : Track) (a : ℤ) (here there : Bool) → here ≡ side_at t a → there ≡ side_at t (a +ℤ pos 1) → there ≡ here → plain_list t a 1 ≡ []
+quiet_minute t a here there e f same =
+    let q : has_event t a ≡ false = sides_agree _ _ here there e f same in rw (plain_list-one t a, q) refl
+
+pub turning_minute : (t : Track) (a : ℤ) (here there : Bool) → here ≡ side_at t a → there ≡ side_at t (a +ℤ pos 1) → there ≢ here → plain_list t a 1 ≡ event_at t a ∷ []
+turning_minute t a here there e f differ =
+    let q : has_event t a ≡ true = sides_differ _ _ here there e f differ in rw (plain_list-one t a, q) refl
+
+day_count-first : day_count (pos 2) 1 1 ≡ 3653156
+day_count-first = day_count-early (pos 2) 10001 1 1 refl (omega arith) (omega arith) (omega arith)
+
+first_start : (y : ℤ) → pos 2 ≤ℤ y → negsuc 1035067679 ≤ℤ year_start_of y
+first_start y low =
+    let mono = year_start_of_mono (pos 2) y (omega (arith, signed_arith)) low in
+    omega (arith, signed_arith, year_start_of-day_count (pos 2), day_count-first)
+
+-- the minutes of a file's years have dates
+pub desk_minute : (first_year : ℤ) (years : ℕ) (m : ℤ) → AreYears first_year years → InDomain first_year years m → IsDeskMinute m
+desk_minute first_year years m are inside =
+    let low = first_start first_year are.least in
+    let high = year_start_of_high (first_year +ℤ pos years) (omega (arith, ints)) (omega (arith, ints)) in
+    let least = inside.least in
+    let most = inside.most in
+    record { least = omega (arith, ints); most = omega (arith, ints) }
+
+pub desk_minute_between : (first_year : ℤ) (years : ℕ) (a : ℤ) (n k : ℕ) → AreYears first_year years → InDomain first_year years a → InDomain first_year years (a +ℤ pos n) → k ≤ n → IsDeskMinute (a +ℤ pos k)
+desk_minute_between first_year years a n k are begins ends few =
+    let least = begins.least in
+    let most = ends.most in
+    desk_minute first_year years (a +ℤ pos k) are (record { least = omega (arith, ints); most = omega (arith, ints) })
+
+-- what the tests of a span say
+pub tested_span : (book : Book) (begin end : ℤ) → int_lt end begin ≡ false → (has_minute book begin && has_minute book end) ≡ true → IsSpan book.first_year book.years begin end
+tested_span book begin end forward inside = record {
+  forward = grind (arith, ints);
+  begins = record { least = grind (arith, ints); most = grind (arith, ints) };
+  ends = record { least = grind (arith, ints); most = grind (arith, ints) };
+}
+
+pub book_years : (book : Book) → IsBook book → AreYears book.first_year book.years
+book_years book is = record {
+  least = is.first_year.least;
+  most = is.first_year.most;
+  some = is.some_years;
+  few = is.few_years;
+}
+
+-- the list of one minute by two tracks that agree there
+one_agrees : (t u : Track) (a : ℤ) → t.rising ≡ u.rising → t.falling ≡ u.falling → t.value a ≡ u.value a → t.value (a +ℤ pos 1) ≡ u.value (a +ℤ pos 1) → t.note a ≡ u.note a → plain_list t a 1 ≡ plain_list u a 1
+one_agrees t u a rising falling here there note = rw (plain_list-one t a, plain_list-one u a) (cc)
+
+-- the list of a span by two tracks that agree over it
+pub plain_list-agrees : (t u : Track) (a : ℤ) (n : ℕ) → t.rising ≡ u.rising → t.falling ≡ u.falling → ((k : ℕ) → k ≤ n → t.value (a +ℤ pos k) ≡ u.value (a +ℤ pos k)) → ((k : ℕ) → k ≤ n → t.note (a +ℤ pos k) ≡ u.note (a +ℤ pos k)) → plain_list t a n ≡ plain_list u a n
+plain_list-agrees t u a zero rising falling value note = rw (plain_list-zero t a, plain_list-zero u a) refl
+plain_list-agrees t u a (suc n) rising falling value note =
+    let here : a +ℤ pos 0 ≡ a = omega (arith, ints) in
+    let first : plain_list t a 1 ≡ plain_list u a 1 =
+    one_agrees t u a rising falling (rw here at (value 0 (omega arith))) (value 1 (omega arith)) (rw here at (note 0 (omega arith))) in
+    let rest : plain_list t (a +ℤ pos 1) n ≡ plain_list u (a +ℤ pos 1) n =
+    plain_list-agrees t u (a +ℤ pos 1) n rising falling
+    (λ k h. let later : a +ℤ pos 1 +ℤ pos k ≡ a +ℤ pos (suc k) = omega (arith, ints) in rw later (value (suc k) (omega arith)))
+    (λ k h. let later : a +ℤ pos 1 +ℤ pos k ≡ a +ℤ pos (suc k) = omega (arith, ints) in rw later (note (suc k) (omega arith))) in
+    rw (plain_list-suc t a n, plain_list-suc u a n, first, rest) refl
+
+between : (first_year : ℤ) (years : ℕ) (begin end : ℤ) (k : ℕ) → IsSpan first_year years begin end → k ≤ unsigned_abs (end -ℤ begin) → InDomain first_year years (begin +ℤ pos k)
+between first_year years begin end k span few =
+    let least = span.begins.least in
+    let most = span.ends.most in
+    let forward = span.forward in
+    let size = one_part (end -ℤ begin) in
+    record { least = omega (arith, ints); most = omega (arith, signed_arith, size) }
+
+-- the listing by a tide that predicts a station is the station's
+pub listing-predicts : (book : Book) (station : Station) (tide : Tide) (name : List ℕ) (units : Units) (begin end : ℤ) → Predicts book station tide → IsSpan book.first_year book.years begin end → listing_of name units (turn_track tide) begin end ≡ listing_of name units (turns_of book station) begin end
+listing-predicts book station tide name units begin end predicts span =
+    let same = plain_list-agrees (turn_track tide) (turns_of book station) begin (unsigned_abs (end -ℤ begin)) refl refl
+    (λ k h. predicts.slope _ (between _ _ _ _ k span h))
+    (λ k h. predicts.millionths _ (between _ _ _ _ k span h)) in
+    rw same refl
