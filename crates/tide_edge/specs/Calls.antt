@@ -1,17 +1,14 @@
 -- The calls on an object in memory, some of which fail (this project).
-use Rattle.std.specs.Prelude.{ℕ, ◌+◌, ◌-◌, ◌^◌, ◌==◌, min, Bool, true, false, if◌then◌else◌, List, Result, Ok, Err}
+use Rattle.std.specs.Prelude.{ℕ, ◌==◌, Bool, true, false, List, Result, Ok, Err}
 use Rattle.std.specs.List.{list_any}
 use Rattle.tide_edge.specs.declared.failed.Failed.{Failed}
+use Rattle.tide_edge.specs.Faults.{counted, faults_after}
 
 -- the numbers of the calls that are to fail, how many calls were made, and how many of them failed
 pub record HeldCalls : Type 0 where
   pub fails : List ℕ
   pub made : ℕ
   pub faults : ℕ
-
--- one more, but no more than the last value of a count
-abbrev pub counted : ℕ → ℕ
-counted n = min (n + 1) (2 ^ 64 - 1)
 
 -- whether the next call is one of those that are to fail; calls are counted from 1
 abbrev pub is_to_fail : HeldCalls → Bool
@@ -22,7 +19,7 @@ abbrev pub after_call : Bool → HeldCalls → HeldCalls
 after_call failed calls = record {
   fails = calls.fails;
   made = counted calls.made;
-  faults = (if failed then counted calls.faults else calls.faults);
+  faults = faults_after failed calls.faults;
 }
 
 -- what a call answers: that it failed, or a value

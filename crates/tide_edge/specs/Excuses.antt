@@ -1,11 +1,21 @@
 -- What an answer that came with the help of the outside says of the expected one (this project).
-use Rattle.std.specs.Prelude.{◌≡◌, ◌⊎◌, Bool, IsTrue, Result, Ok, Err}
+use Rattle.std.specs.Prelude.{◌≡◌, ◌⊎◌, Bool, true, false, IsTrue, Result, Ok, Err}
 
 -- where a fault comes from: from want of memory, from a call on the outside, or from what was read or asked
 pub data Source : Type 0 where
   memory : Source
   outside : Source
   given : Source
+
+abbrev pub is_outside : Source → Bool
+is_outside memory = false
+is_outside outside = true
+is_outside given = false
+
+-- whether an answer is a fault of the outside
+abbrev pub is_outside_fault : {T E : Type 0} → (E → Source) → Result T E → Bool
+is_outside_fault source (Ok value) = false
+is_outside_fault source (Err fault) = is_outside (source fault)
 
 -- What a fault says of the expected result. Want of memory says nothing. A fault of the outside says nothing over files
 -- that aren't steady; over steady ones it is the expected fault, or else something else outside rose. Any other fault

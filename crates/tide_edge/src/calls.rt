@@ -1,8 +1,8 @@
 //! The count of the calls on an object in memory.
 
-ghost use Rattle.std.specs.Prelude.{◌≡◌, ◌≤◌};
-ghost use Rattle.tide_edge.specs.Faults.{HasCause, Rose};
+ghost use Rattle.std.specs.Prelude.{◌≡◌};
 
+use crate::count::one_more;
 use crate::failed::Failed;
 use std::marker::Model;
 
@@ -24,7 +24,8 @@ impl Model for Calls {
 }
 
 impl Calls {
-    ghost use Rattle.tide_edge.specs.Calls.{answer, is_to_fail, after_call, counted};
+    ghost use Rattle.tide_edge.specs.Calls.{answer, is_to_fail, after_call};
+    ghost use Rattle.tide_edge.specs.Faults.{counted};
 
     /// No call yet. The numbers of those that are to fail are counted from 1.
     pub(crate) fn new(fails: Vec<u64>) -> Calls
@@ -41,9 +42,8 @@ impl Calls {
     pub(crate) fn next(&mut self) -> Result<(), Failed>
         ensures answer { result ≡ answer (is_to_fail self.old) record {} }
         ensures after { self.new ≡ after_call (is_to_fail self.old) self.old }
-        ensures cause { HasCause self.old.faults self.new.faults result }
     {
-        self.made = self.made.saturating_add(1);
+        self.made = one_more(self.made);
         if self.fails.contains(&self.made) {
             return Err(self.fail());
         }
@@ -52,11 +52,9 @@ impl Calls {
 
     /// Counts a failure of the call that was counted last.
     pub(crate) fn fail(&mut self) -> Failed
-        ensures after { self.new ≡ record self.old { faults = counted self.old.faults } }
-        ensures later { self.old.faults ≤ self.new.faults }
-        ensures rose { Rose self.old.faults self.new.faults }
+        ensures { self.new ≡ record self.old { faults = counted self.old.faults } }
     {
-        self.faults = self.faults.saturating_add(1);
+        self.faults = one_more(self.faults);
         Failed
     }
 }

@@ -1,8 +1,8 @@
 //! What shows the present minute.
 
-ghost use Rattle.std.specs.Prelude.{◌≡◌, ℕ, ℤ, IfOk};
+ghost use Rattle.std.specs.Prelude.{◌≡◌, ℕ, ℤ, IfOk, is_err};
 ghost use Rattle.tide_edge.specs.Clocks.{IsClockMinute};
-ghost use Rattle.tide_edge.specs.Faults.{HasCause};
+ghost use Rattle.tide_edge.specs.Faults.{faults_after};
 
 use crate::failed::Failed;
 
@@ -29,5 +29,5 @@ pub trait Clock {
         ensures held { tells self.old → IfOk result (λ minute. minute ≡ minute_held self.old) }
         ensures same_minute { minute_held self.new ≡ minute_held self.old }
         ensures still_tells { tells self.old → tells self.new }
-        ensures cause { HasCause (faults self.old) (faults self.new) result };
+        ensures counts { faults self.new ≡ faults_after (is_err result) (faults self.old) };
 }

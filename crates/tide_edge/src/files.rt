@@ -1,7 +1,7 @@
 //! Files that are opened by name and read from their begin to their end.
 
-ghost use Rattle.std.specs.Prelude.{◌≡◌, ◌↔◌, ◌<◌, ◌≤◌, ◌++◌, ℕ, Bool, IsTrue, List, [], length, take, Option, Some, None, IsOk, IfOk, OnOk, OnErr};
-ghost use Rattle.tide_edge.specs.Faults.{HasCause};
+ghost use Rattle.std.specs.Prelude.{◌≡◌, ◌↔◌, ◌<◌, ◌≤◌, ◌++◌, ℕ, Bool, IsTrue, List, [], length, take, Option, Some, None, IsOk, IfOk, OnOk, OnErr, is_err};
+ghost use Rattle.tide_edge.specs.Faults.{faults_after};
 
 use crate::failed::Failed;
 use decimal_text::Text;
@@ -38,7 +38,7 @@ pub trait Files {
         ensures same_files { folder self.new ≡ folder self.old }
         ensures as_steady { steady self.new ≡ steady self.old }
         ensures still_tells { tells self.old → tells self.new }
-        ensures cause { HasCause (faults self.old) (faults self.new) result };
+        ensures counts { faults self.new ≡ faults_after (is_err result) (faults self.old) };
 
     /// Reads the next bytes of the open file into the begin of `room`, and answers how many came.
     /// It is 0 at the end of the file, and where no file is open.
@@ -55,5 +55,5 @@ pub trait Files {
         ensures same_files { folder self.new ≡ folder self.old }
         ensures as_steady { steady self.new ≡ steady self.old }
         ensures still_tells { tells self.old → tells self.new }
-        ensures cause { HasCause (faults self.old) (faults self.new) result };
+        ensures counts { faults self.new ≡ faults_after (is_err result) (faults self.old) };
 }

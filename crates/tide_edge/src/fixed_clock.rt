@@ -1,8 +1,8 @@
 //! A clock that stands still.
 
-ghost use Rattle.std.specs.Prelude.{◌≡◌, IfOk};
+ghost use Rattle.std.specs.Prelude.{◌≡◌, IfOk, is_err};
 ghost use Rattle.tide_edge.specs.Clocks.{IsClockMinute};
-ghost use Rattle.tide_edge.specs.Faults.{HasCause};
+ghost use Rattle.tide_edge.specs.Faults.{faults_after};
 
 use crate::calls::Calls;
 use crate::clock::Clock;
@@ -57,7 +57,7 @@ impl Clock for FixedClock {
         ensures answer { result ≡ answer (is_to_fail self.old.calls) self.old.minute }
         ensures after { self.new ≡ after_minute self.old }
         ensures in_range { IfOk result IsClockMinute }
-        ensures cause { HasCause self.old.calls.faults self.new.calls.faults result }
+        ensures counts { self.new.calls.faults ≡ faults_after (is_err result) self.old.calls.faults }
     {
         self.calls.next()?;
         Ok(self.minute)

@@ -1,15 +1,16 @@
 //! The count of the failures of the system.
 
-ghost use Rattle.std.specs.Prelude.{◌≡◌, ◌≤◌, IfOk};
-ghost use Rattle.tide_edge.specs.Faults.{HasCause, Rose};
+ghost use Rattle.std.specs.Prelude.{◌≡◌, IfOk, is_err};
+ghost use Rattle.tide_edge.specs.Faults.{counted, faults_after};
 
+use crate::count::one_more;
 use crate::failed::Failed;
 use std::io;
 
-/// What the system answered, with a failure counted. The count stays at the last value of a `u64`.
-pub(crate) fn counted(faults: &mut u64, answer: io::Result<usize>) -> Result<usize, Failed>
+/// What the system answered, with a failure counted.
+pub(crate) fn outcome(faults: &mut u64, answer: io::Result<usize>) -> Result<usize, Failed>
     ensures value { IfOk result (λ count. answer ≡ Ok count) }
-    ensures cause { HasCause faults.old faults.new result }
+    ensures counts { faults.new ≡ faults_after (is_err result) faults.old }
 {
     match answer {
         Ok(count) => Ok(count),
@@ -19,9 +20,8 @@ pub(crate) fn counted(faults: &mut u64, answer: io::Result<usize>) -> Result<usi
 
 /// Counts a failure.
 pub(crate) fn count_fault(faults: &mut u64) -> Failed
-    ensures later { faults.old ≤ faults.new }
-    ensures rose { Rose faults.old faults.new }
+    ensures { faults.new ≡ counted faults.old }
 {
-    *faults = faults.saturating_add(1);
+    *faults = one_more(*faults);
     Failed
 }

@@ -4,7 +4,7 @@ ghost use Rattle.std.specs.Prelude.{◌≡◌, false, [], None};
 
 use crate::failed::Failed;
 use crate::files::Files;
-use crate::host_fault::{count_fault, counted};
+use crate::host_fault::{count_fault, outcome};
 use decimal_text::Text;
 use std::io::Read;
 use std::{fs, rt};
@@ -56,7 +56,7 @@ impl<R: rt::Files + Drop> Files for HostFiles<R> {
 
     fn read(&mut self, room: &mut [u8]) -> Result<usize, Failed> {
         match &mut self.opened {
-            Some(file) => counted(&mut self.faults, file.read(room)),
+            Some(file) => outcome(&mut self.faults, file.read(room)),
             None => Ok(0),
         }
     }

@@ -7,6 +7,7 @@
 
 mod calls;
 mod clock;
+mod count;
 mod failed;
 mod files;
 mod fixed_clock;
@@ -14,6 +15,7 @@ mod host_clock;
 mod host_fault;
 mod host_files;
 mod host_sink;
+mod laws;
 mod memory_files;
 mod memory_sink;
 mod named_file;
@@ -31,6 +33,7 @@ pub use fixed_clock::FixedClock;
 pub use host_clock::HostClock;
 pub use host_files::HostFiles;
 pub use host_sink::HostSink;
+pub use laws::{fixed_clock_tells, memory_files_tell, memory_sink_tells};
 pub use memory_files::MemoryFiles;
 pub use memory_sink::MemorySink;
 pub use named_file::NamedFile;

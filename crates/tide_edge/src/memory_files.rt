@@ -1,9 +1,9 @@
 //! Files in memory.
 
-ghost use Rattle.std.specs.Prelude.{◌≡◌, ◌==◌, ◌+◌, ◌<◌, ◌^◌, ◌++◌, [], position, length, take, drop, is_none};
+ghost use Rattle.std.specs.Prelude.{◌≡◌, ◌==◌, ◌+◌, ◌<◌, ◌^◌, ◌++◌, [], position, length, take, drop, is_none, is_err};
 ghost use Rattle.std.specs.Option.{option_map};
 ghost use Rattle.std.specs.Str.{bytes_eq};
-ghost use Rattle.tide_edge.specs.Faults.{HasCause};
+ghost use Rattle.tide_edge.specs.Faults.{faults_after};
 ghost use Rattle.tide_edge.specs.Memory.{folder_of};
 ghost use Rattle.tide_edge.specs.Places.{bytes_at, rest_of};
 
@@ -70,7 +70,7 @@ impl Files for MemoryFiles {
     fn open(&mut self, name: &Text) -> Result<(), Failed>
         ensures answer { result ≡ answer (is_none (found self.old name.now)) record {} }
         ensures after { self.new ≡ after_open self.old name.now }
-        ensures cause { HasCause self.old.calls.faults self.new.calls.faults result }
+        ensures counts { self.new.calls.faults ≡ faults_after (is_err result) self.old.calls.faults }
     {
         self.opened = None;
         self.at = 0;
@@ -88,7 +88,7 @@ impl Files for MemoryFiles {
         ensures after { self.new ≡ after_read self.old (length room.old) }
         ensures filled { room.new ≡ take (read_count self.old (length room.old)) self.old.rest
             ++ drop (read_count self.old (length room.old)) room.old }
-        ensures cause { HasCause self.old.calls.faults self.new.calls.faults result }
+        ensures counts { self.new.calls.faults ≡ faults_after (is_err result) self.old.calls.faults }
     {
         self.calls.next()?;
         let rest = rest_at(&self.files, self.opened, self.at);

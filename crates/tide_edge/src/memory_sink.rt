@@ -1,7 +1,7 @@
 //! A sink in memory.
 
-ghost use Rattle.std.specs.Prelude.{◌≡◌, ◌<◌, ◌≤◌, [], IfOk, length};
-ghost use Rattle.tide_edge.specs.Faults.{HasCause};
+ghost use Rattle.std.specs.Prelude.{◌≡◌, ◌<◌, ◌≤◌, [], IfOk, is_err, length};
+ghost use Rattle.tide_edge.specs.Faults.{faults_after};
 
 use crate::calls::Calls;
 use crate::failed::Failed;
@@ -78,7 +78,7 @@ impl Sink for MemorySink {
         ensures answer { result ≡ answer (is_refused self.old) (write_count self.old (length piece.now)) }
         ensures after { self.new ≡ after_write self.old piece.now }
         ensures some { IfOk result (λ count. 0 < count) }
-        ensures cause { HasCause self.old.calls.faults self.new.calls.faults result }
+        ensures counts { self.new.calls.faults ≡ faults_after (is_err result) self.old.calls.faults }
     {
         self.calls.next()?;
         let left = self.room - self.bytes.len() as u64;

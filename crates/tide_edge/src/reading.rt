@@ -1,8 +1,8 @@
 //! Reading a whole file.
 
 ghost use Rattle.std.specs.Prelude.{◌≡◌, ◌<◌, ◌≤◌, length, Some, IfOk, IsErrOf};
-ghost use Rattle.tide_edge.specs.Excuses.{Meets};
-ghost use Rattle.tide_edge.specs.Faults.{Rose};
+ghost use Rattle.tide_edge.specs.Excuses.{Meets, is_outside_fault};
+ghost use Rattle.tide_edge.specs.Faults.{faults_after, Rose};
 ghost use Rattle.tide_edge.specs.Whole.{whole, source_of};
 
 use crate::files::Files;
@@ -26,7 +26,7 @@ pub fn read_all<F: Files>(
     ensures whole { F.tells files.old
         → Meets source_of (F.steady files.old) ⊥ (whole limit (F.folder files.old name.now)) result }
     ensures within { IfOk result (λ bytes. length bytes ≤ limit) }
-    ensures later { F.faults files.old ≤ F.faults files.new }
+    ensures counts { F.faults files.new ≡ faults_after (is_outside_fault source_of result) (F.faults files.old) }
     ensures failed { IsErrOf result ReadAllFault.Failed → Rose (F.faults files.old) (F.faults files.new) }
     ensures same_files { F.folder files.new ≡ F.folder files.old }
     ensures as_steady { F.steady files.new ≡ F.steady files.old }
@@ -50,7 +50,7 @@ fn read_rest<F: Files>(
     ensures whole { F.tells files.old
         → Meets source_of (F.steady files.old) ⊥ (whole limit (Some (F.rest files.old))) result }
     ensures within { IfOk result (λ bytes. length bytes ≤ limit) }
-    ensures later { F.faults files.old ≤ F.faults files.new }
+    ensures counts { F.faults files.new ≡ faults_after (is_outside_fault source_of result) (F.faults files.old) }
     ensures failed { IsErrOf result ReadAllFault.Failed → Rose (F.faults files.old) (F.faults files.new) }
     ensures same_files { F.folder files.new ≡ F.folder files.old }
     ensures as_steady { F.steady files.new ≡ F.steady files.old }

@@ -1,8 +1,8 @@
 //! Worked rows of the definitions that contracts cite.
 
 ghost use Rattle.std.specs.Prelude.{◌≡◌, ◌-◌, ◌^◌, true, false, [], ◌∷◌, Some, None, Ok, Err};
-ghost use Rattle.tide_edge.specs.Calls.{counted, is_to_fail};
-ghost use Rattle.tide_edge.specs.Faults.{Rose};
+ghost use Rattle.tide_edge.specs.Calls.{is_to_fail};
+ghost use Rattle.tide_edge.specs.Faults.{counted, Rose};
 ghost use Rattle.tide_edge.specs.Memory.{folder_of, read_count, is_refused, write_count};
 ghost use Rattle.tide_edge.specs.Whole.{whole};
 
@@ -17,6 +17,8 @@ pub fn worked_rows()
     ensures rose { Rose 4 5 }
     ensures stands { ¬ (Rose 4 4) }
     ensures at_last { Rose (2 ^ 64 - 1) (2 ^ 64 - 1) }
+    ensures rose_to_last { Rose (2 ^ 64 - 2) (2 ^ 64 - 1) }
+    ensures one_more { counted (2 ^ 64 - 2) ≡ 2 ^ 64 - 1 }
     ensures stays { counted (2 ^ 64 - 1) ≡ 2 ^ 64 - 1 }
 
     ensures second_call { is_to_fail (record { fails = 2 ∷ []; made = 1; faults = 0 }) ≡ true }

@@ -1,7 +1,7 @@
 //! Where bytes are written to.
 
-ghost use Rattle.std.specs.Prelude.{◌≡◌, ◌<◌, ◌≤◌, ◌++◌, ℕ, List, length, take, IfOk, OnErr};
-ghost use Rattle.tide_edge.specs.Faults.{HasCause};
+ghost use Rattle.std.specs.Prelude.{◌≡◌, ◌<◌, ◌≤◌, ◌++◌, ℕ, List, length, take, IfOk, OnErr, is_err};
+ghost use Rattle.tide_edge.specs.Faults.{faults_after};
 
 use crate::failed::Failed;
 
@@ -30,5 +30,5 @@ pub trait Sink {
         ensures takes { tells self.old → IfOk result (λ count. taken self.new ≡ taken self.old ++ take count piece.now) }
         ensures takes_none { tells self.old → OnErr result (taken self.new ≡ taken self.old) }
         ensures still_tells { tells self.old → tells self.new }
-        ensures cause { HasCause (faults self.old) (faults self.new) result };
+        ensures counts { faults self.new ≡ faults_after (is_err result) (faults self.old) };
 }

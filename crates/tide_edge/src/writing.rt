@@ -1,7 +1,7 @@
 //! Writing all of some bytes.
 
-ghost use Rattle.std.specs.Prelude.{◌≡◌, ◌<◌, ◌++◌, length, take, IfErr, OnOk};
-ghost use Rattle.tide_edge.specs.Faults.{HasCause};
+ghost use Rattle.std.specs.Prelude.{◌≡◌, ◌<◌, ◌++◌, length, take, IfErr, OnOk, is_err};
+ghost use Rattle.tide_edge.specs.Faults.{faults_after};
 
 use crate::rest::rest_from;
 use crate::sink::Sink;
@@ -25,7 +25,7 @@ pub fn write_all<S: Sink>(sink: &mut S, bytes: &[u8]) -> Result<(), WriteFailed>
         → IfErr result (λ fault. S.taken sink.new ≡ S.taken sink.old ++ take fault.sent bytes.now) }
     ensures cut_short { IfErr result (λ fault. fault.sent < length bytes.now) }
     ensures still_tells { S.tells sink.old → S.tells sink.new }
-    ensures cause { HasCause (S.faults sink.old) (S.faults sink.new) result }
+    ensures counts { S.faults sink.new ≡ faults_after (is_err result) (S.faults sink.old) }
 {
     let mut sent = 0;
     while sent < bytes.len() {

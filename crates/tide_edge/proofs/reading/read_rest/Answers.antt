@@ -1,7 +1,7 @@
 use Rattle.std.proofs.Common.{Ok, ap, sym, ◌∙◌, ℕ, Some, length-take-le, ◌≡◌, false, true, take, arith}
 use Rattle.tide_edge.specs.declared.read_all_fault.ReadAllFault.TheVariants.{Failed, NoMemory}
 use Rattle.tide_edge.specs.Whole.{whole, source_of}
-use Rattle.tide_edge.proofs.ExcuseLemmas.{meets_by_fault}
+use Rattle.tide_edge.proofs.ExcuseLemmas.{meets_by_fault, outside_by_fault}
 use Rattle.tide_edge.proofs.ReadingLemmas.{whole_at_end, whole_too_long, read_on}
 use Rattle.tide_edge.proofs.reading.read_rest.Goals as goal
 
@@ -19,6 +19,11 @@ returns-in_err-count-clause-whole g c =
     let read : false ≡ true =
     c.in_err-count.ensures.reads (c.loop-bytes.invariant.tells t) (rw c.loop-bytes.invariant.steady s)
     in cc)
+
+pub returns-in_err-count-clause-counts : goal.returns-in_err-count-clause-counts
+returns-in_err-count-clause-counts g c =
+    rw (outside_by_fault source_of c.from_residual.result Failed c.from_residual.ensures.1, ← c.loop-bytes.invariant.unfailed)
+    c.in_err-count.ensures.counts
 
 pub returns-in_err-count-clause-still_tells : goal.returns-in_err-count-clause-still_tells
 returns-in_err-count-clause-still_tells g c = λ t. c.read.ensures.still_tells (c.loop-bytes.invariant.tells t)
@@ -73,8 +78,13 @@ loop-bytes-preserved g c = record {
   tells = λ t. c.read.ensures.still_tells (c.loop-bytes.invariant.tells t);
   folder = cc (c.read.ensures.same_files, c.loop-bytes.invariant.folder);
   steady = cc (c.read.ensures.as_steady, c.loop-bytes.invariant.steady);
-  later = omega (arith, c.read.ensures.cause.later);
+  unfailed = cc (c.in_ok-count.ensures.counts, c.loop-bytes.invariant.unfailed);
 }
+
+pub returns-in_err-extend_from_slice-clause-counts : goal.returns-in_err-extend_from_slice-clause-counts
+returns-in_err-extend_from_slice-clause-counts g c =
+    rw (outside_by_fault source_of c.from_residual-in_err-extend_from_slice.result NoMemory c.from_residual-in_err-extend_from_slice.ensures.1)
+    (cc (c.in_ok-count.ensures.counts, c.loop-bytes.invariant.unfailed))
 
 pub returns-in_err-extend_from_slice-clause-still_tells : goal.returns-in_err-extend_from_slice-clause-still_tells
 returns-in_err-extend_from_slice-clause-still_tells g c =

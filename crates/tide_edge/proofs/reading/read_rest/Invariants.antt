@@ -8,7 +8,7 @@ invariant-loop-bytes g l = record {
   tells : g.F.Files.tells l.initial.files → g.F.Files.tells l.files;
   folder : g.F.Files.folder l.files ≡ g.F.Files.folder l.initial.files;
   steady : g.F.Files.steady l.files ≡ g.F.Files.steady l.initial.files;
-  later : g.F.Files.faults l.initial.files ≤ g.F.Files.faults l.files;
+  unfailed : g.F.Files.faults l.files ≡ g.F.Files.faults l.initial.files;
 }
 
 abbrev pub decreases-loop-bytes : goal.decreases-loop-bytes

@@ -15,5 +15,5 @@ loop-sent-preserved g c = record {
       (c.loop-sent.invariant.sent t)
       (rw c.rest_from.ensures.rest at (c.in-Ok.ensures.takes (c.loop-sent.invariant.tells t)));
   tells = λ t. c.write.ensures.still_tells (c.loop-sent.invariant.tells t);
-  later = omega arith;
+  unfailed = cc (c.in-Ok.ensures.counts);
 }

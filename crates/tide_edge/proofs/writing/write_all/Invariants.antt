@@ -6,7 +6,7 @@ invariant-loop-sent g l = record {
   within : l.sent ≤ length l.bytes;
   sent : g.S.Sink.tells l.initial.sink → g.S.Sink.taken l.sink ≡ g.S.Sink.taken l.initial.sink ++ take l.sent l.bytes;
   tells : g.S.Sink.tells l.initial.sink → g.S.Sink.tells l.sink;
-  later : g.S.Sink.faults l.initial.sink ≤ g.S.Sink.faults l.sink;
+  unfailed : g.S.Sink.faults l.sink ≡ g.S.Sink.faults l.initial.sink;
 }
 
 abbrev pub decreases-loop-sent : goal.decreases-loop-sent
