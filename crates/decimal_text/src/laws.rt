@@ -24,6 +24,10 @@ pub fn worked_readings()
     ensures most_digits { read_of (codes "012345678901234567") 0 ≡ Ok (pos 12345678901234567) }
     ensures too_long { read_of (codes "0123456789012345678") 0 ≡ Err TooLong }
     ensures bad_before_long { read_of (codes "0123456789012345678x") 0 ≡ Err BadForm }
+    ensures long_before_fine { read_of (codes "0000000000000000001.55") 0 ≡ Err TooLong }
+    ensures two_signs { read_of (codes "+-5") 2 ≡ Err BadForm }
+    ensures two_points { read_of (codes "1.2.3") 2 ≡ Err BadForm }
+    ensures greatest { read_of (codes "999999999999999999.9") 9 ≡ Ok (pos 999999999999999999900000000) }
 {}
 
 /// Some numbers, and what they are written as.
@@ -32,6 +36,7 @@ pub fn worked_writings()
     ensures zero { write_of (pos 0) 2 ≡ codes "0.00" }
     ensures no_places { write_of (negsuc 6) 0 ≡ codes "-7" }
     ensures millionths { write_of (pos 3004334) 6 ≡ codes "3.004334" }
+    ensures zeros_behind { write_of (negsuc 99) 2 ≡ codes "-1.00" }
 {}
 
 /// Some fractions, and the whole numbers nearest to them.
@@ -41,4 +46,6 @@ pub fn worked_roundings()
     ensures below_half { rounded_of (pos 14) 10 ≡ pos 1 }
     ensures negative_half { rounded_of (negsuc 14) 10 ≡ negsuc 1 }
     ensures to_zero { rounded_of (negsuc 3) 10 ≡ pos 0 }
+    ensures half_of_one { rounded_of (negsuc 4) 10 ≡ negsuc 0 }
+    ensures odd_unit { rounded_of (pos 4) 3 ≡ pos 1 }
 {}

@@ -11,6 +11,7 @@ mod laws;
 mod numbers;
 mod reading;
 mod rounding;
+mod sign;
 mod steps;
 mod text;
 mod words;
@@ -22,6 +23,7 @@ pub use laws::{reads_its_fraction, worked_readings, worked_roundings, worked_wri
 pub use numbers::Numbers;
 pub use reading::read;
 pub use rounding::rounded;
+pub use sign::split_sign;
 pub use text::Text;
 pub use words::Words;
 pub use writing::write;

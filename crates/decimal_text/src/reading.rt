@@ -3,10 +3,11 @@
 ghost use Rattle.std.specs.Prelude.{◌≡◌, ℕ, ◌+◌, ◌*◌, ◌/◌, ◌^◌, ◌<◌, ◌≤◌, List, take, drop, length, nat_lt, IfOk, unsigned_abs, option_copied};
 ghost use Rattle.std.specs.List.{take_while, list_all};
 ghost use Rattle.std.specs.Char.{is_ascii_digit};
-ghost use Rattle.std.specs.Str.Parse.{digits_value, starts_with_minus, without_leading_sign};
+ghost use Rattle.std.specs.Str.Parse.{digits_value};
 ghost use Rattle.decimal_text.specs.Decimal.{read_of, after_point, made_of, scaled_or_bad};
 
 use crate::fault::DecimalFault;
+use crate::sign::split_sign;
 use crate::steps::Steps;
 
 /// The most digits that may stand before the point.
@@ -27,22 +28,6 @@ pub fn read(text: &[u8], places: u32) -> Result<i128, DecimalFault>
     match after_point(rest) {
         None => Err(DecimalFault::BadForm),
         Some(fraction) => read_parts(negative, whole, value, fraction, places),
-    }
-}
-
-/// Whether a minus stands first, and the text without its sign.
-fn split_sign(text: &[u8]) -> (bool, &[u8])
-    ensures minus { result.0 ≡ starts_with_minus text.now }
-    ensures rest { result.1.now ≡ without_leading_sign text.now }
-{
-    if text.is_empty() {
-        return (false, text);
-    }
-    let (first, rest) = text.split_at(1);
-    match first[0] {
-        b'-' => (true, rest),
-        b'+' => (false, rest),
-        _ => (false, text),
     }
 }
 

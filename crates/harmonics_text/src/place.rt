@@ -2,7 +2,6 @@
 
 ghost use Rattle.std.specs.Prelude.{◌≡◌, ◌≤◌, IfSome, position, encode_utf8_all};
 ghost use Rattle.std.specs.List.{list_all};
-ghost use Rattle.std.specs.Str.Parse.{starts_with_minus, without_leading_sign};
 ghost use Rattle.harmonics_text.specs.Rules.{is_colon, two_digits_of, minutes_of, clock_of, meridian_of, is_zone_byte, zone_of, place_of};
 ghost use Rattle.harmonics_text.specs.Drafts.{Gives};
 
@@ -10,7 +9,7 @@ use crate::fault::{LineFault, Why};
 use crate::lines::next_token;
 use crate::names::utf8_of;
 use crate::numbers::digits;
-use decimal_text::Text;
+use decimal_text::{Text, split_sign};
 use std::alloc::Global;
 
 /// Where a station's clock stands.
@@ -61,22 +60,6 @@ fn clock_minutes(clock: &[u8]) -> Option<u32>
     let (hour, rest) = clock.split_at(at);
     let (_, minute) = rest.split_at(1);
     minutes(digits(hour, 2), two_digits(minute))
-}
-
-/// Whether a minus stands first, and the text without its sign.
-fn split_sign(text: &[u8]) -> (bool, &[u8])
-    ensures minus { result.0 ≡ starts_with_minus text.now }
-    ensures rest { result.1.now ≡ without_leading_sign text.now }
-{
-    if text.is_empty() {
-        return (false, text);
-    }
-    let (first, rest) = text.split_at(1);
-    match first[0] {
-        b'-' => (true, rest),
-        b'+' => (false, rest),
-        _ => (false, text),
-    }
 }
 
 /// The minutes of a meridian, with its sign.

@@ -18,3 +18,7 @@ returns-clause-no_places c = ap (λ whole. 45 ∷ (whole ++ [])) (decimal_digit 
 pub returns-clause-millionths : goal.returns-clause-millionths
 unfolding write_of last_digits
 returns-clause-millionths c = ap (λ whole. whole ++ 46 ∷ 48 ∷ 48 ∷ 52 ∷ 51 ∷ 51 ∷ 52 ∷ []) (decimal_digit 3 (lit< tt))
+
+pub returns-clause-zeros_behind : goal.returns-clause-zeros_behind
+unfolding write_of last_digits
+returns-clause-zeros_behind c = ap (λ whole. 45 ∷ (whole ++ 46 ∷ 48 ∷ 48 ∷ [])) (decimal_digit 1 (lit< tt))
