@@ -1,6 +1,6 @@
 //! What follows of plain lists.
 
-ghost use Rattle.std.specs.Prelude.{◌≡◌, ℕ, suc, ◌+◌, ◌<◌, ℤ, pos, ◌+ℤ◌, ◌≤ℤ◌, ◌<ℤ◌, false, if◌then◌else◌, [], ◌∷◌, ◌++◌};
+ghost use Rattle.std.specs.Prelude.{◌≡◌, ℕ, suc, ◌+◌, ◌<◌, ℤ, pos, ◌+ℤ◌, ◌≤ℤ◌, ◌<ℤ◌, true, false, if◌then◌else◌, [], ◌∷◌, ◌++◌};
 ghost use Rattle.curve_law.specs.Track.{Track, has_event, event_at, plain_list};
 
 /// A span of no minute has no event, and one of a single minute has the event after it, if there is
@@ -27,10 +27,17 @@ pub fn plain_list_of_quiet_minutes()
 {}
 
 /// Two values next to each other have no event between them where both are above 0, nor where
-/// neither is: one that touches 0 from below passes nothing.
+/// neither is: one that touches 0 from below passes nothing. From above 0 to 0 or less it is the
+/// falling event, and from 0 or less to above 0 the rising one, with the level of the first minute.
 pub fn events_pass_zero()
     ensures above { (t : Track) (m : ℤ) →
         pos 0 <ℤ t.value m → pos 0 <ℤ t.value (m +ℤ pos 1) → has_event t m ≡ false }
     ensures below { (t : Track) (m : ℤ) →
         t.value m ≤ℤ pos 0 → t.value (m +ℤ pos 1) ≤ℤ pos 0 → has_event t m ≡ false }
+    ensures falls { (t : Track) (m : ℤ) →
+        pos 0 <ℤ t.value m → t.value (m +ℤ pos 1) ≤ℤ pos 0 → (has_event t m ≡ true)
+        × (event_at t m ≡ record { minute = m; kind = t.falling; level = t.note m }) }
+    ensures rises { (t : Track) (m : ℤ) →
+        t.value m ≤ℤ pos 0 → pos 0 <ℤ t.value (m +ℤ pos 1) → (has_event t m ≡ true)
+        × (event_at t m ≡ record { minute = m; kind = t.rising; level = t.note m }) }
 {}

@@ -6,13 +6,11 @@
 #![tactic(auto)]
 
 mod event;
-mod events;
 mod kind;
 mod laws;
 mod worked;
 
 pub use event::Event;
-pub use events::Events;
 pub use kind::Kind;
 pub use laws::{
     events_pass_zero, plain_list_of_one_minute, plain_list_of_quiet_minutes,
