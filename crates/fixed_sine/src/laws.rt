@@ -34,8 +34,21 @@ pub fn worked_rows()
     ensures near_ninety { isin_of 53700000000 ≡ pos 999961920 }
     ensures ninety { isin_of 54000000000 ≡ pos 1000000000 }
     ensures second_half { isin_of 108300000000 ≡ negsuc 8726534 }
+    ensures unit_before_ninety { isin_of 53999999999 ≡ pos 999999999 }
+    ensures unit_after_ninety { isin_of 54000000001 ≡ pos 999999999 }
+    ensures a_hundred_eighty { isin_of 108000000000 ≡ pos 0 }
+    ensures cut_to_zero { isin_of 108000034400 ≡ negsuc 999 }
+    ensures two_hundred_seventy { isin_of 162000000000 ≡ negsuc 999999999 }
+    ensures last_unit { isin_of 215999999999 ≡ pos 0 }
     ensures cosine_at_zero { icos_of 0 ≡ pos 1000000000 }
+    ensures cosine_falls_past_ninety { icos_of 54000034400 ≡ negsuc 999 }
+    ensures cosine_goes_round { icos_of 162000034400 ≡ pos 1000 }
     ensures no_step { step_of 0 ≡ 1 }
+    ensures step_below_one { step_of 34 ≡ 1 }
+    ensures step_above_one { step_of 35 ≡ 2 }
     ensures step_of_half_a_degree { step_of 300000000 ≡ 8727001 }
+    ensures greatest_step { step_of 3600000000 ≡ 104724001 }
     ensures below_zero { int_rem_euclid (negsuc 0) (pos circle) ≡ pos 215999999999 }
+    ensures turn_back { int_rem_euclid (negsuc 215999999999) (pos circle) ≡ pos 0 }
+    ensures least_number { int_rem_euclid (negsuc (2 ^ 127 - 1)) (pos circle) ≡ pos 148115894272 }
 {}
