@@ -142,8 +142,10 @@ slope_same b s m book within =
     (agree (year_level (tide_of b s) m) (predicted_year_level b s m) b.first_year b.years m p near (λ year below near. year_level_same b s m year book below near)))
 
 pub predicts_tide : (b : Book) (s : Station) → IsBook b → Predicts b s (tide_of b s)
-unfolding millionths_of predicted_millionths
+unfolding tide_of millionths_of predicted_millionths
 predicts_tide b s book = record {
+  first_year = refl;
+  years = length-tide_of b s;
   level = λ m h. level_same b s m book h;
   slope = λ m h. slope_same b s m book h;
   millionths = λ m h. ap (λ l. rounded_of l (total_weight * 10 ^ 9)) (level_same b s m book h);

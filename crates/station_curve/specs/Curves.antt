@@ -1,5 +1,5 @@
 -- Which curve a station has, and why it may have none (this project).
-use Rattle.std.specs.Prelude.{◌≡◌, ℕ, zero, suc, ◌==◌, nat_lt, not, Bool, true, false, if◌then◌else◌, List, map, filter, Option, Some, None, Result, Ok, Err, ℤ, pos, ◌+ℤ◌, ◌-ℤ◌, unsigned_abs}
+use Rattle.std.specs.Prelude.{◌≡◌, ℕ, zero, suc, ◌==◌, nat_lt, not, Bool, true, false, if◌then◌else◌, List, length, map, filter, Option, Some, None, Result, Ok, Err, ℤ, pos, ◌+ℤ◌, ◌-ℤ◌, unsigned_abs}
 use Rattle.std.specs.List.{range_with_len}
 use Rattle.std.specs.Option.{option_or}
 use Rattle.harmonics_text.specs.declared.book.Units.{Units}
@@ -71,8 +71,10 @@ Gives expected (Err Hydraulic) = expected ≡ Err Hydraulic
 Gives expected (Err (TooLarge year)) = expected ≡ Err (TooLarge year)
 Gives expected (Err (TooSteep year)) = expected ≡ Err (TooSteep year)
 
--- the tide has the station's level and slope at each minute, by every constituent of the book
+-- the tide is of the book's years, and has the station's level and slope at each minute by every constituent of the book
 pub record Predicts (b : Book) (s : Station) (tide : Tide) : Type 0 where
+  pub first_year : tide.first_year ≡ b.first_year
+  pub years : length tide.years ≡ b.years
   pub level : (m : ℤ) → InDomain b.first_year b.years m → level_of tide m ≡ predicted_level b s m
   pub slope : (m : ℤ) → InDomain b.first_year b.years m → slope_of tide m ≡ predicted_slope b s m
   pub millionths : (m : ℤ) → InDomain b.first_year b.years m → millionths_of tide m ≡ predicted_millionths b s m

@@ -1,4 +1,4 @@
--- What a station's curve keeps.
+-- What a station's curve keeps, and the tide that it is seen as. No public clause cites it.
 use Rattle.std.specs.Prelude.{◌≡◌, ℕ, ◌<◌, length, map, slice_index_or}
 use Rattle.year_blend.specs.Places.{start_of}
 use Rattle.station_curve.specs.declared.years.Year.{Year}

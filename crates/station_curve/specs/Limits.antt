@@ -1,4 +1,5 @@
--- How large a tide may be (this project): within these limits all its numbers fit their types.
+-- How large a tide may be (this project): a station beyond one of the two limits has no curve. What follows them is for
+-- the proofs that all numbers fit their types; no public clause cites it.
 use Rattle.std.specs.Prelude.{◌≡◌, ℕ, ◌-◌, ◌^◌, ◌<◌, ◌≤◌, length, ℤ, pos, ◌+ℤ◌, ◌-ℤ◌, ◌*ℤ◌, ◌≤ℤ◌, unsigned_abs, All}
 use Rattle.fixed_sine.specs.Circle.{circle}
 use Rattle.year_blend.specs.declared.parts.Place.{Place}

@@ -1,4 +1,4 @@
--- The years of a book's station as they are kept.
+-- The years of a book's station as a curve keeps them. No public clause cites it.
 use Rattle.std.specs.Prelude.{◌≡◌, ℕ, ◌<◌, List, length, filter, None, slice_index_or}
 use Rattle.harmonics_text.specs.declared.book.Station.{Station}
 use Rattle.harmonics_text.specs.declared.book.Book.{Book}

@@ -18,7 +18,7 @@ phase_at h t = (h.phase + h.speed * t) % circle
 abbrev pub height_at : ℕ → Harmonic → ℤ
 height_at t h = h.amplitude *ℤ icos_of (phase_at h t)
 
--- how much it takes off the level a minute, in the same unit and for one unit of the circle
+-- what it takes off the level a minute, in the same unit, times the units of a radian
 abbrev pub fall_at : ℕ → Harmonic → ℤ
 fall_at t h = (h.amplitude *ℤ pos h.speed) *ℤ isin_of (phase_at h t)
 

@@ -1,11 +1,12 @@
--- A small book of one constituent, three years from 1999 on, and its station (this project).
-use Rattle.std.specs.Prelude.{[], ◌∷◌, codes, ℤ, pos}
+-- Small books and their stations, whose tides are worked out elsewhere (this project).
+use Rattle.std.specs.Prelude.{[], ◌∷◌, codes, ℤ, pos, negsuc}
 use Rattle.harmonics_text.specs.declared.book.Units.{Units}
+use Rattle.harmonics_text.specs.declared.book.Units.TheVariants.{Feet}
 use Rattle.harmonics_text.specs.declared.book.Station.{Station}
 use Rattle.harmonics_text.specs.declared.book.Book.{Book}
 use Rattle.station_curve.specs.Waves.{Harmonic}
 
--- by the constituent's speed, and its argument from the second year on
+-- one constituent and three years from 1999 on: its speed, and its argument from the second year on
 abbrev pub small_book : ℤ → ℤ → Book
 small_book speed argument = record {
   constituents = record { name = codes "S2"; speed = speed } ∷ [];
@@ -27,6 +28,39 @@ small_station amplitude units = record {
   epoch = pos 0 ∷ [];
 }
 
--- its wave, an hour before the second year
+-- a wave of the unit's whole amplitude that turns by half a degree a minute, from its top on
 abbrev pub small_wave : Harmonic
 small_wave = record { amplitude = pos 1000000; speed = 300000000; phase = 0 }
+
+-- half a day's tide at noon and midnight, the same in all years
+abbrev pub pier_book : Book
+pier_book = small_book (pos 300000000) (pos 0)
+
+-- the same, but 60 degrees further on from the second year on
+abbrev pub shifted_book : Book
+shifted_book = small_book (pos 300000000) (pos 600000000)
+
+abbrev pub pier : Station
+pier = small_station (pos 1000000) Feet
+
+-- two constituents over 2000 and 2001, and a station west of Greenwich with a mean level
+abbrev pub harbour_book : Book
+harbour_book = record {
+  constituents = record { name = codes "M2"; speed = pos 289841042 } ∷ record { name = codes "S2"; speed = pos 300000000 } ∷ [];
+  first_year = pos 2000;
+  years = 2;
+  angles = pos 1205000000 ∷ pos 302500000 ∷ pos 0 ∷ negsuc 104999999 ∷ [];
+  factors = pos 985000 ∷ pos 1012345 ∷ pos 1000000 ∷ pos 500000 ∷ [];
+  stations = [];
+}
+
+abbrev pub harbour : Station
+harbour = record {
+  name = codes "Harbour";
+  meridian = negsuc 299;
+  zone = codes "America/New_York";
+  datum = pos 2500000;
+  units = Feet;
+  amplitude = pos 1234000 ∷ pos 400000 ∷ [];
+  epoch = pos 450000000 ∷ pos 3000000000 ∷ [];
+}

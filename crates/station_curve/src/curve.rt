@@ -124,13 +124,6 @@ impl StationCurve {
         self.years.len() as u32
     }
 
-    /// That the tide is within the limits, for those who prove that their numbers fit.
-    pub fn known(&self)
-        ensures { IsGentle self.now }
-    {
-        let _years = &self.years;
-    }
-
     /// The level at a minute, from the first to the last.
     pub fn level(&self, m: i64) -> i128
         requires { InDomain self.now.first_year (length self.now.years) m }

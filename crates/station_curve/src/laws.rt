@@ -4,8 +4,9 @@ ghost use Rattle.std.specs.Prelude.{◌≡◌, ◌-◌, ◌*◌, ◌^◌, [], �
 ghost use Rattle.harmonics_text.specs.declared.book.Units.TheVariants.{Feet, KnotsSquared};
 ghost use Rattle.station_curve.specs.declared.fault.CurveFault.TheVariants.{Hydraulic, TooLarge, TooSteep};
 ghost use Rattle.station_curve.specs.Curves.{tide_of, curve_of};
+ghost use Rattle.station_curve.specs.Schureman.{amplitude_of, phase_of, predicted_level, predicted_slope, predicted_millionths};
 ghost use Rattle.station_curve.specs.Waves.{heights_of, falls_of};
-ghost use Rattle.station_curve.specs.Worked.{small_book, small_station, small_wave};
+ghost use Rattle.station_curve.specs.Worked.{small_book, small_station, small_wave, pier_book, shifted_book, pier, harbour_book, harbour};
 
 /// A wave that turns by half a degree a minute: its height, and what it takes off the level.
 pub fn worked_waves()
@@ -29,4 +30,39 @@ pub fn worked_limits()
         ≡ Err (TooLarge (pos 1999)) }
     ensures hydraulic_first { curve_of (small_book (pos 100000000) (pos 0)) (small_station (pos 1000000001) KnotsSquared)
         ≡ Err Hydraulic }
+{}
+
+/// Amplitudes and phases by the constants of a year: a phase of 75.5 and one of 60 degrees.
+pub fn worked_constants()
+    ensures first_year { amplitude_of harbour_book harbour 0 0 ≡ pos 1215490 }
+    ensures second_year { amplitude_of harbour_book harbour 1 0 ≡ pos 1249234 }
+    ensures second_constituent { amplitude_of harbour_book harbour 1 1 ≡ pos 200000 }
+    ensures argument_less_epoch { phase_of harbour_book harbour 0 (pos 15778380) 0 ≡ 45300000000 }
+    ensures round_the_circle { phase_of harbour_book harbour 0 (pos 15778380) 1 ≡ 36000000000 }
+    ensures a_minute_later { phase_of harbour_book harbour 0 (pos 15778381) 1 ≡ 36300000000 }
+{}
+
+/// Levels in the plain parts of years and across a new year, as another program computed them.
+pub fn worked_levels()
+    ensures noon { predicted_millionths pier_book pier (pos 15791759) ≡ pos 999962 }
+    ensures two_hours_before { predicted_millionths shifted_book pier (pos 15777960) ≡ pos 500000 }
+    ensures an_hour_before { predicted_millionths shifted_book pier (pos 15778020) ≡ pos 866025 }
+    ensures first_blended { predicted_level shifted_book pier (pos 15778021) ≡ pos 3609538927329170264000000 }
+    ensures new_year { predicted_millionths shifted_book pier (pos 15778080) ≡ pos 750000 }
+    ensures an_hour_after { predicted_millionths shifted_book pier (pos 15778140) ≡ pos 0 }
+    ensures two_hours_after { predicted_millionths shifted_book pier (pos 15778200) ≡ negsuc 499999 }
+    ensures harbour_2000 { predicted_millionths harbour_book harbour (pos 15778380) ≡ pos 3004334 }
+    ensures harbour_new_year { predicted_level harbour_book harbour (pos 16305140) ≡ pos 7891150378810916147200000 }
+    ensures harbour_2001 { predicted_millionths harbour_book harbour (pos 16390080) ≡ pos 1303827 }
+{}
+
+/// Slopes there.
+pub fn worked_slopes()
+    ensures before_noon { predicted_slope pier_book pier (pos 15791759) ≡ pos 10857205785600000000000000000000 }
+    ensures noon { predicted_slope pier_book pier (pos 15791760) ≡ pos 0 }
+    ensures blended_rising { predicted_slope shifted_book pier (pos 15778047) ≡ pos 4879827205568036746907580000000 }
+    ensures blended_falling { predicted_slope shifted_book pier (pos 15778048) ≡ negsuc 37693987889375898819747839999999 }
+    ensures harbour_2000 { predicted_slope harbour_book harbour (pos 15778380) ≡ negsuc 1845505594810030997276992511999999 }
+    ensures harbour_new_year { predicted_slope harbour_book harbour (pos 16305140) ≡ negsuc 3274988533158132834799953510399999 }
+    ensures harbour_2001 { predicted_slope harbour_book harbour (pos 16390080) ≡ pos 802828425453686744053872844800000 }
 {}

@@ -16,7 +16,7 @@ mod years;
 
 pub use curve::StationCurve;
 pub use fault::CurveFault;
-pub use laws::{worked_limits, worked_waves};
+pub use laws::{worked_constants, worked_levels, worked_limits, worked_slopes, worked_waves};
 
 #[cfg(test)]
 mod tests;
