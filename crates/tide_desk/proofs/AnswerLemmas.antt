@@ -1,11 +1,15 @@
 -- How an answer follows from those of its steps.
-use Rattle.std.proofs.Common.{◌≡◌, ℕ, Bool, true, false, cond, List, length, Option, Some, None, Result, Ok, Err, refl, sym, ap, ◌∙◌, inl, inr}
+use Rattle.std.proofs.Common.{◌≡◌, ℕ, suc, ◌≤◌, Bool, List, length, Option, Some, None, Result, Ok, Err, refl, inl, inr, arith}
+use Rattle.std.specs.Prelude.{replicate}
+use Rattle.std.proofs.lemmas.Bool.{le-leb, lt-leb}
+use Rattle.std.proofs.lemmas.List.{length-replicate}
+use Rattle.tide_edge.specs.declared.read_all_fault.ReadAllFault.{ReadAllFault}
+use Rattle.tide_edge.specs.declared.read_all_fault.ReadAllFault.TheVariants as reading
+use Rattle.tide_desk.specs.Faults.{fault_of_reading}
 use Rattle.harmonics_text.specs.declared.book.Book.{Book}
 use Rattle.harmonics_text.specs.declared.book.Station.{Station}
 use Rattle.harmonics_text.specs.declared.book.Units.{Units}
-use Rattle.station_curve.specs.declared.fault.CurveFault.{CurveFault}
-use Rattle.station_curve.specs.declared.fault.CurveFault.TheVariants as curve
-use Rattle.station_curve.specs.Curves.{curve_of, tide_of, tide_or, is_hydraulic, first_fault, Predicts}
+use Rattle.station_curve.specs.Curves.{curve_of, Predicts}
 use Rattle.station_curve.specs.Waves.{Tide}
 use Rattle.tide_desk.specs.declared.fault.Fault.{Fault}
 use Rattle.harmonics_text.specs.Reading.{book_of}
@@ -18,7 +22,6 @@ use Rattle.tide_desk.specs.Answers.{file_limit, bytes_from, book_from, text_for,
 use Rattle.tide_desk.specs.Listings.{turn_track}
 use Rattle.tide_desk.specs.Stations.{IsSpan}
 use Rattle.tide_desk.specs.Steps.{◌>>=◌, source_of, Excused, Gives}
-use Rattle.std.proofs.lemmas.List.FromFn.{length-map-range_with_len}
 use Rattle.tide_desk.proofs.SpanLemmas.{listing-predicts}
 
 -- the listing by a tide that predicts the station
@@ -72,16 +75,40 @@ unfolding answer_of
 met_by_text steady folder words asked bytes book result e f g gives =
     rw (e, f, g) (given_meets steady ⊥ (text_for book asked) result gives)
 
-tide_at : (hydraulic : Bool) (kept tide : Tide) (fault : Option CurveFault) → cond hydraulic (Err curve.Hydraulic) (tide_or kept fault) ≡ Ok tide → kept ≡ tide
-tide_at true kept tide fault e = cc
-tide_at false kept tide None e = cc
-tide_at false kept tide (Some fault) e = cc
+-- The same over a folder that has what was read, whatever the files told.
+excused_on : {A B : Type 0} (step : Result A Fault) (next : A → Result B Fault) (fault : Fault) (source : Source) → Excused source step fault → Excused source (step >>= next) fault
+excused_on step next fault memory excused = tt
+excused_on step next fault outside excused = rw excused refl
+excused_on step next fault given excused = rw excused refl
 
--- a station's tide is of the book's years
-pub curve_years : (b : Book) (s : Station) (tide : Tide) → curve_of b s ≡ Ok tide → (tide.first_year ≡ b.first_year) × (length tide.years ≡ b.years)
-unfolding curve_of tide_of
-curve_years b s tide e =
-    let same = tide_at (is_hydraulic s.units) (tide_of b s) tide (first_fault b s b.years) e in (
-      sym (ap (λ (t : Tide). t.first_year) same),
-      sym (ap (λ (t : Tide). length t.years) same) ∙ length-map-range_with_len _ 0 b.years,
-    )
+pub gives_at_words : (folder : List ℕ → Option (List ℕ)) (words : List (List ℕ)) (fault : Fault) → Gives (asked_of words) (Err fault) → Gives (answer_of folder words) (Err fault)
+unfolding answer_of
+gives_at_words folder words fault gives = excused_on (asked_of words) _ fault (source_of fault) gives
+
+pub gives_at_bytes : (folder : List ℕ → Option (List ℕ)) (words : List (List ℕ)) (asked : Asked) (fault : Fault) → asked_of words ≡ Ok asked → Gives (bytes_from (whole file_limit (folder (file_of asked)))) (Err fault) → Gives (answer_of folder words) (Err fault)
+unfolding answer_of
+gives_at_bytes folder words asked fault e gives =
+    rw e (excused_on (bytes_from (whole file_limit (folder (file_of asked)))) _ fault (source_of fault) gives)
+
+pub gives_at_form : (folder : List ℕ → Option (List ℕ)) (words : List (List ℕ)) (asked : Asked) (bytes : List ℕ) (fault : Fault) → asked_of words ≡ Ok asked → bytes_from (whole file_limit (folder (file_of asked))) ≡ Ok bytes → Gives (book_from (book_of bytes)) (Err fault) → Gives (answer_of folder words) (Err fault)
+unfolding answer_of
+gives_at_form folder words asked bytes fault e f gives =
+    rw (e, f) (excused_on (book_from (book_of bytes)) _ fault (source_of fault) gives)
+
+pub gives_by_text : (folder : List ℕ → Option (List ℕ)) (words : List (List ℕ)) (asked : Asked) (bytes : List ℕ) (book : Book) (result : Result (List ℕ) Fault) → asked_of words ≡ Ok asked → bytes_from (whole file_limit (folder (file_of asked))) ≡ Ok bytes → book_from (book_of bytes) ≡ Ok book → Gives (text_for book asked) result → Gives (answer_of folder words) result
+unfolding answer_of
+gives_by_text folder words asked bytes book result e f g gives = rw (e, f, g) gives
+
+-- what reading a file gave is what some file gives
+pub some_bytes : (bytes : List ℕ) → length bytes ≤ file_limit → Gives (bytes_from (whole file_limit (Some bytes))) (Ok bytes)
+some_bytes bytes within = rw (le-leb (length bytes) file_limit within) refl
+
+some_long : (limit : ℕ) → (file : Option (List ℕ)) × (whole limit file ≡ Err reading.TooLong)
+some_long limit =
+    let bytes : List ℕ = replicate (suc limit) 0 in
+    (Some bytes, rw (lt-leb (length bytes) limit (omega (arith, length-replicate {A = ℕ} (suc limit) 0))) refl)
+
+pub some_file : (fault : ReadAllFault) → (file : Option (List ℕ)) × Gives (bytes_from (whole file_limit file)) (Err (fault_of_reading fault))
+some_file reading.Failed = (None, refl)
+some_file reading.TooLong = let long = some_long file_limit in (long.0, rw long.1 refl)
+some_file reading.NoMemory = (None, tt)

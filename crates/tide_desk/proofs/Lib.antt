@@ -1,3 +1,4 @@
 mod SpanLemmas
 mod AnswerLemmas
 mod CalmLemmas
+mod OutcomeLemmas

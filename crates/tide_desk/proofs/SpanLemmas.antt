@@ -3,13 +3,11 @@ use Rattle.std.specs.List.{flat_map}
 use Rattle.std.proofs.lemmas.Grind.{flat_map-append}
 use Rattle.curve_law.specs.Track.{Track, plain_list, has_event, side_at, event_at}
 use Rattle.curve_law.specs.declared.event.Event.{Event}
-use Rattle.jiff_core.specs.Calendar.{day_count}
-use Rattle.jiff_core.proofs.MarchLemmas.{day_count-early}
 use Rattle.jiff_core.proofs.SignedLemmas.{signed_arith, one_part}
 use Rattle.std.proofs.lemmas.Int.{ints}
 use Rattle.year_blend.specs.Years.{year_start_of}
 use Rattle.year_blend.specs.Places.{AreYears, InDomain}
-use Rattle.year_blend.proofs.YearLemmas.{year_start_of-day_count, year_start_of_mono, year_start_of_high}
+use Rattle.year_blend.proofs.YearLemmas.{year_start_of_low, year_start_of_high}
 use Rattle.tide_desk.specs.Listings.{IsDeskMinute, turn_track, listing_of}
 use Rattle.harmonics_text.specs.declared.book.Book.{Book}
 use Rattle.harmonics_text.specs.declared.book.Station.{Station}
@@ -45,18 +43,10 @@ pub turning_minute : (t : Track) (a : ℤ) (here there : Bool) → here ≡ side
 turning_minute t a here there e f differ =
     let q : has_event t a ≡ true = sides_differ _ _ here there e f differ in rw (plain_list-one t a, q) refl
 
-day_count-first : day_count (pos 2) 1 1 ≡ 3653156
-day_count-first = day_count-early (pos 2) 10001 1 1 refl (omega arith) (omega arith) (omega arith)
-
-first_start : (y : ℤ) → pos 2 ≤ℤ y → negsuc 1035067679 ≤ℤ year_start_of y
-first_start y low =
-    let mono = year_start_of_mono (pos 2) y (omega (arith, signed_arith)) low in
-    omega (arith, signed_arith, year_start_of-day_count (pos 2), day_count-first)
-
 -- the minutes of a file's years have dates
 pub desk_minute : (first_year : ℤ) (years : ℕ) (m : ℤ) → AreYears first_year years → InDomain first_year years m → IsDeskMinute m
 desk_minute first_year years m are inside =
-    let low = first_start first_year are.least in
+    let low = year_start_of_low first_year are.least in
     let high = year_start_of_high (first_year +ℤ pos years) (omega (arith, ints)) (omega (arith, ints)) in
     let least = inside.least in
     let most = inside.most in

@@ -21,6 +21,11 @@ Says expected ReadFault = Unit {0}
 Says expected WriteFault = IsOk expected
 Says expected NoMemory = Unit {0}
 
+-- the same, where a fault of reading is the expected one too
+abbrev pub SaysAll : Result (List ℕ) Fault → Status → Type 0
+SaysAll expected ReadFault = IsRefused expected ReadFault
+SaysAll expected status = Says expected status
+
 -- the first bytes of a text were written, that many
 abbrev pub WritesFront : List ℕ → List ℕ → List ℕ → Type 0
 WritesFront text before after = (count : ℕ) × (after ≡ before ++ take count text)

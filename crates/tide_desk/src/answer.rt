@@ -1,6 +1,6 @@
 //! The answer to the words, or the first fault on the way to it.
 
-ghost use Rattle.std.specs.Prelude.{◌≡◌, ◌≤◌, length, IfOk, IfErr, IsErrOf};
+ghost use Rattle.std.specs.Prelude.{◌≡◌, ℕ, ◌≤◌, List, length, Option, IfOk, IfErr, IsErrOf};
 ghost use Rattle.harmonics_text.specs.Books.{IsBook};
 ghost use Rattle.harmonics_text.specs.Reading.{book_of};
 ghost use Rattle.tide_desk.specs.Answers.{answer_of, bytes_from, book_from, file_limit, text_for};
@@ -26,6 +26,7 @@ pub const FILE_LIMIT: u64 = 67_108_864;
 /// file's reading and its form, and then those of what is asked of the book.
 pub fn answer<F: Files>(alloc: Global, words: &Words, files: &mut F) -> Result<Bytes, Fault>
     ensures met { F.tells files.old → Meets source_of (F.steady files.old) ⊥ (answer_of (F.folder files.old) words.now) result }
+    ensures some { (folder : List ℕ → Option (List ℕ)) × Gives (answer_of folder words.now) result }
     ensures read_fault { IsErrOf result Fault.ReadFault → Rose (F.faults files.old) (F.faults files.new) }
     ensures told { IfErr result IsTold }
 {
@@ -38,6 +39,7 @@ pub fn answer<F: Files>(alloc: Global, words: &Words, files: &mut F) -> Result<B
 fn read_file<F: Files>(alloc: Global, files: &mut F, name: &Text) -> Result<Bytes, Fault>
     ensures met { F.tells files.old
         → Meets source_of (F.steady files.old) ⊥ (bytes_from (whole file_limit (F.folder files.old name.now))) result }
+    ensures some { (file : Option (List ℕ)) × Gives (bytes_from (whole file_limit file)) result }
     ensures within { IfOk result (λ bytes. length bytes ≤ file_limit) }
     ensures read_fault { IsErrOf result Fault.ReadFault → Rose (F.faults files.old) (F.faults files.new) }
     ensures told { IfErr result IsTold }

@@ -1,10 +1,10 @@
 //! One run, from the words to the status.
 
-ghost use Rattle.std.specs.Prelude.{◌≡◌, ◌⊎◌, Err, IsTrue, IsOk};
+ghost use Rattle.std.specs.Prelude.{◌≡◌, ◌⊎◌, ℕ, List, Option, Err, IsTrue, IsOk};
 ghost use Rattle.tide_edge.specs.Faults.{Rose};
 ghost use Rattle.tide_desk.specs.Answers.{answer_of};
 ghost use Rattle.tide_desk.specs.Faults.{IsTold};
-ghost use Rattle.tide_desk.specs.Outcomes.{Says, Took, IsUnwritten, WritesLine, line_with, IsToldBy, told_line};
+ghost use Rattle.tide_desk.specs.Outcomes.{Says, SaysAll, Took, IsUnwritten, WritesLine, line_with, IsToldBy, told_line};
 
 use crate::answer::answer;
 use crate::fault::{Fault, fault_line, fault_status};
@@ -40,6 +40,15 @@ pub fn run<F: Files, O: Sink, E: Sink, K: Clock>(
     ensures complete { F.tells files.old → IsTrue (F.steady files.old)
         → IsOk (answer_of (F.folder files.old) words.now) → ¬ (Rose (O.faults out.old) (O.faults out.new))
         → (result ≡ Status.Done) ⊎ (result ≡ Status.NoMemory) }
+    ensures some_files { (folder : List ℕ → Option (List ℕ))
+        × SaysAll (answer_of folder words.now) result
+        × (O.tells out.old → Took (answer_of folder words.now) result (O.taken out.old) (O.taken out.new))
+        × (E.tells err.old → WritesLine
+        (line_with (answer_of folder words.now) result)
+        (E.taken err.old)
+        (E.taken err.new)
+        (Rose (E.faults err.old) (E.faults err.new))) }
+    ensures unasked { _clock.new ≡ _clock.old }
 {
     match answer(alloc, words, files) {
         Ok(text) => match write_all(out, text.as_slice()) {

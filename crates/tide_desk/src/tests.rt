@@ -42,14 +42,33 @@ fn words_of(alloc: Global, line: &str) -> Result<Words, AllocError> {
     Ok(Words::from_vec(words))
 }
 
-// Runs over a file `pier.txt`. A write to `out` takes at most `most` bytes, and the call of that
-// number fails.
+// The numbers of the calls that fail, counted from 1 for each object.
+#[derive(Clone, Copy)]
+struct Fails {
+    files: u64,
+    out: u64,
+    err: u64,
+}
+
+const NONE: Fails = Fails {
+    files: 0,
+    out: 0,
+    err: 0,
+};
+
+fn only(alloc: Global, number: u64) -> Result<Vec<u64>, AllocError> {
+    let mut numbers = Vec::new(alloc);
+    numbers.push(number)?;
+    Ok(numbers)
+}
+
+// Runs over a file `pier.txt`. A write takes at most `most` bytes.
 fn run_over(
     alloc: Global,
     file: Bytes,
     line: &str,
     most: u64,
-    failing: u64,
+    fails: Fails,
 ) -> Result<Outcome, AllocError> {
     let words = words_of(alloc, line)?;
     let named = NamedFile {
@@ -58,11 +77,9 @@ fn run_over(
     };
     let mut held = Vec::new(alloc);
     held.push(named)?;
-    let mut files = MemoryFiles::new(held, Vec::new(alloc));
-    let mut fails = Vec::new(alloc);
-    fails.push(failing)?;
-    let mut out = MemorySink::new(alloc, most.max(1), 4096, fails)?;
-    let mut err = MemorySink::new(alloc, 4096, 4096, Vec::new(alloc))?;
+    let mut files = MemoryFiles::new(held, only(alloc, fails.files)?);
+    let mut out = MemorySink::new(alloc, most.max(1), 4096, only(alloc, fails.out)?)?;
+    let mut err = MemorySink::new(alloc, most.max(1), 4096, only(alloc, fails.err)?)?;
     let mut clock = FixedClock::new(0, Vec::new(alloc));
     let status = run(alloc, &words, &mut files, &mut out, &mut err, &mut clock);
     Ok(Outcome {
@@ -102,6 +119,21 @@ fn a_span_lists_its_events(rt: HostRuntime) -> Result<(), Fail> {
         ),
         (0, "", "2000-01-10T23:58Z", "2000-01-10T23:59Z", "Pier\n"),
         (0, "", "2000-01-10T00:00Z", "2000-01-10T00:00Z", "Pier\n"),
+        (0, "", "2002-01-01T00:00Z", "2002-01-01T00:00Z", "Pier\n"),
+        (
+            0,
+            "",
+            "1999-01-01T00:00Z",
+            "1999-01-01T06:01Z",
+            "Pier\n1999-01-01 06:00 UTC      -1.00 feet  Low Tide\n",
+        ),
+        (
+            16,
+            "S2 1 0\nPier\n0:00\n5 feet\nS2 1 0",
+            "2000-01-10T23:59Z",
+            "2000-01-11T00:00Z",
+            "Pier\n2000-01-10 23:59 UTC       1.00 feet  High Tide\n",
+        ),
         (
             7,
             "0 60 60",
@@ -131,7 +163,7 @@ fn a_span_lists_its_events(rt: HostRuntime) -> Result<(), Fail> {
         let words = format!(in alloc;
             "predict|file=pier.txt|station=Pier|begin={begin}|end={end}"
         )?;
-        let outcome = run_over(alloc, file, words.as_str(), 4096, 0)?;
+        let outcome = run_over(alloc, file, words.as_str(), 4096, NONE)?;
         assert_outcome(&rt, &outcome, 0, expected, "");
     }
     Ok(())
@@ -158,7 +190,18 @@ fn each_refusal_has_its_line(rt: HostRuntime) -> Result<(), Fail> {
             2,
             "words: refused\n",
         ),
+        (0, "", "PREDICT|file=pier.txt", 2, "words: refused\n"),
+        (0, "", "stations|FILE=pier.txt", 2, "words: refused\n"),
+        (0, "", "stations|file=pier.txt|zone=UTC", 2, "words: refused\n"),
+        (
+            0,
+            "",
+            "predict|file=quay.txt|station=|begin=2000-01-10T00:00Z|end=2000-01-11T00:00Z",
+            2,
+            "words: refused\n",
+        ),
         (0, "", "stations|file=quay.txt", 6, "read fault\n"),
+        (0, "", "stations|file==pier.txt", 6, "read fault\n"),
         (
             3,
             "S2 30.00000001",
@@ -174,7 +217,28 @@ fn each_refusal_has_its_line(rt: HostRuntime) -> Result<(), Fail> {
             3,
             "file: line 16: wrong constituent (7)\n",
         ),
+        (
+            3,
+            "S2 30.00000001",
+            "predict|file=pier.txt|station=Pie|begin=2000-01-10T00:00Z|end=2000-01-11T00:00Z",
+            3,
+            "file: line 3: too fine (4)\n",
+        ),
         (13, "Quay", PREDICT, 4, "refused: no station\n"),
+        (
+            15,
+            "0 knots^2",
+            "predict|file=pier.txt|station=Pie|begin=2000-01-10T00:00Z|end=2000-01-11T00:00Z",
+            4,
+            "refused: no station\n",
+        ),
+        (
+            15,
+            "0 knots^2",
+            "predict|file=pier.txt|station=Pier|begin=2000-01-10T00:01Z|end=2000-01-10T00:00Z",
+            4,
+            "refused: hydraulic\n",
+        ),
         (15, "0 knots^2", PREDICT, 4, "refused: hydraulic\n"),
         (15, "0 knots", PREDICT, 4, "refused: currents not built\n"),
         (
@@ -183,6 +247,20 @@ fn each_refusal_has_its_line(rt: HostRuntime) -> Result<(), Fail> {
             "predict|file=pier.txt|station=Pier|begin=2000-01-10T00:01Z|end=2000-01-10T00:00Z",
             4,
             "refused: backward span\n",
+        ),
+        (
+            0,
+            "",
+            "predict|file=pier.txt|station=Pier|begin=2002-01-01T00:02Z|end=2002-01-01T00:01Z",
+            4,
+            "refused: backward span\n",
+        ),
+        (
+            16,
+            "S2 1000.000001 0",
+            "predict|file=pier.txt|station=Pier|begin=1998-12-31T23:59Z|end=1999-01-02T00:00Z",
+            4,
+            "refused: out of years: file has 1999-01-01T00:00Z to 2002-01-01T00:00Z\n",
         ),
         (
             0,
@@ -208,7 +286,7 @@ fn each_refusal_has_its_line(rt: HostRuntime) -> Result<(), Fail> {
     ];
     for (line, text, words, status, expected) in rows {
         let file = pier_with(alloc, line, text)?;
-        let outcome = run_over(alloc, file, words, 4096, 0)?;
+        let outcome = run_over(alloc, file, words, 4096, NONE)?;
         assert_outcome(&rt, &outcome, status, "", expected);
     }
     Ok(())
@@ -217,22 +295,27 @@ fn each_refusal_has_its_line(rt: HostRuntime) -> Result<(), Fail> {
 #[test]
 fn a_span_of_too_many_minutes_is_refused(rt: HostRuntime) -> Result<(), Fail> {
     let alloc = rt.alloc();
-    let file =
-        "1\nS2 30\n1999\n11\nS2\n0 0 0 0 0 0 0 0 0 0 0\n*END*\n11\nS2\n1 1 1 1 1 1 1 1 1 1 1\n*END*\n\
-        Pier\n0:00\n0 feet\nS2 1 0\n";
-    let bytes = Bytes::from_vec(Vec::from_slice(alloc, file.as_bytes())?);
     let words = "predict|file=pier.txt|station=Pier|begin=1999-01-02T00:00Z|end=2009-01-09T00:01Z";
-    let outcome = run_over(alloc, bytes, words, 4096, 0)?;
-    assert_outcome(&rt, &outcome, 5, "", "limit: span of 5270401 minutes\n");
+    for (amplitude, line) in [
+        ("1", "limit: span of 5270401 minutes\n"),
+        ("400", "limit: too steep in 1999\n"),
+    ] {
+        let file = format!(in alloc;
+            "1\nS2 30\n1999\n11\nS2\n0 0 0 0 0 0 0 0 0 0 0\n*END*\n11\nS2\n1 1 1 1 1 1 1 1 1 1 1\n*END*\nPier\n0:00\n0 feet\nS2 {amplitude} 0\n"
+        )?;
+        let bytes = Bytes::from_vec(file.into_bytes());
+        let outcome = run_over(alloc, bytes, words, 4096, NONE)?;
+        assert_outcome(&rt, &outcome, 5, "", line);
+    }
     Ok(())
 }
 
 #[test]
 fn stations_are_listed(rt: HostRuntime) -> Result<(), Fail> {
     let alloc = rt.alloc();
-    let file = pier_with(alloc, 0, "")?;
-    let outcome = run_over(alloc, file, "stations|file=pier.txt", 4096, 0)?;
-    assert_outcome(&rt, &outcome, 0, "Ref feet Pier\n", "");
+    let file = pier_with(alloc, 16, "S2 1 0\nQuay\n0:00\n2 knots^2\nx 0 0")?;
+    let outcome = run_over(alloc, file, "stations|file=pier.txt", 4096, NONE)?;
+    assert_outcome(&rt, &outcome, 0, "Ref feet Pier\nRef knots^2 Quay\n", "");
     Ok(())
 }
 
@@ -241,8 +324,42 @@ fn a_failed_write_ends_the_run(rt: HostRuntime) -> Result<(), Fail> {
     let alloc = rt.alloc();
     for (failing, out) in [(1, ""), (2, "Pier\n2000-"), (3, "Pier\n2000-01-10 06:0")] {
         let file = pier_with(alloc, 0, "")?;
-        let outcome = run_over(alloc, file, PREDICT, 10, failing)?;
+        let fails = Fails {
+            out: failing,
+            ..NONE
+        };
+        let outcome = run_over(alloc, file, PREDICT, 10, fails)?;
         assert_outcome(&rt, &outcome, 7, out, "write fault\n");
+    }
+    Ok(())
+}
+
+#[test]
+fn a_failed_read_ends_the_run(rt: HostRuntime) -> Result<(), Fail> {
+    let alloc = rt.alloc();
+    for failing in [1, 2, 3] {
+        let file = pier_with(alloc, 0, "")?;
+        let fails = Fails {
+            files: failing,
+            ..NONE
+        };
+        let outcome = run_over(alloc, file, PREDICT, 4096, fails)?;
+        assert_outcome(&rt, &outcome, 6, "", "read fault\n");
+    }
+    Ok(())
+}
+
+#[test]
+fn a_line_that_fails_changes_no_status(rt: HostRuntime) -> Result<(), Fail> {
+    let alloc = rt.alloc();
+    for (failing, err) in [(1, ""), (2, "refused: n"), (3, "refused: no station\n")] {
+        let file = pier_with(alloc, 13, "Quay")?;
+        let fails = Fails {
+            err: failing,
+            ..NONE
+        };
+        let outcome = run_over(alloc, file, PREDICT, 10, fails)?;
+        assert_outcome(&rt, &outcome, 4, "", err);
     }
     Ok(())
 }

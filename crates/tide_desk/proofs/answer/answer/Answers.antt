@@ -1,10 +1,10 @@
-use Rattle.std.proofs.Common.{◌≡◌}
+use Rattle.std.proofs.Common.{◌≡◌, None}
 use Rattle.tide_edge.proofs.ExcuseLemmas.{meets_by_fault}
 use Rattle.tide_desk.specs.Answers.{answer_of, text_for}
 use Rattle.tide_desk.specs.Faults.{IsTold}
 use Rattle.tide_desk.specs.Steps.{source_of}
 use Rattle.tide_desk.specs.Words.{asked_of}
-use Rattle.tide_desk.proofs.AnswerLemmas.{met_at_words, met_at_bytes, met_at_form, met_by_text}
+use Rattle.tide_desk.proofs.AnswerLemmas.{met_at_words, met_at_bytes, met_at_form, met_by_text, gives_at_words, gives_at_bytes, gives_at_form, gives_by_text}
 use Rattle.std.proofs.lemmas.Result.{err_from_is_err_and}
 use Rattle.tide_desk.specs.declared.fault.Fault.TheVariants.{ReadFault}
 use Rattle.tide_desk.proofs.CalmLemmas.{calm_asked, calm_text, given_fault, given_result}
@@ -78,3 +78,25 @@ returns-clause-told g c =
     let book = c.in_ok-book.book in
     let asked = c.in_ok-asked.asked in
     (given_result (text_for book asked) c.text_of.result (calm_text book asked c.in_ok-book.ensures.sound) c.text_of.ensures).0
+
+pub returns-in_err-asked-clause-some : goal.returns-in_err-asked-clause-some
+returns-in_err-asked-clause-some g c =
+    let p = err_from_is_err_and c.from_residual.result c.from_residual.ensures.1 in
+    (λ _. None, rw (p.1, p.2) (gives_at_words (λ _. None) _ _ c.in_err-asked.ensures))
+
+pub returns-in_err-bytes-clause-some : goal.returns-in_err-bytes-clause-some
+returns-in_err-bytes-clause-some g c =
+    let p = err_from_is_err_and c.from_residual-in_err-bytes.result c.from_residual-in_err-bytes.ensures.1 in
+    let file = c.in_err-bytes.ensures.some in
+    (λ _. file.0, rw (p.1, p.2) (gives_at_bytes (λ _. file.0) _ c.in_ok-asked.asked _ c.in_ok-asked.ensures file.1))
+
+pub returns-in_err-book-clause-some : goal.returns-in_err-book-clause-some
+returns-in_err-book-clause-some g c =
+    let p = err_from_is_err_and c.from_residual-in_err-book.result c.from_residual-in_err-book.ensures.1 in
+    let file = c.in_ok-bytes.ensures.some in
+    (λ _. file.0, rw (p.1, p.2) (gives_at_form (λ _. file.0) _ c.in_ok-asked.asked c.in_ok-bytes.bytes _ c.in_ok-asked.ensures file.1 c.in_err-book.ensures.exact))
+
+pub returns-clause-some : goal.returns-clause-some
+returns-clause-some g c =
+    let file = c.in_ok-bytes.ensures.some in
+    (λ _. file.0, gives_by_text (λ _. file.0) _ c.in_ok-asked.asked c.in_ok-bytes.bytes c.in_ok-book.book _ c.in_ok-asked.ensures file.1 c.in_ok-book.ensures.exact c.text_of.ensures)

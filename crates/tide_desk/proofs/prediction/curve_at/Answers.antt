@@ -1,6 +1,5 @@
-use Rattle.tide_desk.proofs.AnswerLemmas.{curve_years}
 use Rattle.tide_desk.proofs.prediction.curve_at.Goals as goal
 
 pub returns-in-Ok-clause-years : goal.returns-in-Ok-clause-years
 returns-in-Ok-clause-years c =
-    curve_years c.args.book.now c.args.station.now c.in-Ok.curve (rw c.requires.place at c.in-Ok.ensures.exact)
+    let predicts = rw c.requires.place at c.in-Ok.ensures.predicts in (predicts.first_year, predicts.years)
