@@ -6,3 +6,4 @@ pub mod Stations
 pub mod Statuses
 pub mod Steps
 pub mod Words
+pub mod Worked

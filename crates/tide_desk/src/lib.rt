@@ -13,9 +13,11 @@ mod span_listing;
 mod stations;
 mod status;
 mod words;
+mod worked;
 
 pub use desk::run;
 pub use status::Status;
+pub use worked::{worked_answers, worked_refusals};
 
 #[cfg(test)]
 mod tests;

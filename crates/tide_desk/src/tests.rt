@@ -192,7 +192,13 @@ fn each_refusal_has_its_line(rt: HostRuntime) -> Result<(), Fail> {
         ),
         (0, "", "PREDICT|file=pier.txt", 2, "words: refused\n"),
         (0, "", "stations|FILE=pier.txt", 2, "words: refused\n"),
-        (0, "", "stations|file=pier.txt|zone=UTC", 2, "words: refused\n"),
+        (
+            0,
+            "",
+            "stations|file=pier.txt|zone=UTC",
+            2,
+            "words: refused\n",
+        ),
         (
             0,
             "",

@@ -11,7 +11,7 @@ returns-in-Ok-clause-some_files g c =
       some.0,
       rw (c.refuse.ensures.same, some.1) refl,
       λ t. let sent = c.in-Err-write_all.ensures.sent t in
-      rw (c.refuse.ensures.same, some.1) (c.in-Err-write_all.field-0.sent, rw c.as_slice.ensures at sent),
+          rw (c.refuse.ensures.same, some.1) (c.in-Err-write_all.field-0.sent, rw c.as_slice.ensures at sent),
       λ t. rw c.refuse.ensures.same (c.refuse.ensures.line t),
     )
 
