@@ -27,7 +27,8 @@ use Rattle.tide_desk.specs.declared.words.Asked.TheVariants.{Predict, Stations}
 use Rattle.tide_desk.specs.declared.words.Question.{Question}
 use Rattle.tide_desk.specs.Answers.{tide_unit, span_in, tide_from, length_in, listed_within, predicted_at, predicted_for, predicted, text_for, span_limit}
 use Rattle.tide_desk.specs.Stations.{has_minute, station_at}
-use Rattle.tide_desk.specs.Steps.{◌>>=◌, Gives}
+use Rattle.tide_edge.specs.Excuses.{is_outside, is_outside_fault}
+use Rattle.tide_desk.specs.Steps.{◌>>=◌, Gives, source_of}
 use Rattle.tide_desk.specs.Words.{text_at, moment_at, prediction_of, stations_asked, prediction_asked, asked_of}
 
 -- a fault that isn't one of reading, and whose line can be written
@@ -155,23 +156,13 @@ calm_text book (Predict question) is =
 calm_text book (Stations file) is = calm_ok _
 
 -- what follows for the fault of an answer
-pub given_fault : {A : Type 0} (step : Result A Fault) (fault : Fault) → IsCalm step → Gives step (Err fault) → IsTold fault × (fault ≡ ReadFault → ⊥)
-given_fault step NoMemory calm gives = (tt, λ e. cc)
+pub given_fault : {A : Type 0} (step : Result A Fault) (fault : Fault) → IsCalm step → Gives step (Err fault) → IsTold fault × (is_outside (source_of fault) ≡ false)
+given_fault step NoMemory calm gives = (tt, refl)
 given_fault step ReadFault calm gives = absurd (calm.faults ReadFault gives)
-given_fault step Words calm gives = (tt, λ e. cc)
-given_fault step FileTooLong calm gives = (tt, λ e. cc)
-given_fault step (File line why) calm gives = (tt, λ e. cc)
-given_fault step NoStation calm gives = (tt, λ e. cc)
-given_fault step Hydraulic calm gives = (tt, λ e. cc)
-given_fault step CurrentsNotBuilt calm gives = (tt, λ e. cc)
-given_fault step BackwardSpan calm gives = (tt, λ e. cc)
-given_fault step (OutOfYears first last) calm gives = (calm.faults _ gives, λ e. cc)
-given_fault step (TooLarge year) calm gives = (tt, λ e. cc)
-given_fault step (TooSteep year) calm gives = (tt, λ e. cc)
-given_fault step (SpanTooLong minutes) calm gives = (tt, λ e. cc)
+given_fault step (OutOfYears first last) calm gives = (calm.faults _ gives, refl)
+given_fault step _ calm gives = (tt, refl)
 
 -- the same for an answer that is a fault or none
-pub given_result : {A : Type 0} (step result : Result A Fault) → IsCalm step → Gives step result → IfErr result IsTold × (result ≡ Err ReadFault → ⊥)
-given_result step (Ok value) calm gives = (tt, λ e. cc)
-given_result step (Err fault) calm gives =
-    let p = given_fault step fault calm gives in (p.0, λ e. let same : fault ≡ ReadFault = cc in p.1 same)
+pub given_result : {A : Type 0} (step result : Result A Fault) → IsCalm step → Gives step result → IfErr result IsTold × (is_outside_fault source_of result ≡ false)
+given_result step (Ok value) calm gives = (tt, refl)
+given_result step (Err fault) calm gives = given_fault step fault calm gives

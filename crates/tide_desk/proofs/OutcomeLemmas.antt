@@ -14,18 +14,8 @@ Tells expected fault status =
 
 tells_itself : (expected : Result (List ℕ) Fault) (fault : Fault) → Gives expected (Err fault) → Tells expected fault (status_of fault)
 tells_itself expected NoMemory gives = (tt, refl, λ taken. tt)
-tells_itself expected Words gives = (rw gives refl, rw gives refl, λ taken. tt)
 tells_itself expected ReadFault gives = (rw gives refl, refl, λ taken. tt)
-tells_itself expected FileTooLong gives = (rw gives refl, rw gives refl, λ taken. tt)
-tells_itself expected (File line why) gives = (rw gives refl, rw gives refl, λ taken. tt)
-tells_itself expected NoStation gives = (rw gives refl, rw gives refl, λ taken. tt)
-tells_itself expected Hydraulic gives = (rw gives refl, rw gives refl, λ taken. tt)
-tells_itself expected CurrentsNotBuilt gives = (rw gives refl, rw gives refl, λ taken. tt)
-tells_itself expected BackwardSpan gives = (rw gives refl, rw gives refl, λ taken. tt)
-tells_itself expected (OutOfYears first last) gives = (rw gives refl, rw gives refl, λ taken. tt)
-tells_itself expected (TooLarge year) gives = (rw gives refl, rw gives refl, λ taken. tt)
-tells_itself expected (TooSteep year) gives = (rw gives refl, rw gives refl, λ taken. tt)
-tells_itself expected (SpanTooLong minutes) gives = (rw gives refl, rw gives refl, λ taken. tt)
+tells_itself expected _ gives = (rw gives refl, rw gives refl, λ taken. tt)
 
 pub tells_fault : (expected : Result (List ℕ) Fault) (fault : Fault) (status : Status) → Gives expected (Err fault) → IsToldBy fault status → Tells expected fault status
 tells_fault expected fault status gives told =

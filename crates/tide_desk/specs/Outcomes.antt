@@ -1,9 +1,17 @@
 -- How a run ends, and what it leaves where it wrote, by the answer that is expected (this project).
-use Rattle.std.specs.Prelude.{◌≡◌, ◌⊎◌, ℕ, List, [], ◌++◌, take, codes, Result, Ok, Err, IsOk, IfOk, IsErrAnd}
+use Rattle.std.specs.Prelude.{◌≡◌, ◌⊎◌, ℕ, Bool, true, false, List, [], ◌++◌, take, codes, Result, Ok, Err, IsOk, IfOk, IsErrAnd}
 use Rattle.tide_desk.specs.declared.fault.Fault.{Fault}
 use Rattle.tide_desk.specs.declared.status.Status.{Status}
 use Rattle.tide_desk.specs.declared.status.Status.TheVariants.{Done, Rejected, Words, FileRefused, Refused, Limit, ReadFault, WriteFault, NoMemory}
 use Rattle.tide_desk.specs.Faults.{status_of, line_of}
+
+abbrev pub is_read_fault : Status → Bool
+is_read_fault ReadFault = true
+is_read_fault _ = false
+
+abbrev pub is_write_fault : Status → Bool
+is_write_fault WriteFault = true
+is_write_fault _ = false
 
 -- the expected answer is a fault of that status
 abbrev pub IsRefused : Result (List ℕ) Fault → Status → Type 0
@@ -36,17 +44,12 @@ Took expected Done before after = IfOk expected (λ text. after ≡ before ++ te
 Took expected WriteFault before after = IfOk expected (λ text. WritesFront text before after)
 Took expected _ before after = Unit {0}
 
--- After a refusal, a fault of reading or want of memory nothing was written.
-abbrev pub IsUnwritten : Status → List ℕ → List ℕ → Type 0
-IsUnwritten Done before after = Unit {0}
-IsUnwritten Rejected before after = Unit {0}
-IsUnwritten WriteFault before after = Unit {0}
-IsUnwritten Words before after = after ≡ before
-IsUnwritten FileRefused before after = after ≡ before
-IsUnwritten Refused before after = after ≡ before
-IsUnwritten Limit before after = after ≡ before
-IsUnwritten ReadFault before after = after ≡ before
-IsUnwritten NoMemory before after = after ≡ before
+-- After a refusal, a fault of reading or want of memory it is as it was: nothing was written.
+abbrev pub IsUntouched : {A : Type 0} → Status → A → A → Type 0
+IsUntouched Done before after = Unit {0}
+IsUntouched Rejected before after = Unit {0}
+IsUntouched WriteFault before after = Unit {0}
+IsUntouched _ before after = after ≡ before
 
 -- the line of the expected fault
 abbrev pub refusal_line : Result (List ℕ) Fault → List ℕ

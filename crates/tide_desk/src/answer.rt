@@ -1,13 +1,14 @@
 //! The answer to the words, or the first fault on the way to it.
 
-ghost use Rattle.std.specs.Prelude.{◌≡◌, ℕ, ◌≤◌, List, length, Option, IfOk, IfErr, IsErrOf};
+ghost use Rattle.std.specs.Prelude.{◌≡◌, ℕ, ◌≤◌, List, length, Option, IsErr, IfOk, IfErr};
 ghost use Rattle.harmonics_text.specs.Books.{IsBook};
 ghost use Rattle.harmonics_text.specs.Reading.{book_of};
 ghost use Rattle.tide_desk.specs.Answers.{answer_of, bytes_from, book_from, file_limit, text_for};
 ghost use Rattle.tide_desk.specs.Faults.{IsTold};
 ghost use Rattle.tide_desk.specs.Steps.{Gives, source_of};
-ghost use Rattle.tide_edge.specs.Excuses.{Meets};
-ghost use Rattle.tide_edge.specs.Faults.{Rose};
+ghost use Rattle.tide_desk.specs.Words.{asked_of};
+ghost use Rattle.tide_edge.specs.Excuses.{Meets, is_outside_fault};
+ghost use Rattle.tide_edge.specs.Faults.{faults_after};
 ghost use Rattle.tide_edge.specs.Whole.{whole};
 
 use crate::fault::Fault;
@@ -27,8 +28,12 @@ pub const FILE_LIMIT: u64 = 67_108_864;
 pub fn answer<F: Files>(alloc: Global, words: &Words, files: &mut F) -> Result<Bytes, Fault>
     ensures met { F.tells files.old → Meets source_of (F.steady files.old) ⊥ (answer_of (F.folder files.old) words.now) result }
     ensures some { (folder : List ℕ → Option (List ℕ)) × Gives (answer_of folder words.now) result }
-    ensures read_fault { IsErrOf result Fault.ReadFault → Rose (F.faults files.old) (F.faults files.new) }
+    ensures counts { F.faults files.new ≡ faults_after (is_outside_fault source_of result) (F.faults files.old) }
+    ensures unopened { IsErr (asked_of words.now) → files.new ≡ files.old }
     ensures told { IfErr result IsTold }
+    ensures same_files { F.folder files.new ≡ F.folder files.old }
+    ensures as_steady { F.steady files.new ≡ F.steady files.old }
+    ensures still_tells { F.tells files.old → F.tells files.new }
 {
     let asked = read_words(alloc, words)?;
     let bytes = read_file(alloc, files, asked.file())?;
@@ -41,8 +46,11 @@ fn read_file<F: Files>(alloc: Global, files: &mut F, name: &Text) -> Result<Byte
         → Meets source_of (F.steady files.old) ⊥ (bytes_from (whole file_limit (F.folder files.old name.now))) result }
     ensures some { (file : Option (List ℕ)) × Gives (bytes_from (whole file_limit file)) result }
     ensures within { IfOk result (λ bytes. length bytes ≤ file_limit) }
-    ensures read_fault { IsErrOf result Fault.ReadFault → Rose (F.faults files.old) (F.faults files.new) }
+    ensures counts { F.faults files.new ≡ faults_after (is_outside_fault source_of result) (F.faults files.old) }
     ensures told { IfErr result IsTold }
+    ensures same_files { F.folder files.new ≡ F.folder files.old }
+    ensures as_steady { F.steady files.new ≡ F.steady files.old }
+    ensures still_tells { F.tells files.old → F.tells files.new }
 {
     match read_all(alloc, files, name, FILE_LIMIT) {
         Ok(bytes) => Ok(bytes),

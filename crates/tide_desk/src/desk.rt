@@ -1,10 +1,13 @@
 //! One run, from the words to the status.
 
-ghost use Rattle.std.specs.Prelude.{◌≡◌, ◌⊎◌, ℕ, List, Option, Err, IsTrue, IsOk};
-ghost use Rattle.tide_edge.specs.Faults.{Rose};
+ghost use Rattle.std.specs.Prelude.{◌≡◌, ◌⊎◌, ℕ, List, Option, Err, IsTrue, IsOk, IsErr};
+ghost use Rattle.tide_edge.specs.Excuses.{is_outside};
+ghost use Rattle.tide_edge.specs.Faults.{Rose, faults_after};
 ghost use Rattle.tide_desk.specs.Answers.{answer_of};
 ghost use Rattle.tide_desk.specs.Faults.{IsTold};
-ghost use Rattle.tide_desk.specs.Outcomes.{Says, SaysAll, Took, IsUnwritten, WritesLine, line_with, IsToldBy, told_line};
+ghost use Rattle.tide_desk.specs.Steps.{source_of};
+ghost use Rattle.tide_desk.specs.Words.{asked_of};
+ghost use Rattle.tide_desk.specs.Outcomes.{Says, SaysAll, is_read_fault, is_write_fault, Took, IsUntouched, WritesLine, line_with, IsToldBy, told_line};
 
 use crate::answer::answer;
 use crate::fault::{Fault, fault_line, fault_status};
@@ -26,15 +29,15 @@ pub fn run<F: Files, O: Sink, E: Sink, K: Clock>(
     ensures says { F.tells files.old → Says (answer_of (F.folder files.old) words.now) result }
     ensures took { F.tells files.old → O.tells out.old
         → Took (answer_of (F.folder files.old) words.now) result (O.taken out.old) (O.taken out.new) }
-    ensures unwritten { O.tells out.old → IsUnwritten result (O.taken out.old) (O.taken out.new) }
+    ensures unwritten { IsUntouched result out.old out.new }
     ensures line { F.tells files.old → E.tells err.old
         → WritesLine
         (line_with (answer_of (F.folder files.old) words.now) result)
         (E.taken err.old)
         (E.taken err.new)
         (Rose (E.faults err.old) (E.faults err.new)) }
-    ensures read_fault { result ≡ Status.ReadFault → Rose (F.faults files.old) (F.faults files.new) }
-    ensures write_fault { result ≡ Status.WriteFault → Rose (O.faults out.old) (O.faults out.new) }
+    ensures read_fault { F.faults files.new ≡ faults_after (is_read_fault result) (F.faults files.old) }
+    ensures write_fault { O.faults out.new ≡ faults_after (is_write_fault result) (O.faults out.old) }
     ensures steady { F.tells files.old → IsTrue (F.steady files.old)
         → result ≡ Status.ReadFault → answer_of (F.folder files.old) words.now ≡ Err Fault.ReadFault }
     ensures complete { F.tells files.old → IsTrue (F.steady files.old)
@@ -48,7 +51,12 @@ pub fn run<F: Files, O: Sink, E: Sink, K: Clock>(
         (E.taken err.old)
         (E.taken err.new)
         (Rose (E.faults err.old) (E.faults err.new))) }
+    ensures untold { result ≡ Status.Done → err.new ≡ err.old }
+    ensures unopened { IsErr (asked_of words.now) → files.new ≡ files.old }
     ensures unasked { _clock.new ≡ _clock.old }
+    ensures same_files { F.folder files.new ≡ F.folder files.old }
+    ensures as_steady { F.steady files.new ≡ F.steady files.old }
+    ensures still_tells { F.tells files.old → F.tells files.new }
 {
     match answer(alloc, words, files) {
         Ok(text) => match write_all(out, text.as_slice()) {
@@ -63,6 +71,7 @@ pub fn run<F: Files, O: Sink, E: Sink, K: Clock>(
 fn tell<E: Sink>(alloc: Global, fault: Fault, err: &mut E) -> Status
     requires { IsTold fault }
     ensures status { IsToldBy fault result }
+    ensures outside { is_read_fault result ≡ is_outside (source_of fault) }
     ensures line { E.tells err.old → WritesLine
         (told_line fault result)
         (E.taken err.old)

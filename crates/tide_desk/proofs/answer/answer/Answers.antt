@@ -1,4 +1,4 @@
-use Rattle.std.proofs.Common.{◌≡◌, None}
+use Rattle.std.proofs.Common.{◌≡◌, None, refl}
 use Rattle.tide_edge.proofs.ExcuseLemmas.{meets_by_fault}
 use Rattle.tide_desk.specs.Answers.{answer_of, text_for}
 use Rattle.tide_desk.specs.Faults.{IsTold}
@@ -21,15 +21,6 @@ returns-in_err-asked-clause-met g c =
     c.in_err-asked.field-0.0
     c.from_residual.ensures.1
     (met_at_words _ _ _ _ c.in_err-asked.ensures)
-
-pub returns-in_err-asked-clause-read_fault : goal.returns-in_err-asked-clause-read_fault
-returns-in_err-asked-clause-read_fault g c =
-    λ e.
-    let p = err_from_is_err_and c.from_residual.result c.from_residual.ensures.1 in
-    let given : IsTold c.in_err-asked.field-0.0 × (c.in_err-asked.field-0.0 ≡ ReadFault → ⊥) =
-    given_fault (asked_of c.args.words.now) _ (calm_asked c.args.words.now) c.in_err-asked.ensures in
-    let same : c.in_err-asked.field-0.0 ≡ ReadFault = cc (p.1, p.2, e) in
-    absurd (given.1 same)
 
 pub returns-in_err-asked-clause-told : goal.returns-in_err-asked-clause-told
 returns-in_err-asked-clause-told g c =
@@ -66,13 +57,6 @@ returns-clause-met g c =
     λ t. let met = c.in_ok-bytes.ensures.met t in
     met_by_text _ _ _ c.in_ok-asked.asked c.in_ok-bytes.bytes c.in_ok-book.book _ c.in_ok-asked.ensures (rw (← c.file.ensures) met) c.in_ok-book.ensures.exact c.text_of.ensures
 
-pub returns-clause-read_fault : goal.returns-clause-read_fault
-returns-clause-read_fault g c =
-    let book = c.in_ok-book.book in
-    let asked = c.in_ok-asked.asked in
-    let given = given_result (text_for book asked) c.text_of.result (calm_text book asked c.in_ok-book.ensures.sound) c.text_of.ensures in
-    λ e. absurd (given.1 e)
-
 pub returns-clause-told : goal.returns-clause-told
 returns-clause-told g c =
     let book = c.in_ok-book.book in
@@ -100,3 +84,16 @@ pub returns-clause-some : goal.returns-clause-some
 returns-clause-some g c =
     let file = c.in_ok-bytes.ensures.some in
     (λ _. file.0, gives_by_text (λ _. file.0) _ c.in_ok-asked.asked c.in_ok-bytes.bytes c.in_ok-book.book _ c.in_ok-asked.ensures file.1 c.in_ok-book.ensures.exact c.text_of.ensures)
+
+pub returns-in_err-asked-clause-counts : goal.returns-in_err-asked-clause-counts
+returns-in_err-asked-clause-counts g c =
+    let p = err_from_is_err_and c.from_residual.result c.from_residual.ensures.1 in
+    let given = given_fault (asked_of c.args.words.now) _ (calm_asked c.args.words.now) c.in_err-asked.ensures in
+    rw (p.1, p.2, given.1) refl
+
+pub returns-clause-counts : goal.returns-clause-counts
+returns-clause-counts g c =
+    let book = c.in_ok-book.book in
+    let asked = c.in_ok-asked.asked in
+    let given = given_result (text_for book asked) c.text_of.result (calm_text book asked c.in_ok-book.ensures.sound) c.text_of.ensures in
+    rw given.1 c.in_ok-bytes.ensures.counts
