@@ -5,7 +5,7 @@ ghost use Rattle.std.specs.Int.{int_rem_euclid};
 ghost use Rattle.fixed_sine.specs.Circle.{circle};
 ghost use Rattle.fixed_sine.specs.Table.{sine_at, rise, correction};
 ghost use Rattle.fixed_sine.specs.Sine.{isin_of, icos_of};
-ghost use Rattle.fixed_sine.specs.Rate.{step_of};
+ghost use Rattle.fixed_sine.specs.Rate.{step_of, RateLaw};
 
 /// Two checks of the whole table: no degree gains more than 17,454,000 with a quarter of its
 /// correction, and the squares of the sines of `k` and `90 - k` degrees sum to nearly 10^18.
@@ -21,6 +21,11 @@ pub fn sine_sizes()
     ensures sine { (p : ℕ) → p < circle → unsigned_abs (isin_of p) ≤ 1000000000 }
     ensures cosine { (p : ℕ) → p < circle → unsigned_abs (icos_of p) ≤ 1000000000 }
     ensures step { (w : ℕ) → w ≤ 3600000000 → step_of w ≤ 104724001 }
+{}
+
+/// From any place the sine changes by at most the step, whatever the speed.
+pub fn sine_rates()
+    ensures { (w : ℕ) → RateLaw w }
 {}
 
 /// Values of the definitions at places of their own.

@@ -12,7 +12,7 @@ mod sine;
 mod table;
 
 pub use circle::{CIRCLE, DEGREE, RADIAN, reduce};
-pub use laws::{sine_sizes, table_checks, worked_rows};
+pub use laws::{sine_rates, sine_sizes, table_checks, worked_rows};
 pub use rate::step;
 pub use sine::{icos, isin};
 
