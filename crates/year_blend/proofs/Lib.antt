@@ -1,3 +1,4 @@
 pub mod WeightLemmas
 pub mod YearLemmas
 pub mod PlaceLemmas
+pub mod PlainLemmas

@@ -58,3 +58,8 @@ place_in first_year years m year =
 -- the one place of a minute of the domain
 unfoldable pub place_of : ℤ → ℕ → ℤ → Place
 place_of first_year years m = place_in first_year years m (year_at first_year years m)
+
+-- the last minute of a year's plain part: an hour before the next of the years, or the domain's last minute
+unfoldable pub plain_end_of : ℤ → ℕ → ℕ → ℤ
+plain_end_of first_year years year =
+    if nat_lt (suc year) years then start_of first_year (suc year) -ℤ pos 60 else start_of first_year (suc year)

@@ -3,7 +3,7 @@
 ghost use Rattle.std.specs.Prelude.{◌≡◌, ◌<◌, ◌≤◌, ◌↔◌, IsTrue, pos, negsuc, ◌+ℤ◌, ◌-ℤ◌, ◌≤ℤ◌, ◌<ℤ◌, unsigned_abs};
 ghost use Rattle.jiff_core.specs.Calendar.{IsBetween, IsYear};
 ghost use Rattle.year_blend.specs.Years.{year_start_of};
-ghost use Rattle.year_blend.specs.Places.{AreYears, InDomain, IsPlaceOf, start_of, year_at, place_of};
+ghost use Rattle.year_blend.specs.Places.{AreYears, InDomain, IsPlaceOf, start_of, year_at, place_of, plain_end_of};
 
 use crate::parts::Place;
 use crate::years::{DAY, year_of_day, year_start};
@@ -33,6 +33,18 @@ pub fn place(first_year: i32, years: u32, m: i64) -> Place
     } else {
         Place::Plain { year }
     }
+}
+
+/// The last minute of the plain part of a year, counted from 0 among `years` years from `first_year`
+/// on: 60 minutes before the next year starts, or the domain's last minute for the last year.
+pub fn plain_end(first_year: i32, years: u32, year: u32) -> i64
+    requires years { AreYears first_year years }
+    requires year { year < years }
+    ensures { result ≡ plain_end_of first_year years year }
+{
+    let next = year + 1;
+    let end = year_start(first_year + next as i32);
+    if next < years { end - HOUR } else { end }
 }
 
 /// The minutes from the start of one of the years to the minute.

@@ -2,8 +2,9 @@
 
 ghost use Rattle.std.specs.Prelude.{◌≡◌, ℕ, ◌+◌, ◌*◌, ◌<◌, ◌≤◌, ℤ, pos, negsuc, ◌+ℤ◌, ◌-ℤ◌, ◌≤ℤ◌, ◌⊎◌, unsigned_abs};
 ghost use Rattle.year_blend.specs.declared.parts.Place.{Place};
+ghost use Rattle.year_blend.specs.declared.parts.Place.TheVariants.{Plain};
 ghost use Rattle.year_blend.specs.Years.{year_start_of, IsYearInReach};
-ghost use Rattle.year_blend.specs.Places.{AreYears, InDomain, IsPlaceOf, place_of};
+ghost use Rattle.year_blend.specs.Places.{AreYears, InDomain, IsPlaceOf, place_of, plain_end_of};
 ghost use Rattle.year_blend.specs.Weights.{weight_of, weight_slope_of, total_weight};
 
 /// Starts ascend by a year of 365 or 366 days, and are below 4,000,000,000 in size.
@@ -20,6 +21,15 @@ pub fn unique_places()
         → IsPlaceOf first_year years m (place_of first_year years m) }
     ensures one { (first_year : ℤ) (years : ℕ) (m : ℤ) → AreYears first_year years → InDomain first_year years m
         → (p : Place) → IsPlaceOf first_year years m p → p ≡ place_of first_year years m }
+{}
+
+/// A plain minute has the rest of its year's plain part before it, and its end is not behind it.
+pub fn plain_parts()
+    ensures rest { (first_year : ℤ) (years : ℕ) (m later : ℤ) (year : ℕ) → AreYears first_year years → InDomain first_year years m
+        → place_of first_year years m ≡ Plain year → m ≤ℤ later → later ≤ℤ plain_end_of first_year years year
+        → InDomain first_year years later × (place_of first_year years later ≡ Plain year) }
+    ensures end { (first_year : ℤ) (years : ℕ) (m : ℤ) (year : ℕ) → AreYears first_year years → InDomain first_year years m
+        → place_of first_year years m ≡ Plain year → m ≤ℤ plain_end_of first_year years year }
 {}
 
 /// Values of the definitions at arguments of their own.

@@ -2,7 +2,8 @@
 //!
 //! Constants hold for one year. Within an hour of a new year between two years both count, by a
 //! [`weight`] that moves smoothly from the earlier year to the later one. [`place`] tells which
-//! year or new year a minute belongs to, and [`year_start`] when a year begins.
+//! year or new year a minute belongs to, [`plain_end`] how long a year counts alone, and
+//! [`year_start`] when it begins.
 #![tactic(auto)]
 
 mod finding;
@@ -11,8 +12,8 @@ mod parts;
 mod weights;
 mod years;
 
-pub use finding::place;
-pub use laws::{unique_places, worked_rows, year_lengths};
+pub use finding::{place, plain_end};
+pub use laws::{plain_parts, unique_places, worked_rows, year_lengths};
 pub use parts::Place;
 pub use weights::{TOTAL_WEIGHT, weight, weight_slope};
 pub use years::year_start;

@@ -40,6 +40,15 @@ fn places_of_minutes(rt: HostRuntime) {
 }
 
 #[test]
+fn ends_of_plain_parts(rt: HostRuntime) {
+    let rows = [(0, 15_778_020), (1, 16_305_060), (2, 16_830_720)];
+    for (year, want) in rows {
+        assert!(rt; year < 3);
+        assert_eq!(rt; plain_end(1999, 3, year), want, "the plain end of {year}");
+    }
+}
+
+#[test]
 fn weights_of_minutes(rt: HostRuntime) {
     let rows = [
         (-60, 0, 0),
