@@ -9,3 +9,4 @@ mod Circling
 mod Gentle
 mod Predicting
 mod Answering
+mod Quiet

@@ -5,6 +5,7 @@ use Rattle.station_curve.specs.declared.years.Year.{Year}
 use Rattle.station_curve.specs.declared.curve.StationCurve.TheInside.{Inside}
 use Rattle.station_curve.specs.Waves.{Tide}
 use Rattle.station_curve.specs.Limits.{IsGentle}
+use Rattle.station_curve.specs.Rates.{slope_rate_of}
 
 -- the tide of its years
 abbrev pub tide_in : Inside → Tide
@@ -13,3 +14,4 @@ tide_in s = record { first_year = s.first_year; datum = s.datum; years = map (λ
 pub record IsReady (s : Inside) : Type 0 where
   pub gentle : IsGentle (tide_in s)
   pub starts : (k : ℕ) (d : Year) → k < length s.years.items → (slice_index_or s.years.items k d).start ≡ start_of s.first_year k
+  pub rates : (k : ℕ) (d : Year) → k < length s.years.items → (slice_index_or s.years.items k d).rate ≡ slope_rate_of (slice_index_or s.years.items k d).waves.items

@@ -2,6 +2,7 @@ pub mod Waves
 pub mod Levels
 pub mod Schureman
 pub mod Limits
+pub mod Rates
 pub mod Inside
 pub mod Curves
 pub mod Prepared

@@ -10,13 +10,16 @@ mod constants;
 mod curve;
 mod fault;
 mod laws;
+mod rates;
 mod sums;
 mod wave;
 mod years;
 
 pub use curve::StationCurve;
 pub use fault::CurveFault;
-pub use laws::{worked_constants, worked_levels, worked_limits, worked_slopes, worked_waves};
+pub use laws::{
+    worked_constants, worked_levels, worked_limits, worked_rates, worked_slopes, worked_waves,
+};
 
 #[cfg(test)]
 mod tests;

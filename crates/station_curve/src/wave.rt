@@ -3,8 +3,9 @@
 ghost use Rattle.std.specs.Prelude.{◌≡◌, ◌+◌, ◌*◌, ◌%◌, ◌^◌, ◌<◌, ◌≤◌, pos, ◌*ℤ◌, unsigned_abs};
 ghost use Rattle.fixed_sine.specs.Circle.{circle, IsOnCircle};
 ghost use Rattle.station_curve.specs.Waves.{Harmonic, phase_at, height_at, fall_at};
+ghost use Rattle.station_curve.specs.Rates.{fall_rate_of};
 
-use fixed_sine::{CIRCLE, icos, isin};
+use fixed_sine::{CIRCLE, icos, isin, step};
 use std::marker::Model;
 
 /// A constituent in one year at one station.
@@ -66,6 +67,15 @@ impl Wave {
             ≤ 10 ^ 9 * (unsigned_abs self.now.amplitude * self.now.speed) }
     {
         i128::from(self.steepness) * i128::from(isin(self.phase_after(minutes)))
+    }
+
+    /// The most that its fall changes by in a minute.
+    pub fn fall_rate(&self) -> u128
+        ensures value { result ≡ fall_rate_of self.now }
+        ensures size { result ≤ 104724001 * (unsigned_abs self.now.amplitude * self.now.speed) }
+    {
+        let step = step(self.speed as i64);
+        u128::from(self.steepness.unsigned_abs()) * u128::from(step.unsigned_abs())
     }
 
     /// Where on the circle it stands, `minutes` after an hour before the year.

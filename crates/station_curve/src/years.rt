@@ -8,6 +8,7 @@ ghost use Rattle.station_curve.specs.declared.fault.CurveFault.TheVariants.{NoMe
 
 use crate::constants::{check_year, year_waves};
 use crate::fault::CurveFault;
+use crate::rates::slope_rate;
 use crate::wave::Wave;
 use harmonics_text::{Book, Station};
 use std::alloc::Global;
@@ -19,6 +20,8 @@ pub struct Year {
     /// Its first minute.
     pub start: i64,
     pub waves: Vec<Wave>,
+    /// The most that the slope changes by in a minute of its plain part.
+    pub rate: u128,
 }
 
 impl Year {
@@ -48,7 +51,8 @@ pub fn years_of(alloc: Global, book: &Book, station: &Station) -> Result<Vec<Yea
         }
         let start = year_start(book.first_year + year as i32);
         let waves = year_waves(alloc, book, station, year)?;
-        years.push(Year { start, waves })?;
+        let rate = slope_rate(waves.as_slice());
+        years.push(Year { start, waves, rate })?;
     }
     Ok(years)
 }
