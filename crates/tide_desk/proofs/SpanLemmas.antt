@@ -1,4 +1,4 @@
-use Rattle.std.proofs.Common.{◌≡◌, ◌≢◌, ℕ, zero, suc, ◌+◌, ◌≤◌, ℤ, pos, negsuc, ◌+ℤ◌, ◌-ℤ◌, ◌≤ℤ◌, unsigned_abs, int_lt, Bool, true, false, not, ◌&&◌, cond, List, [], ◌∷◌, ◌++◌, refl, arith}
+use Rattle.std.proofs.Common.{◌≡◌, ◌≢◌, ℕ, zero, suc, ◌+◌, ◌≤◌, ℤ, pos, negsuc, ◌+ℤ◌, ◌-ℤ◌, ◌≤ℤ◌, unsigned_abs, int_lt, Bool, true, false, not, ◌&&◌, cond, List, [], ◌∷◌, ◌++◌, refl, sym, arith}
 use Rattle.std.specs.List.{flat_map}
 use Rattle.std.proofs.lemmas.Grind.{flat_map-append}
 use Rattle.curve_law.specs.Track.{Track, plain_list, has_event, side_at, event_at}
@@ -17,11 +17,7 @@ use Rattle.station_curve.specs.Curves.{Predicts}
 use Rattle.station_curve.specs.Waves.{Tide}
 use Rattle.tide_desk.specs.Answers.{turns_of}
 use Rattle.tide_desk.specs.Stations.{has_minute, IsSpan}
-use Rattle.curve_law.proofs.TrackLemmas.{plain_list-zero, plain_list-one, plain_list-suc, plain_list-add}
-
--- the lines of one more minute
-pub listed_more : (t : Track) (a : ℤ) (n : ℕ) (m : ℤ) (line : Event → List ℕ) → m ≡ a +ℤ pos n → flat_map line (plain_list t a (n + 1)) ≡ flat_map line (plain_list t a n) ++ flat_map line (plain_list t m 1)
-listed_more t a n m line e = rw (e, plain_list-add t a n 1, flat_map-append) refl
+use Rattle.curve_law.proofs.TrackLemmas.{plain_list-zero, plain_list-one, plain_list-suc, plain_list-add, plain_list-none}
 
 sides_agree : (x y here there : Bool) → here ≡ x → there ≡ y → there ≡ here → cond x (not y) y ≡ false
 sides_agree true true here there e f g = refl
@@ -39,6 +35,34 @@ pub quiet_minute : (t : Track) (a : ℤ) (here there : Bool) → here ≡ side_a
 quiet_minute t a here there e f same =
     let q : has_event t a ≡ false = sides_agree _ _ here there e f same in rw (plain_list-one t a, q) refl
 
+-- where minutes have the side of the first, only the last of them may have an event
+still : (t : Track) (m : ℤ) (k : ℕ) → side_at t (m +ℤ pos k) ≡ side_at t m → side_at t (m +ℤ pos (suc k)) ≡ side_at t m → has_event t (m +ℤ pos k) ≡ false
+still t m k here there =
+    let next : (m +ℤ pos k) +ℤ pos 1 ≡ m +ℤ pos (suc k) = omega (arith, ints) in
+    sides_agree _ _ (side_at t m) (side_at t m) (sym here) (rw next (sym there)) refl
+
+pub alike_at : (t : Track) (m last : ℤ) → m ≤ℤ last → ((k : ℕ) → (m +ℤ pos k) ≤ℤ last → side_at t (m +ℤ pos k) ≡ side_at t m) → side_at t last ≡ side_at t m
+alike_at t m last onward alike =
+    let k = unsigned_abs (last -ℤ m) in
+    let there : m +ℤ pos k ≡ last = omega (arith, ints) in
+    rw there at (alike k (omega (arith, ints)))
+
+last_of_quiet : (t : Track) (m : ℤ) (n : ℕ) → ((k : ℕ) → k ≤ n → side_at t (m +ℤ pos k) ≡ side_at t m) → plain_list t m (n + 1) ≡ plain_list t (m +ℤ pos n) 1
+last_of_quiet t m n alike =
+    let none : plain_list t m n ≡ [] = plain_list-none t m n (λ k h. still t m k (alike k (omega arith)) (alike (suc k) (omega arith))) in
+    rw (plain_list-add t m n 1, none) refl
+
+-- the lines of a span and of the quiet minutes after it
+pub listed_onward : (t : Track) (a m last : ℤ) (line : Event → List ℕ) → a ≤ℤ m → m ≤ℤ last → ((k : ℕ) → (m +ℤ pos k) ≤ℤ last → side_at t (m +ℤ pos k) ≡ side_at t m) → flat_map line (plain_list t a (unsigned_abs ((last +ℤ pos 1) -ℤ a))) ≡ flat_map line (plain_list t a (unsigned_abs (m -ℤ a))) ++ flat_map line (plain_list t last 1)
+listed_onward t a m last line from onward alike =
+    let i = unsigned_abs (m -ℤ a) in
+    let n = unsigned_abs (last -ℤ m) in
+    let all : unsigned_abs ((last +ℤ pos 1) -ℤ a) ≡ i + (n + 1) = omega (arith, ints) in
+    let begin : a +ℤ pos i ≡ m = omega (arith, ints) in
+    let end : m +ℤ pos n ≡ last = omega (arith, ints) in
+    let quiet = last_of_quiet t m n (λ k h. alike k (omega (arith, ints))) in
+    rw (all, plain_list-add t a i (n + 1), begin, quiet, end, flat_map-append) refl
+
 pub turning_minute : (t : Track) (a : ℤ) (here there : Bool) → here ≡ side_at t a → there ≡ side_at t (a +ℤ pos 1) → there ≢ here → plain_list t a 1 ≡ event_at t a ∷ []
 turning_minute t a here there e f differ =
     let q : has_event t a ≡ true = sides_differ _ _ here there e f differ in rw (plain_list-one t a, q) refl
@@ -52,11 +76,11 @@ desk_minute first_year years m are inside =
     let most = inside.most in
     record { least = omega (arith, ints); most = omega (arith, ints) }
 
-pub desk_minute_between : (first_year : ℤ) (years : ℕ) (a : ℤ) (n k : ℕ) → AreYears first_year years → InDomain first_year years a → InDomain first_year years (a +ℤ pos n) → k ≤ n → IsDeskMinute (a +ℤ pos k)
-desk_minute_between first_year years a n k are begins ends few =
+pub desk_minute_between : (first_year : ℤ) (years : ℕ) (a m b : ℤ) → AreYears first_year years → InDomain first_year years a → InDomain first_year years b → a ≤ℤ m → m ≤ℤ b → IsDeskMinute m
+desk_minute_between first_year years a m b are begins ends from until =
     let least = begins.least in
     let most = ends.most in
-    desk_minute first_year years (a +ℤ pos k) are (record { least = omega (arith, ints); most = omega (arith, ints) })
+    desk_minute first_year years m are (record { least = omega (arith, ints); most = omega (arith, ints) })
 
 -- what the tests of a span say
 pub tested_span : (book : Book) (begin end : ℤ) → int_lt end begin ≡ false → (has_minute book begin && has_minute book end) ≡ true → IsSpan book.first_year book.years begin end

@@ -1,6 +1,6 @@
 //! The high and low waters of a station over a span.
 
-ghost use Rattle.std.specs.Prelude.{◌≡◌, ◌<◌, pos, ◌+ℤ◌, ◌≤ℤ◌, int_le, int_lt, ◌&&◌, length, Some, IsTrue, IfSome, IfOk, OnOk, slice_get};
+ghost use Rattle.std.specs.Prelude.{◌≡◌, ◌<◌, pos, ◌+ℤ◌, ◌-ℤ◌, ◌≤ℤ◌, int_le, int_lt, unsigned_abs, ◌&&◌, length, Some, IsTrue, IfSome, IfOk, OnOk, slice_get};
 ghost use Rattle.harmonics_text.specs.Books.{IsBook};
 ghost use Rattle.station_curve.specs.Curves.{curve_of, Predicts};
 ghost use Rattle.tide_desk.specs.Answers.{predicted, predicted_at, tide_unit, span_in, length_in, listed_within, tide_from};
@@ -11,7 +11,7 @@ ghost use Rattle.year_blend.specs.Places.{AreYears};
 ghost use Rattle.year_blend.specs.Years.{year_start_of};
 
 use crate::fault::Fault;
-use crate::span_listing::{list_span, minutes_between};
+use crate::span_listing::list_span;
 use crate::words::Question;
 use decimal_text::{Bytes, Text};
 use harmonics_text::{Book, Station, Units};
@@ -173,6 +173,15 @@ fn list_within(
         question.begin,
         question.end,
     )?)
+}
+
+fn minutes_between(begin: i64, end: i64) -> u64
+    requires forward { begin ≤ℤ end }
+    requires begin { IsDeskMinute begin }
+    requires end { IsDeskMinute end }
+    ensures { result ≡ unsigned_abs (end -ℤ begin) }
+{
+    (end - begin) as u64
 }
 
 #[tactic(auto, unfolding(crate::specs::Answers::length_in))]

@@ -1,9 +1,10 @@
 //! The plain listing of a station's high and low waters.
 
-ghost use Rattle.std.specs.Prelude.{◌≡◌, pos, ◌+ℤ◌, ◌-ℤ◌, ◌≤ℤ◌, ◌++◌, length, unsigned_abs, IsTrue, IfOk, OnOk};
+ghost use Rattle.std.specs.Prelude.{◌≡◌, ℕ, pos, ◌+ℤ◌, ◌-ℤ◌, ◌≤ℤ◌, ◌<ℤ◌, ◌++◌, length, unsigned_abs, IsTrue, IfOk, OnOk};
 ghost use Rattle.std.specs.List.{flat_map};
 ghost use Rattle.curve_law.specs.Track.{plain_list, side_at, event_at};
 ghost use Rattle.event_list.specs.Words.{has_word};
+ghost use Rattle.station_curve.specs.Levels.{slope_of};
 ghost use Rattle.tide_desk.specs.Listings.{turn_track, line_of_event, listing_of, IsTide, IsDeskMinute};
 ghost use Rattle.year_blend.specs.Places.{AreYears, InDomain};
 
@@ -34,58 +35,68 @@ pub fn list_span(
 {
     let mut text = Vec::from_slice(alloc, name.as_str().as_bytes())?;
     text.push(b'\n')?;
-    push_events(&mut text, units, curve, begin, minutes_between(begin, end))?;
+    push_events(&mut text, units, curve, begin, end)?;
     Ok(Bytes::from_vec(text))
 }
 
-pub fn minutes_between(begin: i64, end: i64) -> u64
-    requires forward { begin ≤ℤ end }
-    requires begin { IsDeskMinute begin }
-    requires end { IsDeskMinute end }
-    ensures value { result ≡ unsigned_abs (end -ℤ begin) }
-    ensures ends { begin +ℤ pos result ≡ end }
-{
-    (end - begin) as u64
+// A minute, and the slope there.
+#[derive(Clone, Copy)]
+struct Front {
+    minute: i64,
+    slope: i128,
 }
 
-// A line for each event of that many minutes.
+fn front_at(curve: &StationCurve, minute: i64) -> Front
+    requires { InDomain curve.now.first_year (length curve.now.years) minute }
+    ensures { result ≡ record { minute = minute; slope = slope_of curve.now minute } }
+{
+    Front {
+        minute,
+        slope: curve.slope(minute),
+    }
+}
+
+// A line for each event of the span. The slope is asked where it may have changed side, and at no
+// minute twice.
 fn push_events(
     text: &mut Vec<u8>,
     units: Units,
     curve: &StationCurve,
     begin: i64,
-    count: u64,
+    end: i64,
 ) -> Result<(), AllocError>
+    requires forward { begin ≤ℤ end }
     requires begins { InDomain curve.now.first_year (length curve.now.years) begin }
-    requires ends { InDomain curve.now.first_year (length curve.now.years) (begin +ℤ pos count) }
+    requires ends { InDomain curve.now.first_year (length curve.now.years) end }
     requires years { AreYears curve.now.first_year (length curve.now.years) }
     requires named { IsTide units }
     ensures { OnOk result (text.new.items ≡ text.old.items
-        ++ flat_map (line_of_event units) (plain_list (turn_track curve.now) begin count)) }
+        ++ flat_map (line_of_event units) (plain_list (turn_track curve.now) begin (unsigned_abs (end -ℤ begin)))) }
 {
-    let mut rising = is_rising(curve, begin);
-    for k in 0..count {
-        let minute = minute_after(begin, k);
-        let rises_next = is_rising(curve, minute_after(minute, 1));
-        push_turn(text, units, curve, minute, rising, rises_next)?;
-        rising = rises_next;
+    let mut front = front_at(curve, begin);
+    while front.minute < end {
+        let last = last_alike(curve, front, end);
+        let next = front_at(curve, last + 1);
+        push_turn(text, units, curve, last, front.slope > 0, next.slope > 0)?;
+        front = next;
     }
     Ok(())
 }
 
-fn minute_after(begin: i64, count: u64) -> i64
-    requires begin { IsDeskMinute begin }
-    requires end { IsDeskMinute (begin +ℤ pos count) }
-    ensures { result ≡ begin +ℤ pos count }
+// The last minute before the end up to which the slope has the front's side for certain.
+fn last_alike(curve: &StationCurve, front: Front, end: i64) -> i64
+    requires minute { InDomain curve.now.first_year (length curve.now.years) front.minute }
+    requires slope { front.slope ≡ slope_of curve.now front.minute }
+    requires before { front.minute <ℤ end }
+    requires end { InDomain curve.now.first_year (length curve.now.years) end }
+    requires years { AreYears curve.now.first_year (length curve.now.years) }
+    ensures from { front.minute ≤ℤ result }
+    ensures before { result <ℤ end }
+    ensures alike { (k : ℕ) → (front.minute +ℤ pos k) ≤ℤ result
+        → side_at (turn_track curve.now) (front.minute +ℤ pos k) ≡ side_at (turn_track curve.now) front.minute }
 {
-    begin + count as i64
-}
-
-fn is_rising(curve: &StationCurve, minute: i64) -> bool
-    requires { InDomain curve.now.first_year (length curve.now.years) minute }
-    ensures { result ≡ side_at (turn_track curve.now) minute }
-{
-    curve.slope(minute) > 0
+    let quiet = curve.quiet_minutes(front.minute, front.slope);
+    (front.minute + quiet as i64).min(end - 1)
 }
 
 // A line for the event after the minute, if there is one.
