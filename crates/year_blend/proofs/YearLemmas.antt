@@ -57,7 +57,7 @@ day_count_high y low high =
     (λ lt. omega (arith, day_count-last, day_count-later_year y (pos 9300) (omega (arith, signed_arith)) lt))
     (λ le. let e : y ≡ pos 9300 = omega (arith, signed_arith) in rw e (omega (arith, day_count-last)))
 
-pub year_start_of_low : (y : ℤ) → pos 2 ≤ℤ y → negsuc 1100000000 ≤ℤ year_start_of y
+pub year_start_of_low : (y : ℤ) → pos 2 ≤ℤ y → negsuc 1035067679 ≤ℤ year_start_of y
 year_start_of_low y low =
     omega (arith, signed_arith, year_start_of-day_count y, day_count_low y low)
 

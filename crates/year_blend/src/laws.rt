@@ -7,11 +7,13 @@ ghost use Rattle.year_blend.specs.Years.{year_start_of, IsYearInReach};
 ghost use Rattle.year_blend.specs.Places.{AreYears, InDomain, IsPlaceOf, place_of, plain_end_of};
 ghost use Rattle.year_blend.specs.Weights.{weight_of, weight_slope_of, total_weight};
 
-/// Starts ascend by a year of 365 or 366 days, and are below 4,000,000,000 in size.
+/// Starts ascend by a year of 365 or 366 days from that of the year 2 on, and are below 4,000,000,000
+/// in size.
 pub fn year_lengths()
     ensures lengths { (y : ℤ) → IsYearInReach y
         → ((year_start_of (y +ℤ pos 1) -ℤ year_start_of y) ≡ pos 525600)
         ⊎ ((year_start_of (y +ℤ pos 1) -ℤ year_start_of y) ≡ pos 527040) }
+    ensures least { (y : ℤ) → IsYearInReach y → negsuc 1035067679 ≤ℤ year_start_of y }
     ensures size { (y : ℤ) → IsYearInReach y → unsigned_abs (year_start_of y) < 4000000000 }
 {}
 
@@ -30,6 +32,18 @@ pub fn plain_parts()
         → InDomain first_year years later × (place_of first_year years later ≡ Plain year) }
     ensures end { (first_year : ℤ) (years : ℕ) (m : ℤ) (year : ℕ) → AreYears first_year years → InDomain first_year years m
         → place_of first_year years m ≡ Plain year → m ≤ℤ plain_end_of first_year years year }
+{}
+
+/// Where minutes are among the three years from 1999 on: at both ends of them, and round a new year.
+#[tactic(auto, unfolding(crate::specs::Places::place_of, crate::specs::Places::place_in, crate::specs::Places::year_at, crate::specs::Years::year_start_of, jiff_core::specs::Calendar::days_from_civil, jiff_core::specs::Calendar::day_count, jiff_core::specs::Calendar::days_of_years, jiff_core::specs::Calendar::days_of_months))]
+pub fn worked_places()
+    ensures first { place_of (pos 1999) 3 (pos 15252480) ≡ Place.Plain 0 }
+    ensures hour_before { place_of (pos 1999) 3 (pos 15778020) ≡ Place.Plain 0 }
+    ensures first_blended { place_of (pos 1999) 3 (pos 15778021) ≡ Place.Blend 1 (negsuc 58) }
+    ensures new_year { place_of (pos 1999) 3 (pos 15778080) ≡ Place.Blend 1 (pos 0) }
+    ensures last_blended { place_of (pos 1999) 3 (pos 15778139) ≡ Place.Blend 1 (pos 59) }
+    ensures hour_after { place_of (pos 1999) 3 (pos 15778140) ≡ Place.Plain 1 }
+    ensures last { place_of (pos 1999) 3 (pos 16830720) ≡ Place.Plain 2 }
 {}
 
 /// Values of the definitions at arguments of their own.

@@ -13,7 +13,7 @@ mod weights;
 mod years;
 
 pub use finding::{place, plain_end};
-pub use laws::{plain_parts, unique_places, worked_rows, year_lengths};
+pub use laws::{plain_parts, unique_places, worked_places, worked_rows, year_lengths};
 pub use parts::Place;
 pub use weights::{TOTAL_WEIGHT, weight, weight_slope};
 pub use years::year_start;
