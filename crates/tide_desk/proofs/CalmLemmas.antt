@@ -21,7 +21,7 @@ use Rattle.zone_time.specs.Moments.{IsMoment}
 use Rattle.tide_desk.specs.Faults.{IsTold}
 use Rattle.tide_desk.proofs.SpanLemmas.{desk_minute, book_years}
 use Rattle.tide_desk.specs.declared.fault.Fault.{Fault}
-use Rattle.tide_desk.specs.declared.fault.Fault.TheVariants.{NoMemory, Words, ReadFault, FileTooLong, File, NoStation, Hydraulic, CurrentsNotBuilt, BackwardSpan, OutOfYears, TooLarge, TooSteep, SpanTooLong}
+use Rattle.tide_desk.specs.declared.fault.Fault.TheVariants.{NoMemory, Words, ReadFault, NoStation, Hydraulic, CurrentsNotBuilt, BackwardSpan, OutOfYears}
 use Rattle.tide_desk.specs.declared.words.Asked.{Asked}
 use Rattle.tide_desk.specs.declared.words.Asked.TheVariants.{Predict, Stations}
 use Rattle.tide_desk.specs.declared.words.Question.{Question}

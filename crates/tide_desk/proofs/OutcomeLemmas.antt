@@ -1,7 +1,7 @@
 -- What is left where a fault is told.
 use Rattle.std.proofs.Common.{◌≡◌, inl, inr, List, ℕ, Result, Err, refl}
 use Rattle.tide_desk.specs.declared.fault.Fault.{Fault}
-use Rattle.tide_desk.specs.declared.fault.Fault.TheVariants.{NoMemory, Words, ReadFault, FileTooLong, File, NoStation, Hydraulic, CurrentsNotBuilt, BackwardSpan, OutOfYears, TooLarge, TooSteep, SpanTooLong}
+use Rattle.tide_desk.specs.declared.fault.Fault.TheVariants.{NoMemory, ReadFault}
 use Rattle.tide_desk.specs.declared.status.Status.{Status}
 use Rattle.tide_desk.specs.Faults.{status_of}
 use Rattle.tide_desk.specs.Outcomes.{SaysAll, Took, IsToldBy, told_line, line_with}

@@ -5,7 +5,6 @@ use Rattle.curve_law.specs.Track.{Track, plain_list, has_event, side_at, event_a
 use Rattle.curve_law.specs.declared.event.Event.{Event}
 use Rattle.jiff_core.proofs.SignedLemmas.{signed_arith, one_part}
 use Rattle.std.proofs.lemmas.Int.{ints}
-use Rattle.year_blend.specs.Years.{year_start_of}
 use Rattle.year_blend.specs.Places.{AreYears, InDomain}
 use Rattle.year_blend.proofs.YearLemmas.{year_start_of_low, year_start_of_high}
 use Rattle.tide_desk.specs.Listings.{IsDeskMinute, turn_track, listing_of}

@@ -36,7 +36,7 @@ IsTide Meters = Unit {0}
 IsTide Knots = ⊥
 IsTide KnotsSquared = ⊥
 
--- a minute of the years from 2 to 9300
+-- a minute from the begin of the year 2 to that of the year 9300
 pub record IsDeskMinute (minute : ℤ) : Type 0 where
   pub least : negsuc 1035067679 ≤ℤ minute
-  pub most : minute ≤ℤ pos 3900000000
+  pub most : minute ≤ℤ pos 3855208320

@@ -1,5 +1,5 @@
 -- A folder with one small file, and words about it, whose answers are worked out elsewhere (this project).
-use Rattle.std.specs.Prelude.{nat_eq, if◌then◌else◌, List, ℕ, [], ◌∷◌, ◌++◌, codes, Option, Some, None}
+use Rattle.std.specs.Prelude.{nat_eq, if◌then◌else◌, List, ℕ, [], ◌∷◌, codes, Option, Some, None}
 use Rattle.std.specs.Cmp.Lexicographic.{pointwise}
 
 -- a tide that is highest at noon and at midnight, over the years 1999 to 2001

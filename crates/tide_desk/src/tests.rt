@@ -98,67 +98,69 @@ fn assert_outcome(rt: &impl Abort, outcome: &Outcome, status: u8, out: &str, err
 const PREDICT: &str =
     "predict|file=pier.txt|station=Pier|begin=2000-01-10T00:00Z|end=2000-01-11T00:00Z";
 
+// A line of the file and its text, a span, and its listing.
+const LISTINGS: &[(usize, &str, &str, &str, &str)] = &[
+    (0, "", "2000-01-10T00:00Z", "2000-01-11T00:00Z", DAY),
+    (
+        16,
+        "S2 0 0",
+        "2000-01-10T00:00Z",
+        "2000-01-11T00:00Z",
+        "Pier\n",
+    ),
+    (
+        0,
+        "",
+        "2000-01-10T23:59Z",
+        "2000-01-11T00:00Z",
+        "Pier\n2000-01-10 23:59 UTC       1.00 feet  High Tide\n",
+    ),
+    (0, "", "2000-01-10T23:58Z", "2000-01-10T23:59Z", "Pier\n"),
+    (0, "", "2000-01-10T00:00Z", "2000-01-10T00:00Z", "Pier\n"),
+    (0, "", "2002-01-01T00:00Z", "2002-01-01T00:00Z", "Pier\n"),
+    (
+        0,
+        "",
+        "1999-01-01T00:00Z",
+        "1999-01-01T06:01Z",
+        "Pier\n1999-01-01 06:00 UTC      -1.00 feet  Low Tide\n",
+    ),
+    (
+        16,
+        "S2 1 0\nPier\n0:00\n5 feet\nS2 1 0",
+        "2000-01-10T23:59Z",
+        "2000-01-11T00:00Z",
+        "Pier\n2000-01-10 23:59 UTC       1.00 feet  High Tide\n",
+    ),
+    (
+        7,
+        "0 60 60",
+        "1999-12-31T22:00Z",
+        "2000-01-01T02:00Z",
+        "Pier\n1999-12-31 23:27 UTC       0.94 feet  High Tide\n",
+    ),
+    (
+        16,
+        "S2 333.333333 0",
+        "2000-01-10T05:00Z",
+        "2000-01-10T12:00Z",
+        "Pier\n2000-01-10 06:00 UTC    -333.33 feet  Low Tide\n\
+         2000-01-10 11:59 UTC     333.32 feet  High Tide\n",
+    ),
+    (
+        0,
+        "",
+        "2001-12-31T12:00Z",
+        "2002-01-01T00:00Z",
+        "Pier\n2001-12-31 18:00 UTC      -1.00 feet  Low Tide\n\
+         2001-12-31 23:59 UTC       1.00 feet  High Tide\n",
+    ),
+];
+
 #[test]
 fn a_span_lists_its_events(rt: HostRuntime) -> Result<(), Fail> {
     let alloc = rt.alloc();
-    let rows = [
-        (0, "", "2000-01-10T00:00Z", "2000-01-11T00:00Z", DAY),
-        (
-            16,
-            "S2 0 0",
-            "2000-01-10T00:00Z",
-            "2000-01-11T00:00Z",
-            "Pier\n",
-        ),
-        (
-            0,
-            "",
-            "2000-01-10T23:59Z",
-            "2000-01-11T00:00Z",
-            "Pier\n2000-01-10 23:59 UTC       1.00 feet  High Tide\n",
-        ),
-        (0, "", "2000-01-10T23:58Z", "2000-01-10T23:59Z", "Pier\n"),
-        (0, "", "2000-01-10T00:00Z", "2000-01-10T00:00Z", "Pier\n"),
-        (0, "", "2002-01-01T00:00Z", "2002-01-01T00:00Z", "Pier\n"),
-        (
-            0,
-            "",
-            "1999-01-01T00:00Z",
-            "1999-01-01T06:01Z",
-            "Pier\n1999-01-01 06:00 UTC      -1.00 feet  Low Tide\n",
-        ),
-        (
-            16,
-            "S2 1 0\nPier\n0:00\n5 feet\nS2 1 0",
-            "2000-01-10T23:59Z",
-            "2000-01-11T00:00Z",
-            "Pier\n2000-01-10 23:59 UTC       1.00 feet  High Tide\n",
-        ),
-        (
-            7,
-            "0 60 60",
-            "1999-12-31T22:00Z",
-            "2000-01-01T02:00Z",
-            "Pier\n1999-12-31 23:27 UTC       0.94 feet  High Tide\n",
-        ),
-        (
-            16,
-            "S2 333.333333 0",
-            "2000-01-10T05:00Z",
-            "2000-01-10T12:00Z",
-            "Pier\n2000-01-10 06:00 UTC    -333.33 feet  Low Tide\n\
-             2000-01-10 11:59 UTC     333.32 feet  High Tide\n",
-        ),
-        (
-            0,
-            "",
-            "2001-12-31T12:00Z",
-            "2002-01-01T00:00Z",
-            "Pier\n2001-12-31 18:00 UTC      -1.00 feet  Low Tide\n\
-             2001-12-31 23:59 UTC       1.00 feet  High Tide\n",
-        ),
-    ];
-    for (line, text, begin, end, expected) in rows {
+    for &(line, text, begin, end, expected) in LISTINGS {
         let file = pier_with(alloc, line, text)?;
         let words = format!(in alloc;
             "predict|file=pier.txt|station=Pier|begin={begin}|end={end}"
@@ -169,128 +171,131 @@ fn a_span_lists_its_events(rt: HostRuntime) -> Result<(), Fail> {
     Ok(())
 }
 
+// A line of the file and its text, the words, the status and the line that they come to, in the
+// order of refusals.
+const REFUSALS: &[(usize, &str, &str, u8, &str)] = &[
+    (0, "", "predict|file=pier.txt", 2, "words: refused\n"),
+    (0, "", "stations", 2, "words: refused\n"),
+    (0, "", "stations|file=", 2, "words: refused\n"),
+    (
+        0,
+        "",
+        "predict|station=Pier|file=pier.txt|begin=2000-01-10T00:00Z|end=2000-01-11T00:00Z",
+        2,
+        "words: refused\n",
+    ),
+    (
+        0,
+        "",
+        "predict|file=pier.txt|station=Pier|begin=2000-01-10|end=2000-01-11T00:00Z",
+        2,
+        "words: refused\n",
+    ),
+    (0, "", "PREDICT|file=pier.txt", 2, "words: refused\n"),
+    (0, "", "stations|FILE=pier.txt", 2, "words: refused\n"),
+    (
+        0,
+        "",
+        "stations|file=pier.txt|zone=UTC",
+        2,
+        "words: refused\n",
+    ),
+    (
+        0,
+        "",
+        "predict|file=quay.txt|station=|begin=2000-01-10T00:00Z|end=2000-01-11T00:00Z",
+        2,
+        "words: refused\n",
+    ),
+    (0, "", "stations|file=quay.txt", 6, "read fault\n"),
+    (0, "", "stations|file==pier.txt", 6, "read fault\n"),
+    (
+        3,
+        "S2 30.00000001",
+        PREDICT,
+        3,
+        "file: line 3: too fine (4)\n",
+    ),
+    (9, "2", PREDICT, 3, "file: line 9: years differ (6)\n"),
+    (
+        16,
+        "M2 1 0",
+        PREDICT,
+        3,
+        "file: line 16: wrong constituent (7)\n",
+    ),
+    (
+        3,
+        "S2 30.00000001",
+        "predict|file=pier.txt|station=Pie|begin=2000-01-10T00:00Z|end=2000-01-11T00:00Z",
+        3,
+        "file: line 3: too fine (4)\n",
+    ),
+    (13, "Quay", PREDICT, 4, "refused: no station\n"),
+    (
+        15,
+        "0 knots^2",
+        "predict|file=pier.txt|station=Pie|begin=2000-01-10T00:00Z|end=2000-01-11T00:00Z",
+        4,
+        "refused: no station\n",
+    ),
+    (
+        15,
+        "0 knots^2",
+        "predict|file=pier.txt|station=Pier|begin=2000-01-10T00:01Z|end=2000-01-10T00:00Z",
+        4,
+        "refused: hydraulic\n",
+    ),
+    (15, "0 knots^2", PREDICT, 4, "refused: hydraulic\n"),
+    (15, "0 knots", PREDICT, 4, "refused: currents not built\n"),
+    (
+        0,
+        "",
+        "predict|file=pier.txt|station=Pier|begin=2000-01-10T00:01Z|end=2000-01-10T00:00Z",
+        4,
+        "refused: backward span\n",
+    ),
+    (
+        0,
+        "",
+        "predict|file=pier.txt|station=Pier|begin=2002-01-01T00:02Z|end=2002-01-01T00:01Z",
+        4,
+        "refused: backward span\n",
+    ),
+    (
+        16,
+        "S2 1000.000001 0",
+        "predict|file=pier.txt|station=Pier|begin=1998-12-31T23:59Z|end=1999-01-02T00:00Z",
+        4,
+        "refused: out of years: file has 1999-01-01T00:00Z to 2002-01-01T00:00Z\n",
+    ),
+    (
+        0,
+        "",
+        "predict|file=pier.txt|station=Pier|begin=2001-12-31T12:00Z|end=2002-01-01T00:01Z",
+        4,
+        "refused: out of years: file has 1999-01-01T00:00Z to 2002-01-01T00:00Z\n",
+    ),
+    (
+        16,
+        "S2 333.333334 0",
+        PREDICT,
+        5,
+        "limit: too steep in 1999\n",
+    ),
+    (
+        16,
+        "S2 1000.000001 0",
+        PREDICT,
+        5,
+        "limit: too large in 1999\n",
+    ),
+];
+
 #[test]
 fn each_refusal_has_its_line(rt: HostRuntime) -> Result<(), Fail> {
     let alloc = rt.alloc();
-    let rows = [
-        (0, "", "predict|file=pier.txt", 2, "words: refused\n"),
-        (0, "", "stations", 2, "words: refused\n"),
-        (0, "", "stations|file=", 2, "words: refused\n"),
-        (
-            0,
-            "",
-            "predict|station=Pier|file=pier.txt|begin=2000-01-10T00:00Z|end=2000-01-11T00:00Z",
-            2,
-            "words: refused\n",
-        ),
-        (
-            0,
-            "",
-            "predict|file=pier.txt|station=Pier|begin=2000-01-10|end=2000-01-11T00:00Z",
-            2,
-            "words: refused\n",
-        ),
-        (0, "", "PREDICT|file=pier.txt", 2, "words: refused\n"),
-        (0, "", "stations|FILE=pier.txt", 2, "words: refused\n"),
-        (
-            0,
-            "",
-            "stations|file=pier.txt|zone=UTC",
-            2,
-            "words: refused\n",
-        ),
-        (
-            0,
-            "",
-            "predict|file=quay.txt|station=|begin=2000-01-10T00:00Z|end=2000-01-11T00:00Z",
-            2,
-            "words: refused\n",
-        ),
-        (0, "", "stations|file=quay.txt", 6, "read fault\n"),
-        (0, "", "stations|file==pier.txt", 6, "read fault\n"),
-        (
-            3,
-            "S2 30.00000001",
-            PREDICT,
-            3,
-            "file: line 3: too fine (4)\n",
-        ),
-        (9, "2", PREDICT, 3, "file: line 9: years differ (6)\n"),
-        (
-            16,
-            "M2 1 0",
-            PREDICT,
-            3,
-            "file: line 16: wrong constituent (7)\n",
-        ),
-        (
-            3,
-            "S2 30.00000001",
-            "predict|file=pier.txt|station=Pie|begin=2000-01-10T00:00Z|end=2000-01-11T00:00Z",
-            3,
-            "file: line 3: too fine (4)\n",
-        ),
-        (13, "Quay", PREDICT, 4, "refused: no station\n"),
-        (
-            15,
-            "0 knots^2",
-            "predict|file=pier.txt|station=Pie|begin=2000-01-10T00:00Z|end=2000-01-11T00:00Z",
-            4,
-            "refused: no station\n",
-        ),
-        (
-            15,
-            "0 knots^2",
-            "predict|file=pier.txt|station=Pier|begin=2000-01-10T00:01Z|end=2000-01-10T00:00Z",
-            4,
-            "refused: hydraulic\n",
-        ),
-        (15, "0 knots^2", PREDICT, 4, "refused: hydraulic\n"),
-        (15, "0 knots", PREDICT, 4, "refused: currents not built\n"),
-        (
-            0,
-            "",
-            "predict|file=pier.txt|station=Pier|begin=2000-01-10T00:01Z|end=2000-01-10T00:00Z",
-            4,
-            "refused: backward span\n",
-        ),
-        (
-            0,
-            "",
-            "predict|file=pier.txt|station=Pier|begin=2002-01-01T00:02Z|end=2002-01-01T00:01Z",
-            4,
-            "refused: backward span\n",
-        ),
-        (
-            16,
-            "S2 1000.000001 0",
-            "predict|file=pier.txt|station=Pier|begin=1998-12-31T23:59Z|end=1999-01-02T00:00Z",
-            4,
-            "refused: out of years: file has 1999-01-01T00:00Z to 2002-01-01T00:00Z\n",
-        ),
-        (
-            0,
-            "",
-            "predict|file=pier.txt|station=Pier|begin=2001-12-31T12:00Z|end=2002-01-01T00:01Z",
-            4,
-            "refused: out of years: file has 1999-01-01T00:00Z to 2002-01-01T00:00Z\n",
-        ),
-        (
-            16,
-            "S2 333.333334 0",
-            PREDICT,
-            5,
-            "limit: too steep in 1999\n",
-        ),
-        (
-            16,
-            "S2 1000.000001 0",
-            PREDICT,
-            5,
-            "limit: too large in 1999\n",
-        ),
-    ];
-    for (line, text, words, status, expected) in rows {
+    for &(line, text, words, status, expected) in REFUSALS {
         let file = pier_with(alloc, line, text)?;
         let outcome = run_over(alloc, file, words, 4096, NONE)?;
         assert_outcome(&rt, &outcome, status, "", expected);

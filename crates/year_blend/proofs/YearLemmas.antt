@@ -61,7 +61,7 @@ pub year_start_of_low : (y : ℤ) → pos 2 ≤ℤ y → negsuc 1035067679 ≤�
 year_start_of_low y low =
     omega (arith, signed_arith, year_start_of-day_count y, day_count_low y low)
 
-pub year_start_of_high : (y : ℤ) → pos 2 ≤ℤ y → y ≤ℤ pos 9300 → year_start_of y ≤ℤ pos 3900000000
+pub year_start_of_high : (y : ℤ) → pos 2 ≤ℤ y → y ≤ℤ pos 9300 → year_start_of y ≤ℤ pos 3855208320
 year_start_of_high y low high =
     omega (arith, signed_arith, year_start_of-day_count y, day_count_high y low high)
 

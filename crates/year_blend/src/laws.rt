@@ -7,14 +7,13 @@ ghost use Rattle.year_blend.specs.Years.{year_start_of, IsYearInReach};
 ghost use Rattle.year_blend.specs.Places.{AreYears, InDomain, IsPlaceOf, place_of, plain_end_of};
 ghost use Rattle.year_blend.specs.Weights.{weight_of, weight_slope_of, total_weight};
 
-/// Starts ascend by a year of 365 or 366 days from that of the year 2 on, and are below 4,000,000,000
-/// in size.
+/// Starts ascend by a year of 365 or 366 days, from that of the year 2 to that of the year 9300.
 pub fn year_lengths()
     ensures lengths { (y : ℤ) → IsYearInReach y
         → ((year_start_of (y +ℤ pos 1) -ℤ year_start_of y) ≡ pos 525600)
         ⊎ ((year_start_of (y +ℤ pos 1) -ℤ year_start_of y) ≡ pos 527040) }
     ensures least { (y : ℤ) → IsYearInReach y → negsuc 1035067679 ≤ℤ year_start_of y }
-    ensures size { (y : ℤ) → IsYearInReach y → unsigned_abs (year_start_of y) < 4000000000 }
+    ensures most { (y : ℤ) → IsYearInReach y → year_start_of y ≤ℤ pos 3855208320 }
 {}
 
 /// Every minute of the domain has exactly one place.

@@ -1,12 +1,10 @@
-use Rattle.std.proofs.Common.{◌≡◌, None, refl}
+use Rattle.std.proofs.Common.{None, refl}
 use Rattle.tide_edge.proofs.ExcuseLemmas.{meets_by_fault}
 use Rattle.tide_desk.specs.Answers.{answer_of, text_for}
-use Rattle.tide_desk.specs.Faults.{IsTold}
 use Rattle.tide_desk.specs.Steps.{source_of}
 use Rattle.tide_desk.specs.Words.{asked_of}
 use Rattle.tide_desk.proofs.AnswerLemmas.{met_at_words, met_at_bytes, met_at_form, met_by_text, gives_at_words, gives_at_bytes, gives_at_form, gives_by_text}
 use Rattle.std.proofs.lemmas.Result.{err_from_is_err_and}
-use Rattle.tide_desk.specs.declared.fault.Fault.TheVariants.{ReadFault}
 use Rattle.tide_desk.proofs.CalmLemmas.{calm_asked, calm_text, given_fault, given_result}
 use Rattle.tide_desk.proofs.answer.answer.Goals as goal
 

@@ -1,12 +1,11 @@
 use lib.Utf8.{encode}
-use Rattle.std.proofs.Common.{◌≡◌, [], ◌∷◌, ◌++◌, codes, pos, Ok, refl, ap, ◌∙◌, lit<}
+use Rattle.std.proofs.Common.{◌≡◌, [], ◌++◌, codes, pos, Ok, refl, ap, ◌∙◌, lit<}
 use Rattle.std.proofs.lemmas.Fmt.{decimal_digit}
 use Rattle.curve_law.specs.declared.kind.Kind.TheVariants.{High}
 use Rattle.curve_law.specs.Track.{minutes, plain_list}
 use Rattle.decimal_text.specs.Decimal.{after_point, made_of, decimal_of, scaled, scaled_or_bad, read_of}
 use Rattle.decimal_text.specs.Rounding.{rounded_of}
 use Rattle.decimal_text.specs.Writing.{write_of, last_digits}
-use Rattle.event_list.specs.Words.{word_of}
 use Rattle.fixed_sine.specs.Table.{sines, sine_at, correction}
 use Rattle.fixed_sine.specs.Sine.{scaled_between, quarter_of, half_of, isin_of, icos_of}
 use Rattle.harmonics_text.specs.declared.book.Units.TheVariants.{Feet}
