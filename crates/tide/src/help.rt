@@ -6,7 +6,11 @@ const HELP: &str = "\
 Predicts tides: the high and low waters of a station, from its harmonic constants.
 
 Usage: tide predict file=F station=S begin=A end=B
+       tide stations file=F
        tide --help | --version
+
+  predict   lists the high and low waters of a station
+  stations  lists the stations of a file
 
   file     a file of harmonic constants, after XTide's text files
   station  the name of a station as it stands in the file
@@ -22,7 +26,9 @@ Example:
     begin=2025-06-01T00:00Z end=2025-06-08T00:00Z
 
 Status: 0 done, 2 words refused, 3 file refused, 4 question refused, 5 a limit,
-6 read fault, 7 write fault, 8 no memory. NOT FOR NAVIGATION.
+6 read fault, 7 write fault, 8 no memory. One line on standard error says why.
+
+NOT FOR NAVIGATION.
 ";
 
 const VERSION: &str = "tide 0.1.0\n";
@@ -30,8 +36,8 @@ const VERSION: &str = "tide 0.1.0\n";
 /// The page that the first word asks for, if it does.
 pub fn page(words: &Words) -> Option<&'static str> {
     match words.as_slice().first()?.as_str() {
-        "--help" => Some(HELP),
-        "--version" => Some(VERSION),
+        "-h" | "--help" => Some(HELP),
+        "-V" | "--version" => Some(VERSION),
         _ => None,
     }
 }
