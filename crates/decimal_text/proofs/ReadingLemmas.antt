@@ -1,5 +1,5 @@
 -- What a decimal's parts read as.
-use Rattle.std.proofs.Common.{◌≡◌, ℕ, zero, suc, ◌+◌, ◌*◌, ◌-◌, ◌/◌, ◌%◌, ◌^◌, ◌<◌, ◌≤◌, Bool, true, false, cond, nat_lt, nat_eq, List, [], ◌∷◌, ◌++◌, length, length-take, min, get_or, take, drop, Option, Some, None, option_and_then, Ok, Err, ℤ, pos, neg_ℤ, ◌*ℤ◌, zero-mul, inl, inr, refl, sym, ap, ◌∙◌, arith, lit<}
+use Rattle.std.proofs.Common.{◌≡◌, ℕ, zero, suc, ◌+◌, ◌*◌, ◌-◌, ◌/◌, ◌%◌, ◌^◌, ◌<◌, ◌≤◌, Bool, true, false, cond, nat_lt, nat_eq, List, [], ◌∷◌, ◌++◌, length, length-take, min, get_or, take, drop, Option, Some, None, option_and_then, Ok, Err, ℤ, pos, negsuc, neg_ℤ, unsigned_abs, ◌*ℤ◌, zero-mul, inl, inr, refl, sym, ap, ◌∙◌, arith, lit<}
 use Rattle.std.specs.Prelude.{IsSomeAnd}
 use Rattle.std.specs.List.{list_all, take_while}
 use Rattle.std.specs.Char.{digit_value, is_ascii_digit}
@@ -13,7 +13,7 @@ use Rattle.std.proofs.Math.Nat.{pow-le-pow_right}
 use Rattle.std.proofs.lemmas.Grind.{pow_more}
 use Rattle.decimal_text.specs.declared.fault.DecimalFault.TheVariants.{BadForm, TooLong, TooFine}
 use Rattle.decimal_text.specs.declared.steps.Steps.{Steps}
-use Rattle.decimal_text.specs.Decimal.{Decimal, after_point, made_of, scaled, scaled_or_bad, signed, decimal_of, read_of, IsScaled, ReadsItsFraction}
+use Rattle.decimal_text.specs.Decimal.{Decimal, after_point, made_of, scaled, scaled_or_bad, signed, decimal_of, read_of, IsScaled, ReadsItsFraction, TooFineIsNoFraction}
 use Rattle.decimal_text.specs.Steps.{Stands}
 use Rattle.decimal_text.proofs.StepsLemmas.{ten_up}
 
@@ -175,3 +175,46 @@ reads_option (Some d) places n h = scaled_law d places n h
 pub reads_fraction : ReadsItsFraction
 unfolding read_of
 reads_fraction text places n h = reads_option (decimal_of text) places n h
+
+-- what is too fine is no fraction of whole steps
+abs-neg : (m : ℕ) → unsigned_abs (neg_ℤ (pos m)) ≡ m
+abs-neg zero = refl
+abs-neg (suc m) = refl
+
+abs-mul : (z : ℤ) (k : ℕ) → unsigned_abs (z *ℤ pos k) ≡ unsigned_abs z * k
+abs-mul (pos n) k = refl
+abs-mul (negsuc n) k = abs-neg (suc n * k)
+
+abs-signed : (negative : Bool) (n : ℕ) → unsigned_abs (signed negative n) ≡ n
+abs-signed false n = refl
+abs-signed true n = abs-neg n
+
+fine_parts : (long whole : Bool) (v : ℤ) → cond long (Err TooLong) (cond whole (Ok v) (Err TooFine)) ≡ Err TooFine → whole ≡ false
+fine_parts true whole v h = cc
+fine_parts false true v h = cc
+fine_parts false false v h = refl
+
+fine_law : (d : Decimal) (places : ℕ) (n : ℤ) → scaled places d ≡ Err TooFine → IsScaled d places n → ⊥
+unfolding scaled
+fine_law d places n h is =
+    let number = digits_value 10 (d.whole ++ d.fraction) in
+    let steps = number * 10 ^ places in
+    let unit = 10 ^ length d.fraction in
+    let broken : nat_eq (steps % unit) 0 ≡ false = fine_parts (nat_lt 18 (length d.whole)) (nat_eq (steps % unit) 0) (signed d.negative (steps / unit)) h in
+    let sizes : unsigned_abs n * unit ≡ steps =
+    sym (abs-mul n unit) ∙ ap unsigned_abs is ∙ abs-mul (signed d.negative number) (10 ^ places)
+    ∙ ap (λ k. k * 10 ^ places) (abs-signed d.negative number) in
+    let some = ten_up (length d.fraction) in
+    let rest : (unsigned_abs n * unit + 0) % unit ≡ 0 = mod-mul-add (unsigned_abs n) unit 0 (omega arith) in
+    let same : unsigned_abs n * unit + 0 ≡ steps = omega (arith, sizes) in
+    let whole : nat_eq (steps % unit) 0 ≡ true = eq-eqb (steps % unit) 0 (sym (ap (λ k. k % unit) same) ∙ rest) in
+    cc
+
+fine_option : (found : Option Decimal) (places : ℕ) (n : ℤ) → scaled_or_bad places found ≡ Err TooFine → IsSomeAnd found (λ d. ¬ (IsScaled d places n))
+unfolding scaled_or_bad
+fine_option None places n h = cc
+fine_option (Some d) places n h = fine_law d places n h
+
+pub too_fine : TooFineIsNoFraction
+unfolding read_of
+too_fine text places n h = fine_option (decimal_of text) places n h

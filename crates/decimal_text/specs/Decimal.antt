@@ -61,3 +61,7 @@ read_of text places = scaled_or_bad places (decimal_of text)
 -- what a text reads as is the fraction that its digits write
 abbrev pub ReadsItsFraction : Type 0
 ReadsItsFraction = (text : List ℕ) (places : ℕ) (n : ℤ) → read_of text places ≡ Ok n → IsSomeAnd (decimal_of text) (λ d. IsScaled d places n)
+
+-- what is too fine is the fraction of no whole number of steps
+abbrev pub TooFineIsNoFraction : Type 0
+TooFineIsNoFraction = (text : List ℕ) (places : ℕ) (n : ℤ) → read_of text places ≡ Err TooFine → IsSomeAnd (decimal_of text) (λ d. ¬ (IsScaled d places n))

@@ -1,14 +1,16 @@
 //! Facts about reading and writing, and rows that show what they mean.
 
 ghost use Rattle.std.specs.Prelude.{◌≡◌, Ok, Err, pos, negsuc, [], codes};
-ghost use Rattle.decimal_text.specs.Decimal.{read_of, ReadsItsFraction};
+ghost use Rattle.decimal_text.specs.Decimal.{read_of, ReadsItsFraction, TooFineIsNoFraction};
 ghost use Rattle.decimal_text.specs.Rounding.{rounded_of};
 ghost use Rattle.decimal_text.specs.Writing.{write_of};
 ghost use Rattle.decimal_text.specs.declared.fault.DecimalFault.TheVariants.{BadForm, TooLong, TooFine};
 
-/// The number read, over `10^places`, is the fraction that the text's digits write.
+/// The number read, over `10^places`, is the fraction that the text's digits write, and no number
+/// is the fraction of a text that is too fine.
 pub fn reads_its_fraction()
-    ensures { ReadsItsFraction }
+    ensures read { ReadsItsFraction }
+    ensures too_fine { TooFineIsNoFraction }
 {}
 
 /// Some texts, and what they read as.

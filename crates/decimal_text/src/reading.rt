@@ -17,6 +17,10 @@ const MOST_WHOLE_DIGITS: usize = 18;
 ///
 /// A decimal is an optional `+` or `-`, digits, and an optional point with digits, with one digit
 /// at least in all. The text is gone over once, whatever its length. It takes no memory.
+///
+/// # Errors
+/// [`DecimalFault::BadForm`] where the text is no decimal, then [`DecimalFault::TooLong`] and then
+/// [`DecimalFault::TooFine`].
 pub fn read(text: &[u8], places: u32) -> Result<i128, DecimalFault>
     requires { places ≤ 9 }
     ensures exact { result ≡ read_of text.now places }

@@ -1,6 +1,7 @@
 //! The clock of the machine.
 
-ghost use Rattle.std.specs.Prelude.{◌≡◌, pos};
+ghost use Rattle.std.specs.Prelude.{◌≡◌, ◌/◌, ◌<◌, pos, IfSome, MatchOption};
+ghost use Rattle.tide_edge.specs.Clocks.{IsClockMinute};
 
 use crate::clock::Clock;
 use crate::failed::Failed;
@@ -38,12 +39,23 @@ impl<R: rt::Clock + Drop> Clock for HostClock<R> {
     fn minute(&mut self) -> Result<i64, Failed> {
         if let Ok(now) = SystemTime::now(&self.system)
             && let Ok(since) = now.duration_since(UNIX_EPOCH)
+            && let Some(minute) = minute_of(since.as_secs())
         {
-            let minute = since.as_secs() / 60;
-            if minute <= LAST_MINUTE {
-                return Ok(minute as i64);
-            }
+            return Ok(minute);
         }
         Err(count_fault(&mut self.faults))
+    }
+}
+
+/// The minute that so many seconds since 1970-01-01 00:00 UTC lie in, if a clock may show it.
+fn minute_of(seconds: u64) -> Option<i64>
+    ensures exact { MatchOption result (10000000000 < seconds / 60) (λ minute. minute ≡ pos (seconds / 60)) }
+    ensures in_range { IfSome result IsClockMinute }
+{
+    let minute = seconds / 60;
+    if minute <= LAST_MINUTE {
+        Some(minute as i64)
+    } else {
+        None
     }
 }
