@@ -2,19 +2,20 @@
 use Rattle.std.proofs.Common.{◌≡◌, ℕ, suc, ◌+◌, ◌-◌, ◌*◌, ◌/◌, ◌%◌, ◌<◌, ◌≤◌, true, List, [], ◌∷◌, length, arith}
 use Rattle.std.proofs.lemmas.Bool.{and_parts, leb-true, eqb-true}
 use Rattle.zone_time.specs.Dates.{two_digits}
-use Rattle.zone_time.specs.Moments.{has_form, is_digit, pair_at}
+use Rattle.std.specs.Char.{is_ascii_digit}
+use Rattle.zone_time.specs.Moments.{has_form, pair_at}
 use Rattle.zone_time.proofs.MomentLemmas.{spelled}
 
-is_digit_bounds : (b : ℕ) → is_digit b ≡ true → (48 ≤ b) × (b ≤ 57)
-is_digit_bounds b h = (leb-true 48 b (and_parts _ _ h).0, leb-true b 57 (and_parts _ _ h).1)
+digit_bounds : (b : ℕ) → is_ascii_digit b ≡ true → (48 ≤ b) × (b ≤ 57)
+digit_bounds b h = (leb-true 48 b (and_parts _ _ h).0, leb-true b 57 (and_parts _ _ h).1)
 
-digits_small : (b c : ℕ) → is_digit b ≡ true → is_digit c ≡ true → 10 * (b - 48) + (c - 48) < 100
-digits_small b c tens ones = omega (arith, is_digit_bounds b tens, is_digit_bounds c ones)
+digits_small : (b c : ℕ) → is_ascii_digit b ≡ true → is_ascii_digit c ≡ true → 10 * (b - 48) + (c - 48) < 100
+digits_small b c tens ones = omega (arith, digit_bounds b tens, digit_bounds c ones)
 
-digits_spelled : (b c : ℕ) → is_digit b ≡ true → is_digit c ≡ true → two_digits (10 * (b - 48) + (c - 48)) ≡ b ∷ c ∷ []
+digits_spelled : (b c : ℕ) → is_ascii_digit b ≡ true → is_ascii_digit c ≡ true → two_digits (10 * (b - 48) + (c - 48)) ≡ b ∷ c ∷ []
 unfolding two_digits
 digits_spelled b c tens ones =
-    let digit_b = is_digit_bounds b tens in let digit_c = is_digit_bounds c ones in
+    let digit_b = digit_bounds b tens in let digit_c = digit_bounds c ones in
     let first : 48 + (10 * (b - 48) + (c - 48)) / 10 % 10 ≡ b = omega arith in
     let second : 48 + (10 * (b - 48) + (c - 48)) % 10 ≡ c = omega arith in
     rw (first, second)

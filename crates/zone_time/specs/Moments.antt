@@ -2,6 +2,7 @@
 use Rattle.std.specs.Prelude.{ℕ, ◌+◌, ◌-◌, ◌*◌, ℤ, pos, negsuc, ◌+ℤ◌, ◌*ℤ◌, ◌≤ℤ◌, unsigned_abs, Bool, nat_le, ◌==◌, ◌&&◌, if◌then◌else◌, Option, Some, None, List, ◌++◌, codes, length, slice_index}
 use Rattle.std.specs.List.{list_all, zip}
 use Rattle.std.specs.Int.{int_div_euclid, int_rem_euclid}
+use Rattle.std.specs.Char.{is_ascii_digit}
 use Rattle.jiff_core.specs.Calendar.{days_in_month, days_from_civil}
 use Rattle.zone_time.specs.Dates.{date_text, clock_text}
 
@@ -22,12 +23,9 @@ minute_of_day m = unsigned_abs (int_rem_euclid m (pos 1440))
 unfoldable pub moment_text : ℤ → List ℕ
 moment_text m = date_text (day_of m) ++ codes "T" ++ clock_text (minute_of_day m) ++ codes "Z"
 
-abbrev pub is_digit : ℕ → Bool
-is_digit b = nat_le 48 b && nat_le b 57
-
 -- a byte fits a byte of a pattern: a digit fits 0, and any other byte itself alone
 abbrev pub fits : ℕ → ℕ → Bool
-fits b wanted = if wanted == 48 then is_digit b else b == wanted
+fits b wanted = if wanted == 48 then is_ascii_digit b else b == wanted
 
 unfoldable pub has_form : List ℕ → Bool
 has_form text =

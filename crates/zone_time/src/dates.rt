@@ -7,6 +7,8 @@ ghost use Rattle.zone_time.specs.Dates.{IsDay, date_of, date_text, clock_text, t
 use arrayvec::ArrayString;
 use jiff_core::civil::Date;
 
+pub const MINUTES_OF_DAY: i64 = 1440;
+
 /// Appends the date of a day number, where 1970-01-01 is 0, as `2000-01-10`. The year is from 0 to
 /// 9999.
 #[tactic(auto, unfolding(crate::specs::Dates::date_text))]

@@ -5,7 +5,8 @@
 pub enum Label {
     /// Universal time.
     Utc,
-    /// The minutes by which the clock is ahead of universal time.
+    /// The minutes by which the clock is ahead of universal time, or behind where they are
+    /// negative. At most 1560 either way have a text.
     Minutes(i32),
 }
 

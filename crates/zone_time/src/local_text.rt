@@ -4,11 +4,9 @@ ghost use Rattle.std.specs.Prelude.{◌≡◌, ◌+◌, ◌≤◌, ◌++◌, len
 ghost use Rattle.arrayvec.specs.ArrayString.{array_string_len};
 ghost use Rattle.zone_time.specs.Locals.{IsWritten, IsLabel, IsLocal, time_text, label_text, local_text};
 
-use crate::dates::{write_clock, write_date};
+use crate::dates::{MINUTES_OF_DAY, write_clock, write_date};
 use crate::local::{Label, Local};
 use arrayvec::ArrayString;
-
-const MINUTES_OF_DAY: i64 = 1440;
 
 /// Appends a local time with its label, as `2000-01-10 06:00 UTC` or `2000-01-10 01:00 -05:00`, in
 /// 20 or 23 bytes. The year is from 0 to 9999, and a label is at most 1560 minutes.

@@ -5,6 +5,7 @@ ghost use Rattle.std.specs.List.{list_all, zip};
 ghost use Rattle.jiff_core.specs.Calendar.{IsEpochDay, days_from_civil};
 ghost use Rattle.zone_time.specs.Moments.{moment_of, has_form, fits, pair_at, is_date as names_date};
 
+use crate::dates::MINUTES_OF_DAY;
 use jiff_core::civil::{Date, days_in_month};
 
 const FORM: &[u8] = b"0000-00-00T00:00Z";
@@ -78,10 +79,10 @@ fn day_number(year: u32, month: u32, day: u32) -> i64
 
 fn moment(day: i64, hour: u32, minute: u32) -> i64
     requires day { IsEpochDay day }
-    requires hour { hour ≤ 23 }
-    requires minute { minute ≤ 59 }
+    requires hour { hour < 2300 }
+    requires minute { minute < 2300 }
     ensures { result ≡ day *ℤ pos 1440 +ℤ pos (60 * hour + minute) }
 {
-    let start_of_day = day * 1440;
+    let start_of_day = day * MINUTES_OF_DAY;
     start_of_day + (60 * hour + minute) as i64
 }

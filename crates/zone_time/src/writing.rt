@@ -3,10 +3,8 @@
 ghost use Rattle.std.specs.Prelude.{◌≡◌, []};
 ghost use Rattle.zone_time.specs.Moments.{IsMoment, moment_text};
 
-use crate::dates::{write_clock, write_date};
+use crate::dates::{MINUTES_OF_DAY, write_clock, write_date};
 use arrayvec::ArrayString;
-
-const MINUTES_OF_DAY: i64 = 1440;
 
 /// Writes a moment as `2000-01-10T00:00Z`. It is given in minutes since 1970-01-01T00:00Z, and its
 /// year is from 1 to 9999.
