@@ -14,7 +14,9 @@ use event_list::word;
 use harmonics_text::Units;
 use zone_time::{Local, write_local};
 
-/// Writes the line of an event, as `2000-01-10 06:00 UTC      -1.00 feet  Low Tide` with LF.
+/// Writes the line of an event, as `2000-01-10 06:00 UTC      -1.00 feet  Low Tide` with LF. The
+/// event's level is in millionths of the unit, and its name is [`word`]'s. The local year is from 0
+/// to 9999, and a label at most 1560 minutes. It takes no memory.
 #[tactic(auto, unfolding(crate::specs::Lines::event_line_of))]
 pub fn event_line(local: &Local, event: &Event, units: Units, out: &mut ArrayString<96>)
     requires local { IsLocal local.now }
@@ -29,7 +31,8 @@ pub fn event_line(local: &Local, event: &Event, units: Units, out: &mut ArrayStr
 }
 
 /// Writes a level, in millionths of the unit, at a local time, as
-/// `2000-01-10 06:00 UTC      -1.00 feet` without LF.
+/// `2000-01-10 06:00 UTC      -1.00 feet` without LF. The local time is as for [`event_line`]. It
+/// takes no memory.
 #[tactic(auto, unfolding(crate::specs::Lines::height_line_of))]
 pub fn height_line(local: &Local, level: i64, units: Units, out: &mut ArrayString<96>)
     requires local { IsLocal local.now }
