@@ -1,8 +1,8 @@
 -- The worked files, computed.
 use lib.Utf8.{encode}
-use Rattle.std.proofs.Common.{◌≡◌, [], ◌∷◌, codes, negsuc, take, Ok, Err, refl}
+use Rattle.std.proofs.Common.{◌≡◌, [], ◌∷◌, ◌++◌, codes, pos, negsuc, take, Ok, Err, refl}
 use Rattle.std.specs.Prelude.{map}
-use Rattle.harmonics_text.specs.declared.fault.Why.TheVariants.{BadCount, BadMeridian, CutShort, TooFine}
+use Rattle.harmonics_text.specs.declared.fault.Why.TheVariants.{BadCount, BadMeridian, BadName, CutShort, TooFine}
 use Rattle.harmonics_text.specs.Worked.{pier_lines, file_of, pier_book, pier_with, changes}
 use Rattle.harmonics_text.specs.Lines.{cut, numbered, is_kept, kept, tokens, trimmed}
 use Rattle.harmonics_text.specs.Rules.{in_scale, number_of, digits_of, whole_of, from_to, count_of, first_year_of, name_of, new_name_of, constituent_from, constituent_of, named, end_of, same_count_of, values_from, station_name_of, two_digits_of, minutes_of, clock_of, meridian_of, zone_of, place_from, place_of, units_of, datum_of, pair_from, pair_of}
@@ -31,26 +31,50 @@ too_fine_is = refl
 
 -- ---- lines
 
-pub tokens_are : tokens (codes " S2  30 ") ≡ codes "S2" ∷ codes "30" ∷ []
-unfolding tokens digits_of whole_of from_to count_of two_digits_of minutes_of clock_of meridian_of zone_of place_from place_of encode
+pub lines_are : cut (codes "a\n\nb") ≡ codes "a" ∷ [] ∷ codes "b" ∷ []
+unfolding cut numbered is_kept kept tokens trimmed in_scale number_of digits_of whole_of from_to count_of name_of station_name_of two_digits_of minutes_of clock_of meridian_of zone_of place_from place_of pair_from pair_of after_point made_of decimal_of scaled scaled_or_bad read_of encode
+lines_are = refl
+
+pub kept_are : kept (numbered 1 (codes "#a" ∷ codes " #a" ∷ codes " \t\r" ∷ codes "\r\r" ∷ [])) ≡ record { number = 2; text = codes " #a" } ∷ record { number = 4; text = codes "\r\r" } ∷ []
+unfolding cut numbered is_kept kept tokens trimmed in_scale number_of digits_of whole_of from_to count_of name_of station_name_of two_digits_of minutes_of clock_of meridian_of zone_of place_from place_of pair_from pair_of after_point made_of decimal_of scaled scaled_or_bad read_of encode
+kept_are = refl
+
+pub tokens_are : tokens (codes " S2 \t30 ") ≡ codes "S2" ∷ codes "30" ∷ []
+unfolding cut numbered is_kept kept tokens trimmed in_scale number_of digits_of whole_of from_to count_of name_of station_name_of two_digits_of minutes_of clock_of meridian_of zone_of place_from place_of pair_from pair_of after_point made_of decimal_of scaled scaled_or_bad read_of encode
 tokens_are = refl
 
 pub count_is : count_of (codes "12 ") ≡ Ok 12
-unfolding tokens digits_of whole_of from_to count_of two_digits_of minutes_of clock_of meridian_of zone_of place_from place_of encode
+unfolding cut numbered is_kept kept tokens trimmed in_scale number_of digits_of whole_of from_to count_of name_of station_name_of two_digits_of minutes_of clock_of meridian_of zone_of place_from place_of pair_from pair_of after_point made_of decimal_of scaled scaled_or_bad read_of encode
 count_is = refl
 
 pub two_counts_are : count_of (codes "1 2") ≡ Err BadCount
-unfolding tokens digits_of whole_of from_to count_of two_digits_of minutes_of clock_of meridian_of zone_of place_from place_of encode
+unfolding cut numbered is_kept kept tokens trimmed in_scale number_of digits_of whole_of from_to count_of name_of station_name_of two_digits_of minutes_of clock_of meridian_of zone_of place_from place_of pair_from pair_of after_point made_of decimal_of scaled scaled_or_bad read_of encode
 two_counts_are = refl
 
 pub no_count_is : count_of (codes "0") ≡ Err BadCount
-unfolding tokens digits_of whole_of from_to count_of two_digits_of minutes_of clock_of meridian_of zone_of place_from place_of encode
+unfolding cut numbered is_kept kept tokens trimmed in_scale number_of digits_of whole_of from_to count_of name_of station_name_of two_digits_of minutes_of clock_of meridian_of zone_of place_from place_of pair_from pair_of after_point made_of decimal_of scaled scaled_or_bad read_of encode
 no_count_is = refl
 
+pub latin_is : station_name_of (codes " \t~" ++ 128 ∷ 159 ∷ 255 ∷ codes " ") ≡ Ok (126 ∷ 194 ∷ 128 ∷ 194 ∷ 159 ∷ 195 ∷ 191 ∷ [])
+unfolding cut numbered is_kept kept tokens trimmed in_scale number_of digits_of whole_of from_to count_of name_of station_name_of two_digits_of minutes_of clock_of meridian_of zone_of place_from place_of pair_from pair_of after_point made_of decimal_of scaled scaled_or_bad read_of encode
+latin_is = refl
+
+pub no_name_is : station_name_of (127 ∷ []) ≡ Err BadName
+unfolding cut numbered is_kept kept tokens trimmed in_scale number_of digits_of whole_of from_to count_of name_of station_name_of two_digits_of minutes_of clock_of meridian_of zone_of place_from place_of pair_from pair_of after_point made_of decimal_of scaled scaled_or_bad read_of encode
+no_name_is = refl
+
 pub west_is : place_of (codes "-5:30 :America/Caracas") ≡ Ok (record { meridian = negsuc 329; zone = codes "America/Caracas" })
-unfolding tokens digits_of whole_of from_to count_of two_digits_of minutes_of clock_of meridian_of zone_of place_from place_of encode
+unfolding cut numbered is_kept kept tokens trimmed in_scale number_of digits_of whole_of from_to count_of name_of station_name_of two_digits_of minutes_of clock_of meridian_of zone_of place_from place_of pair_from pair_of after_point made_of decimal_of scaled scaled_or_bad read_of encode
 west_is = refl
 
-pub no_minute_is : place_of (codes "0:60 :UTC") ≡ Err BadMeridian
-unfolding tokens digits_of whole_of from_to count_of two_digits_of minutes_of clock_of meridian_of zone_of place_from place_of encode
+pub half_hour_west_is : place_of (codes "-0:30 ::") ≡ Ok (record { meridian = negsuc 29; zone = codes ":" })
+unfolding cut numbered is_kept kept tokens trimmed in_scale number_of digits_of whole_of from_to count_of name_of station_name_of two_digits_of minutes_of clock_of meridian_of zone_of place_from place_of pair_from pair_of after_point made_of decimal_of scaled scaled_or_bad read_of encode
+half_hour_west_is = refl
+
+pub no_minute_is : place_of (codes "0:5") ≡ Err BadMeridian
+unfolding cut numbered is_kept kept tokens trimmed in_scale number_of digits_of whole_of from_to count_of name_of station_name_of two_digits_of minutes_of clock_of meridian_of zone_of place_from place_of pair_from pair_of after_point made_of decimal_of scaled scaled_or_bad read_of encode
 no_minute_is = refl
+
+pub absent_is : pair_of (codes "S2") (codes "x 1 2") ≡ Ok (pos 0, pos 0)
+unfolding cut numbered is_kept kept tokens trimmed in_scale number_of digits_of whole_of from_to count_of name_of station_name_of two_digits_of minutes_of clock_of meridian_of zone_of place_from place_of pair_from pair_of after_point made_of decimal_of scaled scaled_or_bad read_of encode
+absent_is = refl

@@ -1,4 +1,5 @@
--- What holds of a book that is read line by line, at each line (this project).
+-- The inner account of reading line by line: what holds of a draft, and the draft after one more line. It is proved to give
+-- the book of Reading.antt, and no public clause cites it (this project).
 use Rattle.std.specs.Prelude.{[], ◌∷◌, ◌++◌, ◌-◌, ◌==◌, nat_lt, nat_le, if◌then◌else◌, Option, Some, None, Result, Ok, Err, slice_index_or, ◌≡◌, ℕ, ℤ, pos, negsuc, ◌+◌, ◌*◌, ◌<◌, ◌≤◌, List, length, All}
 use Rattle.harmonics_text.specs.declared.book.Constituent.{Constituent}
 use Rattle.harmonics_text.specs.declared.book.Station.{Station}

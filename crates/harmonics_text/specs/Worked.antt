@@ -42,16 +42,32 @@ pier_with c = file_of (slice_set pier_lines (c.line - 1) c.text)
 abbrev pub changes : List Change
 changes =
     change 2 (codes "0") 2 BadCount
+    ∷ change 2 (codes "501") 2 BadCount
+    ∷ change 3 (codes "x") 3 BadName
     ∷ change 3 (codes "x 30") 3 BadName
     ∷ change 3 (codes "S2 30,0") 3 BadNumber
     ∷ change 3 (codes "S2 360.0000001") 3 OutOfRange
-    ∷ change 3 (codes "S2 30.00000001") 3 TooFine
+    ∷ change 3 (codes "S2 -0.0000001") 3 OutOfRange
+    ∷ change 3 (codes "S2 361.00000001") 3 TooFine
     ∷ change 4 (codes "1") 4 OutOfRange
+    ∷ change 4 (codes "8801") 4 OutOfRange
     ∷ change 7 (codes "0 0 0 0") 7 BadNumber
+    ∷ change 7 (codes "0 0 721 0") 7 OutOfRange
     ∷ change 7 (codes "0 0") 8 BadNumber
+    ∷ change 8 (codes "*END* *END*") 8 NoEnd
     ∷ change 9 (codes "2") 9 YearsDiffer
+    ∷ change 9 (codes "501") 9 BadCount
+    ∷ change 10 (codes "M2") 10 WrongConstituent
+    ∷ change 11 (codes "1 1 10.000001") 11 OutOfRange
     ∷ change 12 (codes "*end*") 12 NoEnd
+    ∷ change 13 (codes "Pier\r\r") 13 BadName
     ∷ change 14 (codes "0:60 :UTC") 14 BadMeridian
+    ∷ change 14 (codes "16:00") 14 BadMeridian
     ∷ change 15 (codes "0 fathoms") 15 BadUnits
+    ∷ change 15 (codes "10000.000001 fathoms") 15 OutOfRange
+    ∷ change 15 (codes "y") 15 BadUnits
     ∷ change 16 (codes "M2 1 0") 16 WrongConstituent
+    ∷ change 16 (codes "M2 1") 16 WrongConstituent
+    ∷ change 16 (codes "S2 0.0000001 721") 16 TooFine
+    ∷ change 16 (codes "x 1 721") 16 OutOfRange
     ∷ []

@@ -6,6 +6,7 @@ use decimal_text::{Numbers, Text};
 /// A tidal constituent, as M2.
 #[derive(Debug, Drop)]
 pub struct Constituent {
+    /// At most 32 characters, none of them white space.
     pub name: Text,
     /// In ten-millionths of a degree per hour, from 0 to 3,600,000,000.
     pub speed: i64,
@@ -24,6 +25,7 @@ pub enum Units {
 /// A reference station and its harmonic constants.
 #[derive(Debug, Drop)]
 pub struct Station {
+    /// From 1 to 200 characters.
     pub name: Text,
     /// In minutes east of Greenwich, from -959 to 959.
     pub meridian: i32,

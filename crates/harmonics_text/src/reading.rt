@@ -27,8 +27,8 @@ fn at_line(line: u32, fault: LineFault) -> BookFault
 /// Comments begin with `#`, lines of white space are passed over, and names are ISO 8859-1. Units
 /// and ranges of the numbers are those of [`Book`]'s fields.
 ///
-/// The bytes are gone over once, line by line. `At` names the first line that breaks a rule, with
-/// the first reason; only want of memory may come in its place.
+/// The bytes, at most 400,000,000, are gone over once, line by line. `At` names the first line that
+/// breaks a rule, with the first reason; only want of memory may come in its place.
 pub fn read_book(alloc: Global, bytes: &[u8]) -> Result<Book, BookFault>
     requires { length bytes.now ≤ 400000000 }
     ensures exact { GivesBook result (book_of bytes.now) }

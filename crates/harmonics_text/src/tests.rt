@@ -1,4 +1,5 @@
 use super::*;
+use decimal_text::Text;
 use std::alloc::{AllocError, Global};
 use std::test::Fail;
 
@@ -77,34 +78,49 @@ fn a_file_as_people_write_it(rt: HostRuntime) -> Result<(), Fail> {
 }
 
 /// A line, its text, and the line and the number of the fault.
-const CHANGES: [(usize, &str, u32, u32); 28] = [
-    (2, "0", 2, 1),
-    (3, "x 30", 3, 2),
-    (3, "S2 30,0", 3, 3),
-    (3, "S2 360.0000001", 3, 5),
+const CHANGES: [(usize, &str, u32, u32); 43] = [
+    (2, "2", 4, 3),
+    (2, "0000000001", 2, 1),
+    (2, "000000001", 0, 0),
     (3, "S2 30.00000001", 3, 4),
     (3, "S2 30.00000000", 0, 0),
     (3, "S2 +30", 0, 0),
-    (4, "1", 4, 5),
-    (7, "0 0 0 0", 7, 3),
-    (7, "0 0", 8, 3),
+    (3, "S2 360", 0, 0),
+    (3, "S2 0000000000000000030", 3, 3),
+    (3, "*END* 30", 3, 2),
+    (4, "8800", 0, 0),
+    (4, "1999.", 4, 3),
     (7, "0 0\n0", 0, 0),
+    (7, "0\n\n# c\n0\t\n 0", 0, 0),
+    (7, "-720 720 0", 0, 0),
     (7, "0 0 y 0 0", 7, 3),
-    (9, "2", 9, 6),
-    (10, "M2", 10, 7),
+    (7, "0 0 0.00000001 0", 7, 4),
+    (8, " *END*\t", 0, 0),
+    (9, "500", 9, 6),
+    (11, "10 0 1", 0, 0),
+    (11, "1.0000001 1 1", 11, 4),
     (12, "*end*", 12, 8),
     (13, "#", 15, 9),
     (13, "\t", 15, 9),
-    (14, "0:60 :UTC", 14, 9),
+    (13, " # Pier ~\t", 0, 0),
+    (13, "a\tb", 13, 2),
+    (13, "Pier\r ", 13, 2),
     (14, "-15:59", 0, 0),
     (14, "+0:30 UTC", 0, 0),
-    (15, "0 fathoms", 15, 10),
-    (15, "0 knots^2", 0, 0),
+    (14, "-0:30 ::", 0, 0),
+    (14, ":30", 14, 9),
+    (14, "015:00", 14, 9),
+    (14, "0:00 a b", 14, 9),
+    (15, "-10000 knots^2", 0, 0),
+    (15, "10000 knots", 0, 0),
+    (15, "-10000.000001 meters", 15, 5),
     (15, "0 feet 1", 15, 10),
-    (16, "M2 1 0", 16, 7),
+    (16, "S2 -10000 -720", 0, 0),
     (16, "x 1 0", 0, 0),
     (16, "x 1 y", 16, 3),
+    (16, "X 0 0", 16, 7),
     (16, "S2 1", 16, 3),
+    (16, "S2 1 0 0", 16, 3),
     (16, "# S2 1 0", 17, 11),
 ];
 
@@ -121,30 +137,61 @@ fn changes_of_a_line(rt: HostRuntime) -> Result<(), Fail> {
     Ok(())
 }
 
+/// A line, what stands before and behind so many letters there, and the line and the number of the
+/// fault.
+const LETTERS: [(usize, &str, u32, &str, u32, u32); 10] = [
+    (3, "", 32, "", 3, 3),
+    (3, "", 33, "", 3, 2),
+    (13, "", 200, "", 0, 0),
+    (13, "", 201, "", 13, 2),
+    (13, "", 4096, "", 13, 2),
+    (13, "", 4096, "\r", 13, 13),
+    (13, " ", 4096, "", 13, 13),
+    (13, "#", 1_000_000, "\nPier", 0, 0),
+    (14, "0:00 :", 99, "", 0, 0),
+    (14, "0:00 :", 100, "", 14, 9),
+];
+
 #[test]
 fn long_lines(rt: HostRuntime) -> Result<(), Fail> {
-    let mut name = String::new(rt.alloc());
-    for _ in 0..4097u32 {
-        name.push_str("a")?;
+    for (line, before, count, behind, at, number) in &LETTERS {
+        let mut text = String::from_str(rt.alloc(), before)?;
+        for _ in 0..*count {
+            text.push_str("a")?;
+        }
+        text.push_str(behind)?;
+        let file = changed(rt.alloc(), *line, text.as_str())?;
+        assert_eq!(rt;
+            fault(rt.alloc(), file.as_bytes()),
+            (*at, *number),
+            "line {line}: {count} letters"
+        );
     }
-    assert_eq!(rt;
-        fault(
-            rt.alloc(),
-            changed(rt.alloc(), 13, name.as_str())?.as_bytes()
-        ),
-        (13, 13)
-    );
-    let mut comment = String::from_str(rt.alloc(), "*END*\n#")?;
-    for _ in 0..20_000u32 {
-        comment.push_str(" a comment that goes on and on as it likes and is not read")?;
+    Ok(())
+}
+
+#[test]
+fn many_stations(rt: HostRuntime) -> Result<(), Fail> {
+    let mut file = String::from_str(rt.alloc(), PIER)?;
+    for _ in 1..20_000u32 {
+        file.push_str("Pier\n0:00 :UTC\n0 feet\nS2 1 0\n")?;
     }
-    assert_eq!(rt;
-        fault(
-            rt.alloc(),
-            changed(rt.alloc(), 12, comment.as_str())?.as_bytes()
-        ),
-        (0, 0)
-    );
+    assert_eq!(rt; fault(rt.alloc(), file.as_bytes()), (0, 0));
+    file.push_str("Pier\n")?;
+    assert_eq!(rt; fault(rt.alloc(), file.as_bytes()), (80_013, 12));
+    Ok(())
+}
+
+#[test]
+fn lists_of_vectors(rt: HostRuntime) -> Result<(), Fail> {
+    let alloc = rt.alloc();
+    let mut items = Vec::new(alloc);
+    items.push(Constituent {
+        name: Text::from_str(alloc, "M2")?,
+        speed: 289_841_042,
+    })?;
+    assert_eq!(rt; Constituents::from_vec(items).as_slice().len(), 1);
+    assert!(rt; Stations::from_vec(Vec::new(alloc)).as_slice().is_empty());
     Ok(())
 }
 
@@ -165,4 +212,6 @@ fn reasons_in_words(rt: HostRuntime) {
     assert_eq!(rt; Why::BadCount.text(), "bad count");
     assert_eq!(rt; Why::LineTooLong.text(), "line too long");
     assert_eq!(rt; Why::LineTooLong.number(), 13);
+    worked_lines();
+    worked_files();
 }
