@@ -17,7 +17,8 @@ use std::alloc::Global;
 use tide_edge::{Clock, Files, Sink, write_all};
 
 /// Answers the words from the files: writes the whole answer to `out`, or one line that says why
-/// there is none to `err`. A failure to write to `err` changes nothing of the status.
+/// there is none to `err`. A failure to write to `err` changes nothing of the status. Nothing is
+/// tried again after a failure, no file is opened for words that ask nothing, and no clock is asked.
 pub fn run<F: Files, O: Sink, E: Sink, K: Clock>(
     alloc: Global,
     words: &Words,
