@@ -6,6 +6,7 @@
 #![tactic(auto)]
 
 mod bytes;
+mod digit;
 mod fault;
 mod laws;
 mod numbers;
@@ -18,6 +19,7 @@ mod words;
 mod writing;
 
 pub use bytes::Bytes;
+pub use digit::push_digit;
 pub use fault::DecimalFault;
 pub use laws::{reads_its_fraction, worked_readings, worked_roundings, worked_writings};
 pub use numbers::Numbers;

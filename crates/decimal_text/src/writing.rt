@@ -5,6 +5,7 @@ ghost use Rattle.arrayvec.specs.ArrayString.{array_string_len};
 ghost use Rattle.decimal_text.specs.Decimal.{read_of};
 ghost use Rattle.decimal_text.specs.Writing.{write_of, whole_of, minus_of, fraction_of, last_digits};
 
+use crate::digit::push_digit;
 use arrayvec::ArrayString;
 use itoa::Buffer;
 
@@ -54,15 +55,6 @@ fn push_last_digits(size: u64, places: u32, out: &mut ArrayString<24>)
     ensures { out.new.bytes ≡ out.old.bytes ++ last_digits places size }
 {
     for place in (0..places).rev() {
-        push_digit(size / 10u64.pow(place) % 10, out);
+        push_digit((size / 10u64.pow(place) % 10) as u32, out);
     }
-}
-
-/// Appends one digit.
-fn push_digit(digit: u64, out: &mut ArrayString<24>)
-    requires one { digit < 10 }
-    requires room { length out.old.bytes < 24 }
-    ensures { out.new.bytes ≡ out.old.bytes ++ (48 + digit) ∷ [] }
-{
-    out.push(char::from(b'0' + digit as u8));
 }

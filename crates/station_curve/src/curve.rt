@@ -65,8 +65,7 @@ impl StationCurve {
         ensures predicts { IfSome (slice_get book.now.stations station) (λ s.
             IfOk result (λ tide. Predicts book.now s tide)) }
     {
-        let place = &book.stations.as_slice()[station as usize];
-        StationCurve::of_station(alloc, book, place)
+        StationCurve::of_station(alloc, book, &book.stations.as_slice()[station as usize])
     }
 
     /// The curve of a station.

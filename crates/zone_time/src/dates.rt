@@ -1,10 +1,11 @@
 //! Dates and times of day as text.
 
-ghost use Rattle.std.specs.Prelude.{◌≡◌, ◌+◌, ◌<◌, ◌≤◌, ◌++◌, ◌∷◌, [], pos, ◌+ℤ◌};
+ghost use Rattle.std.specs.Prelude.{◌≡◌, ◌+◌, ◌≤◌, ◌++◌, pos, ◌+ℤ◌};
 ghost use Rattle.arrayvec.specs.ArrayString.{array_string_len};
 ghost use Rattle.zone_time.specs.Dates.{IsDay, date_of, date_text, clock_text, two_digits};
 
 use arrayvec::ArrayString;
+use decimal_text::push_digit;
 use jiff_core::civil::Date;
 
 pub const MINUTES_OF_DAY: i64 = 1440;
@@ -66,13 +67,4 @@ fn push_pair<const N: usize>(n: u32, out: &mut ArrayString<N>)
 {
     push_digit(n / 10 % 10, out);
     push_digit(n % 10, out);
-}
-
-fn push_digit<const N: usize>(digit: u32, out: &mut ArrayString<N>)
-    requires digit { digit < 10 }
-    requires room { array_string_len out.old + 1 ≤ N }
-    ensures bytes { out.new.bytes ≡ out.old.bytes ++ (48 + digit) ∷ [] }
-    ensures len { array_string_len out.new ≡ array_string_len out.old + 1 }
-{
-    out.push((b'0' + digit as u8) as char);
 }
