@@ -8,6 +8,7 @@
 mod event;
 mod kind;
 mod laws;
+mod passing;
 mod worked;
 
 pub use event::Event;
@@ -16,6 +17,7 @@ pub use laws::{
     events_pass_zero, plain_list_of_one_minute, plain_list_of_quiet_minutes,
     plain_list_of_two_spans,
 };
+pub use passing::kind_after;
 pub use worked::worked_rows;
 
 #[cfg(test)]

@@ -8,3 +8,9 @@ fn laws_and_rows_stand(_rt: HostRuntime) {
     events_pass_zero();
     worked_rows();
 }
+
+#[test]
+fn kinds_go_by_the_side(rt: HostRuntime) {
+    assert_eq!(rt; kind_after(true, Kind::Low, Kind::High), Kind::High);
+    assert_eq!(rt; kind_after(false, Kind::Low, Kind::High), Kind::Low);
+}

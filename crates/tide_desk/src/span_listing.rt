@@ -9,7 +9,7 @@ ghost use Rattle.tide_desk.specs.Listings.{turn_track, line_of_event, listing_of
 ghost use Rattle.year_blend.specs.Places.{AreYears, InDomain};
 
 use arrayvec::ArrayString;
-use curve_law::{Event, Kind};
+use curve_law::{Event, Kind, kind_after};
 use decimal_text::{Bytes, Text};
 use harmonics_text::Units;
 use listing::event_line;
@@ -130,7 +130,7 @@ fn turn(curve: &StationCurve, minute: i64, rising: bool) -> Event
 {
     Event {
         minute,
-        kind: if rising { Kind::High } else { Kind::Low },
+        kind: kind_after(rising, Kind::Low, Kind::High),
         level: curve.millionths(minute),
     }
 }
