@@ -14,7 +14,7 @@ use Rattle.std.proofs.lemmas.Grind.{pow_more}
 use Rattle.decimal_text.specs.declared.fault.DecimalFault.TheVariants.{BadForm, TooLong, TooFine}
 use Rattle.decimal_text.specs.declared.steps.Steps.{Steps}
 use Rattle.decimal_text.specs.Decimal.{Decimal, after_point, made_of, scaled, scaled_or_bad, signed, decimal_of, read_of, IsScaled, ReadsItsFraction, TooFineIsNoFraction}
-use Rattle.decimal_text.specs.Steps.{Stands}
+use Rattle.decimal_text.specs.Workings.Steps.{Stands}
 use Rattle.decimal_text.proofs.StepsLemmas.{ten_up}
 
 -- the point

@@ -3,7 +3,7 @@ use Rattle.std.proofs.Common.{◌≡◌, ℕ, ◌+◌, ◌*◌, ◌-◌, ◌^◌
 use Rattle.std.proofs.Math.Nat.{one-le-pow, pow-le-pow_right}
 use Rattle.std.proofs.lemmas.Nat.{mul-le}
 use Rattle.std.proofs.lemmas.Grind.{pow_more}
-use Rattle.decimal_text.specs.Steps.{Stands}
+use Rattle.decimal_text.specs.Workings.Steps.{Stands}
 use Rattle.decimal_text.specs.declared.steps.Steps.{Steps}
 
 pub ten_up : (k : ℕ) → 1 ≤ 10 ^ k

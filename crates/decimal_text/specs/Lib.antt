@@ -1,4 +1,5 @@
 pub mod Decimal
+pub mod Expected
 pub mod Rounding
-pub mod Steps
+pub mod Workings
 pub mod Writing

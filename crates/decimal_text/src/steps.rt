@@ -16,7 +16,7 @@ pub struct Steps {
 }
 
 impl Steps {
-    ghost use Rattle.decimal_text.specs.Steps.{Stands};
+    ghost use Rattle.decimal_text.specs.Workings.Steps.{Stands};
 
     /// One digit more.
     fn after(self, digit: u8) -> Steps

@@ -2,7 +2,7 @@ use Rattle.std.proofs.Common.{◌≡◌, true, take}
 use Rattle.std.specs.List.{list_all}
 use Rattle.std.specs.Char.{is_ascii_digit}
 use Rattle.std.specs.Str.Parse.{digits_value_after}
-use Rattle.decimal_text.specs.Steps.{Stands}
+use Rattle.decimal_text.specs.Workings.Steps.{Stands}
 use Rattle.decimal_text.proofs.steps.Steps.over.Given as goal
 
 abbrev pub invariant-loop-byte : goal.invariant-loop-byte
