@@ -4,11 +4,11 @@ use Rattle.std.specs.Result.{IsErrAnd}
 use Rattle.tide_edge.specs.Excuses.{Source, is_outside, is_outside_fault, Excuses, Meets}
 
 -- a result that is an excused fault meets what is expected
-pub meets_by_fault : {T E : Type 0} (source : E → Source) (steady : Bool) (rose : Type 0) (expected result : Result T E) (fault : E)
-    → IsErrAnd result (λ e. e ≡ fault) → Excuses (source fault) steady rose expected fault → Meets source steady rose expected result
-meets_by_fault source steady rose expected (Ok value) fault is excused = absurd is
-meets_by_fault {T} {E} source steady rose expected (Err e) fault is excused =
-    let P : E → Type 0 = λ x. Excuses (source x) steady rose expected x in subst P (sym is) excused
+pub meets_by_fault : {T E : Type 0} (source : E → Source) (steady : Bool) (expected result : Result T E) (fault : E)
+    → IsErrAnd result (λ e. e ≡ fault) → Excuses (source fault) steady expected fault → Meets source steady expected result
+meets_by_fault source steady expected (Ok value) fault is excused = absurd is
+meets_by_fault {T} {E} source steady expected (Err e) fault is excused =
+    let P : E → Type 0 = λ x. Excuses (source x) steady expected x in subst P (sym is) excused
 
 -- whether a result that is a fault is one of the outside
 pub outside_by_fault : {T E : Type 0} (source : E → Source) (result : Result T E) (fault : E) → IsErrAnd result (λ e. e ≡ fault)

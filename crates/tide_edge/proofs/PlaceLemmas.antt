@@ -7,7 +7,7 @@ use Rattle.std.specs.Option.{option_map}
 use Rattle.tide_edge.specs.declared.named_file.NamedFile.{NamedFile}
 use Rattle.std.specs.Str.{bytes_eq}
 use Rattle.tide_edge.specs.Memory.{folder_of}
-use Rattle.tide_edge.specs.Places.{bytes_at}
+use Rattle.tide_edge.specs.Workings.OpenFile.{bytes_at}
 
 -- the bytes at a place are those of the file that stands there
 pub bytes_at-slice_get : (files : List NamedFile) (n : ℕ)

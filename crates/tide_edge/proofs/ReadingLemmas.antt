@@ -1,5 +1,5 @@
 -- What the bytes read so far say of the whole file.
-use Rattle.std.proofs.Common.{Bool, Option, Result, inl, None, ◌≡◌, ℕ, ◌+◌, ◌<◌, ◌≤◌, List, [], ◌++◌, length, take, arith, Some, Ok, Err, append_assoc, ◌∙◌, ap, sym, refl}
+use Rattle.std.proofs.Common.{Bool, Option, Result, None, ◌≡◌, ℕ, ◌+◌, ◌<◌, ◌≤◌, List, [], ◌++◌, length, take, arith, Some, Ok, Err, append_assoc, ◌∙◌, ap, sym, refl}
 use Rattle.std.specs.Bool.{IsTrue}
 use Rattle.std.proofs.lemmas.Grind.{common_steps}
 use Rattle.tide_edge.specs.declared.read_all_fault.ReadAllFault.{ReadAllFault}
@@ -26,11 +26,11 @@ read_on all bytes piece items before rest is next more =
 
 -- where no file was opened
 pub meets_unopened : (limit : ℕ) (file : Option (List ℕ)) (steady : Bool) → (IsTrue steady → file ≡ None)
-    → Meets {T = List ℕ} source_of steady ⊥ (whole limit file) (Err Failed)
-meets_unopened limit file steady absent = λ s. inl (rw (absent s) refl)
+    → Meets {T = List ℕ} source_of steady (whole limit file) (Err Failed)
+meets_unopened limit file steady absent = λ s. rw (absent s) refl
 
 -- what reading the rest gave, where the rest is the whole file
 pub meets_opened : (limit : ℕ) (file : Option (List ℕ)) (rest : List ℕ) (before now : Bool) (result : Result (List ℕ) ReadAllFault)
-    → file ≡ Some rest → now ≡ before → Meets source_of now ⊥ (whole limit (Some rest)) result
-    → Meets source_of before ⊥ (whole limit file) result
+    → file ≡ Some rest → now ≡ before → Meets source_of now (whole limit (Some rest)) result
+    → Meets source_of before (whole limit file) result
 meets_opened limit file rest before now result is same meets = rw (is, ← same) meets

@@ -3,5 +3,5 @@ pub mod Excuses
 pub mod Calls
 pub mod Clocks
 pub mod Memory
-pub mod Places
+pub mod Workings
 pub mod Whole

@@ -5,7 +5,7 @@ ghost use Rattle.std.specs.Option.{option_map};
 ghost use Rattle.std.specs.Str.{bytes_eq};
 ghost use Rattle.tide_edge.specs.Faults.{faults_after};
 ghost use Rattle.tide_edge.specs.Memory.{folder_of};
-ghost use Rattle.tide_edge.specs.Places.{bytes_at, rest_of};
+ghost use Rattle.tide_edge.specs.Workings.OpenFile.{bytes_at, rest_of};
 
 use crate::calls::Calls;
 use crate::failed::Failed;
@@ -29,7 +29,7 @@ impl Model for MemoryFiles {
 
     ghost Value = { HeldFiles };
 
-    ghost use Rattle.tide_edge.specs.Places.{bytes_at, rest_of};
+    ghost use Rattle.tide_edge.specs.Workings.OpenFile.{bytes_at, rest_of};
 
     ghost view = { λ m. record { files = m.files.items; rest = rest_of m.files.items m.opened m.at; calls = m.calls } };
 }

@@ -24,7 +24,7 @@ pub fn read_all<F: Files>(
     limit: u64,
 ) -> Result<Bytes, ReadAllFault>
     ensures whole { F.tells files.old
-        → Meets source_of (F.steady files.old) ⊥ (whole limit (F.folder files.old name.now)) result }
+        → Meets source_of (F.steady files.old) (whole limit (F.folder files.old name.now)) result }
     ensures within { IfOk result (λ bytes. length bytes ≤ limit) }
     ensures counts { F.faults files.new ≡ faults_after (is_outside_fault source_of result) (F.faults files.old) }
     ensures failed { IsErrOf result ReadAllFault.Failed → Rose (F.faults files.old) (F.faults files.new) }
@@ -48,7 +48,7 @@ fn read_rest<F: Files>(
 ) -> Result<Bytes, ReadAllFault>
     requires { 0 < length room.old }
     ensures whole { F.tells files.old
-        → Meets source_of (F.steady files.old) ⊥ (whole limit (Some (F.rest files.old))) result }
+        → Meets source_of (F.steady files.old) (whole limit (Some (F.rest files.old))) result }
     ensures within { IfOk result (λ bytes. length bytes ≤ limit) }
     ensures counts { F.faults files.new ≡ faults_after (is_outside_fault source_of result) (F.faults files.old) }
     ensures failed { IsErrOf result ReadAllFault.Failed → Rose (F.faults files.old) (F.faults files.new) }

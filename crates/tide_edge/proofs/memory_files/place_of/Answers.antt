@@ -1,6 +1,6 @@
 use Rattle.std.proofs.Common.{◌∙◌, ap, sym}
 use Rattle.std.specs.Option.{option_map}
-use Rattle.tide_edge.specs.Places.{bytes_at}
+use Rattle.tide_edge.specs.Workings.OpenFile.{bytes_at}
 use Rattle.tide_edge.proofs.PlaceLemmas.{folder_at_place}
 use Rattle.tide_edge.proofs.memory_files.place_of.Goals as goal
 

@@ -9,7 +9,6 @@ returns-in_err-room-clause-whole g c =
     λ t. meets_by_fault
     source_of
     (g.F.Files.steady c.args.files.now)
-    ⊥
     (whole c.args.limit (g.F.Files.folder c.args.files.now c.args.name.now))
     c.from_residual.result
     NoMemory

@@ -10,7 +10,6 @@ returns-in_err-count-clause-whole g c =
     λ t. meets_by_fault
     source_of
     (g.F.Files.steady c.args.files.now)
-    ⊥
     (whole c.args.limit (Some (g.F.Files.rest c.args.files.now)))
     c.from_residual.result
     Failed
@@ -95,7 +94,6 @@ returns-in_err-extend_from_slice-clause-whole g c =
     λ t. meets_by_fault
     source_of
     (g.F.Files.steady c.args.files.now)
-    ⊥
     (whole c.args.limit (Some (g.F.Files.rest c.args.files.now)))
     c.from_residual-in_err-extend_from_slice.result
     NoMemory
