@@ -6,7 +6,7 @@ use Rattle.std.proofs.Math.Seq.{drop-cons}
 use Rattle.std.proofs.lemmas.Bool.{lt-ltb}
 use Rattle.harmonics_text.specs.declared.book.Book.{Book}
 use Rattle.harmonics_text.specs.declared.fault.Why.{Why}
-use Rattle.harmonics_text.specs.declared.fault.Why.TheVariants.{CutShort, LineTooLong}
+use Rattle.harmonics_text.specs.declared.fault.Why.TheVariants.{LineTooLong}
 use Rattle.harmonics_text.specs.declared.scale.Scale.{Scale}
 use Rattle.harmonics_text.specs.declared.scale.Scale.TheVariants.{Angle, Factor}
 use Rattle.harmonics_text.specs.declared.heading.Heading.{Heading}
@@ -16,60 +16,36 @@ use Rattle.harmonics_text.specs.declared.record.Record.TheVariants as records
 use Rattle.harmonics_text.specs.declared.draft.Draft.{Draft}
 use Rattle.harmonics_text.specs.declared.draft.Draft.TheVariants as drafts
 use Rattle.harmonics_text.specs.Lines.{Line, cut, numbered, kept, is_kept, is_comment, is_too_long, is_blank, without_cr}
-use Rattle.harmonics_text.specs.Rules.{◌>>=◌}
-use Rattle.harmonics_text.specs.Reading.{At, constituents, values, table, stations, cut_short, book_of, FailsBook}
-use Rattle.harmonics_text.specs.declared.fault.LineFault.{LineFault}
-use Rattle.harmonics_text.specs.declared.fault.LineFault.TheVariants.{NoMemory, Bad}
-use Rattle.harmonics_text.specs.Drafts.{IsDraft, Fails, placed, after_text, after_line, book_in, book_at}
-use Rattle.harmonics_text.proofs.Resume.{Left, resume_stations, resume_second_end, resume_years_again, resume_first_end, resume_years, resume_first_year, resume_constituents, resume_count, rest_of_table, resume_angles, resume_factors, station_then, constants_then, place_then, name_then, resume_record, resume, resume_is_book}
+use Rattle.decimal_text.specs.Expected.{◌>>=◌}
+use Rattle.harmonics_text.specs.Reading.{At, constituents, values, table, stations, cut_short, book_of}
+use Rattle.harmonics_text.specs.Workings.Drafts.{IsDraft, after_text, after_line, book_in, book_at}
+use Rattle.harmonics_text.specs.Workings.Readers.{on_line, finished}
+use Rattle.harmonics_text.proofs.Resume.{Left, resume_stations, resume_second_end, resume_years_again, resume_first_end, resume_years, resume_first_year, resume_constituents, resume_count, rest_of_table, resume_angles, resume_factors, station_then, constants_then, local_time_then, name_then, resume_record, resume, resume_is_book}
 use Rattle.harmonics_text.proofs.Steps.{follow, step, unnamed, at_pair}
 
-unfoldable pub answer : Draft → ℕ → List (List ℕ) → Result Book At
-answer d n texts = cut_short (n + length texts) (resume d (kept (numbered n texts)))
+-- ---- one line more
 
-pub answer_is_book_of : (bytes : List ℕ) → answer drafts.Count 1 (cut bytes) ≡ book_of bytes
-unfolding answer book_of
-answer_is_book_of bytes = ap (cut_short (1 + length (cut bytes))) (resume_is_book (kept (numbered 1 (cut bytes))))
-
--- the draft after a line goes on, or its fault is the answer
-abbrev pub answer_after : ℕ → List (List ℕ) → Result Draft Why → Result Book At
-answer_after n texts (Ok d) = answer d (n + 1) texts
-answer_after n texts (Err why) = Err (record { line = n; why = why })
-
-followed : (n : ℕ) (texts : List (List ℕ)) (r : Result Draft Why) → cut_short (n + 1 + length texts) (follow n (kept (numbered (n + 1) texts)) r) ≡ answer_after n texts r
-unfolding answer
-followed n texts (Ok d) = refl
-followed n texts (Err why) = refl
-
-pub answer_line : (d : Draft) (n : ℕ) (text : List ℕ) (texts : List (List ℕ)) → IsDraft d → answer d n (text ∷ texts) ≡ answer_after n texts (after_line d text)
-unfolding answer numbered kept is_kept after_line
-answer_line d n text texts h =
+pub resume_line : (d : Draft) (n : ℕ) (text : List ℕ) (texts : List (List ℕ)) → IsDraft d → resume d (kept (numbered n (text ∷ texts))) ≡ follow n (kept (numbered (n + 1) texts)) (after_line d text)
+unfolding numbered kept is_kept after_line
+resume_line d n text texts h =
     let l : Line = record { number = n; text = text } in
     let ls = kept (numbered (n + 1) texts) in
-    let end : n + suc (length texts) ≡ n + 1 + length texts = omega arith in
-    let taken = step d n text ls h in
-    let line_is : cut_short (n + 1 + length texts) (resume d (l ∷ ls)) ≡ answer_after n texts (cond (is_too_long text) (Err LineTooLong) (after_text d (without_cr text))) =
-    ap (cut_short (n + 1 + length texts)) taken ∙ followed n texts (cond (is_too_long text) (Err LineTooLong) (after_text d (without_cr text))) in
-    let of_blank : (o b : Bool) → (cut_short (n + 1 + length texts) (resume d (l ∷ ls)) ≡ answer_after n texts (cond o (Err LineTooLong) (after_text d (without_cr text))))
-    → cut_short (n + 1 + length texts) (resume d (cond (o || not b) (l ∷ ls) ls)) ≡ answer_after n texts (cond o (Err LineTooLong) (cond b (Ok d) (after_text d (without_cr text)))) =
-    λ o b. elim o as (λ o. (cut_short (n + 1 + length texts) (resume d (l ∷ ls)) ≡ answer_after n texts (cond o (Err LineTooLong) (after_text d (without_cr text))))
-    → cut_short (n + 1 + length texts) (resume d (cond (o || not b) (l ∷ ls) ls)) ≡ answer_after n texts (cond o (Err LineTooLong) (cond b (Ok d) (after_text d (without_cr text))))) [
+    let next = after_text d (without_cr text) in
+    let of_blank : (o b : Bool) → resume d (l ∷ ls) ≡ follow n ls (cond o (Err LineTooLong) next) → resume d (cond (o || not b) (l ∷ ls) ls) ≡ follow n ls (cond o (Err LineTooLong) (cond b (Ok d) next)) =
+    λ o b. elim o as (λ o. resume d (l ∷ ls) ≡ follow n ls (cond o (Err LineTooLong) next) → resume d (cond (o || not b) (l ∷ ls) ls) ≡ follow n ls (cond o (Err LineTooLong) (cond b (Ok d) next))) [
       | true ↦ λ e. e
-      | false ↦ elim b as (λ b. (cut_short (n + 1 + length texts) (resume d (l ∷ ls)) ≡ answer_after n texts (after_text d (without_cr text)))
-          → cut_short (n + 1 + length texts) (resume d (cond (not b) (l ∷ ls) ls)) ≡ answer_after n texts (cond b (Ok d) (after_text d (without_cr text)))) [ true ↦ λ e. refl | false ↦ λ e. e ]
+      | false ↦ elim b as (λ b. resume d (l ∷ ls) ≡ follow n ls next → resume d (cond (not b) (l ∷ ls) ls) ≡ follow n ls (cond b (Ok d) next)) [ true ↦ λ e. refl | false ↦ λ e. e ]
     ] in
-    let any : (c : Bool) → cut_short (n + 1 + length texts) (resume d (cond (not c && (is_too_long text || not (list_all is_blank (without_cr text)))) (l ∷ ls) ls))
-    ≡ answer_after n texts (cond c (Ok d) (cond (is_too_long text) (Err LineTooLong) (cond (list_all is_blank (without_cr text)) (Ok d) (after_text d (without_cr text))))) =
-    λ c. elim c as (λ c. cut_short (n + 1 + length texts) (resume d (cond (not c && (is_too_long text || not (list_all is_blank (without_cr text)))) (l ∷ ls) ls))
-    ≡ answer_after n texts (cond c (Ok d) (cond (is_too_long text) (Err LineTooLong) (cond (list_all is_blank (without_cr text)) (Ok d) (after_text d (without_cr text))))))
-    [ true ↦ refl | false ↦ of_blank (is_too_long text) (list_all is_blank (without_cr text)) line_is ] in
-    rw end (any (is_comment text))
+    let any : (c : Bool) → resume d (cond (not c && (is_too_long text || not (list_all is_blank (without_cr text)))) (l ∷ ls) ls) ≡ follow n ls (cond c (Ok d) (cond (is_too_long text) (Err LineTooLong) (cond (list_all is_blank (without_cr text)) (Ok d) next))) =
+    λ c. elim c as (λ c. resume d (cond (not c && (is_too_long text || not (list_all is_blank (without_cr text)))) (l ∷ ls) ls) ≡ follow n ls (cond c (Ok d) (cond (is_too_long text) (Err LineTooLong) (cond (list_all is_blank (without_cr text)) (Ok d) next))))
+    [ true ↦ refl | false ↦ of_blank (is_too_long text) (list_all is_blank (without_cr text)) (step d n text ls h) ] in
+    any (is_comment text)
 
 -- ---- where no line is left
 
-abbrev ended : Option Book → Left
-ended (Some b) = Ok b
-ended None = Err None
+abbrev pub left_with : Option Book → Left
+left_with (Some b) = Ok b
+left_with None = Err None
 
 table_ends : (s : Scale) (h : Heading) (t : Table) → t.place < length h.constituents → rest_of_table s h t [] ≡ Err None
 unfolding rest_of_table table values
@@ -84,14 +60,14 @@ unfolding constituents
 constituents_end zero cs some = absurd (omega (arith, some))
 constituents_end (suc left) cs some = refl
 
-record_ends : (b : Book) (r : Record) → IsDraft (drafts.Stations b r) → resume_record b r [] ≡ ended (book_at b r)
-unfolding resume_record resume_stations stations name_then place_then station_then constants_then
+record_ends : (b : Book) (r : Record) → IsDraft (drafts.Stations b r) → resume_record b r [] ≡ left_with (book_at b r)
+unfolding resume_record resume_stations stations name_then local_time_then station_then constants_then
 record_ends b records.Nothing h = refl
 record_ends b (records.Name name) h = refl
-record_ends b (records.Place name place) h = refl
+record_ends b (records.LocalTime name place) h = refl
 record_ends b (records.Constants c) h = rw (at_pair b.constituents c.amplitude c.epoch [] h.1.1.some_left) refl
 
-resume_end : (d : Draft) → IsDraft d → resume d [] ≡ ended (book_in d)
+pub resume_end : (d : Draft) → IsDraft d → resume d [] ≡ left_with (book_in d)
 unfolding resume resume_count resume_constituents resume_first_year resume_years resume_angles resume_first_end resume_years_again resume_factors resume_second_end
 resume_end drafts.Count h = refl
 resume_end (drafts.Constituents left earlier) h = rw (constituents_end left earlier h.0) refl
@@ -104,35 +80,30 @@ resume_end (drafts.Factors h angles t) facts = rw (table_ends Factor h t facts.2
 resume_end (drafts.FactorsEnd h angles factors) facts = refl
 resume_end (drafts.Stations b r) facts = record_ends b r facts
 
--- the book, or the fault one past the last line
-abbrev pub finished : ℕ → Option Book → Result Book At
-finished n (Some b) = Ok b
-finished n None = Err (record { line = n; why = CutShort })
-
-finished_is : (n : ℕ) (o : Option Book) → cut_short n (ended o) ≡ finished n o
+finished_is : (n : ℕ) (o : Option Book) → cut_short n (left_with o) ≡ finished n o
 finished_is n (Some b) = refl
 finished_is n None = refl
+
+-- ---- the answer over the lines from some line on
+
+unfoldable pub answer : Draft → ℕ → List (List ℕ) → Result Book At
+answer d n texts = cut_short (n + length texts) (resume d (kept (numbered n texts)))
+
+pub answer_is_book_of : (bytes : List ℕ) → answer drafts.Count 1 (cut bytes) ≡ book_of bytes
+unfolding answer book_of
+answer_is_book_of bytes = ap (cut_short (1 + length (cut bytes))) (resume_is_book (kept (numbered 1 (cut bytes))))
+
+followed : (n : ℕ) (texts : List (List ℕ)) (r : Result Draft Why) → cut_short (n + 1 + length texts) (follow n (kept (numbered (n + 1) texts)) r) ≡ (on_line n r >>= λ d. answer d (n + 1) texts)
+unfolding answer
+followed n texts (Ok d) = refl
+followed n texts (Err why) = refl
+
+pub answer_line : (d : Draft) (n : ℕ) (text : List ℕ) (texts : List (List ℕ)) → IsDraft d → answer d n (text ∷ texts) ≡ (on_line n (after_line d text) >>= λ d. answer d (n + 1) texts)
+unfolding answer
+answer_line d n text texts h =
+    let end : n + suc (length texts) ≡ n + 1 + length texts = omega arith in
+    rw end (ap (cut_short (n + 1 + length texts)) (resume_line d n text texts h) ∙ followed n texts (after_line d text))
 
 pub answer_end : (d : Draft) (n : ℕ) → IsDraft d → answer d n [] ≡ finished n (book_in d)
 unfolding answer numbered kept
 answer_end d n h = rw (add-zero n, resume_end d h) (finished_is n (book_in d))
-
--- ---- as a loop over the lines goes
-
-abbrev Total : Type 0
-Total = Result Book At
-
-one_line : (d : Draft) (n : ℕ) (line rest after : List ℕ) (total : Total) (r : Result Draft Why) → IsDraft d → cut rest ≡ line ∷ cut after → after_line d line ≡ r → answer d n (cut rest) ≡ total → total ≡ answer_after n (cut after) r
-one_line d n line rest after total r h cut_is r_is so_far = sym so_far ∙ ap (answer d n) cut_is ∙ answer_line d n line (cut after) h ∙ ap (answer_after n (cut after)) r_is
-
-pub goes_on : (d next : Draft) (n : ℕ) (line rest after : List ℕ) (total : Total) → IsDraft d → cut rest ≡ line ∷ cut after → after_line d line ≡ Ok next → answer d n (cut rest) ≡ total → answer next (n + 1) (cut after) ≡ total
-goes_on d next n line rest after total h cut_is next_is so_far = sym (one_line d n line rest after total (Ok next) h cut_is next_is so_far)
-
-pub fails : (d : Draft) (n : ℕ) (line rest after : List ℕ) (total : Total) (e : LineFault) → IsDraft d → cut rest ≡ line ∷ cut after → Fails e (after_line d line) → answer d n (cut rest) ≡ total → FailsBook (placed n e) total
-fails d n line rest after total NoMemory h cut_is e_is so_far = tt
-fails d n line rest after total (Bad why) h cut_is e_is so_far = one_line d n line rest after total (Err why) h cut_is e_is so_far
-
-pub ends : (d : Draft) (n : ℕ) (rest : List ℕ) (total : Total) (o : Option Book) → IsDraft d → rest ≡ [] → o ≡ book_in d → answer d n (cut rest) ≡ total → total ≡ finished n o
-unfolding cut
-ends d n rest total o h none o_is so_far =
-    sym so_far ∙ ap (λ (bytes : List ℕ). answer d n (cut bytes)) none ∙ answer_end d n h ∙ ap (finished n) (sym o_is)

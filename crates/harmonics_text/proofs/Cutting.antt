@@ -1,4 +1,4 @@
--- Where the first line and the first token end.
+-- Where the first token ends.
 use Rattle.std.proofs.Common.{◌≡◌, ℕ, suc, ◌+◌, ◌-◌, ◌<◌, ◌≤◌, Bool, true, false, cond, ltb, List, [], ◌∷◌, length, take, drop, Option, Some, None, refl, sym, ap, ◌∙◌, arith}
 use Rattle.std.specs.Prelude.{not, filter, position, unwrap_or}
 use Rattle.std.specs.List.{onto_first, slice_split, position_or_len}
@@ -6,7 +6,7 @@ use Rattle.std.proofs.lemmas.Bool.{ltb-true, ltb-false, lt-ltb}
 use Rattle.std.proofs.lemmas.List.{drop-drop}
 use Rattle.harmonics_text.specs.Rules.{is_colon, digits_of, two_digits_of, minutes_of, clock_of}
 use Rattle.std.proofs.lemmas.List.Sums.{prefix_len-le-length}
-use Rattle.harmonics_text.specs.Lines.{cut, is_lf, is_blank, is_visible, is_filled, tokens, trimmed, without_blank_end}
+use Rattle.harmonics_text.specs.Lines.{is_blank, is_visible, is_filled, tokens, trimmed, without_blank_end}
 
 -- ---- what `position` says
 
@@ -33,24 +33,6 @@ unwrapped false n m h = h refl
 pub unwrap_or-position : (p : ℕ → Bool) (xs : List ℕ) → unwrap_or (position p xs) (length xs) ≡ position_or_len p xs
 unwrap_or-position p xs =
     unwrapped (ltb (position_or_len p xs) (length xs)) (position_or_len p xs) (length xs) (λ e. omega (arith, ltb-false (position_or_len p xs) (length xs) e, prefix_len-le-length (λ x. not (p x)) xs))
-
--- ---- the first line
-
-pub cut_all : (b : ℕ) (bs : List ℕ) → length (b ∷ bs) ≤ position_or_len is_lf (b ∷ bs) → cut (b ∷ bs) ≡ (b ∷ bs) ∷ []
-unfolding cut
-cut_all b [] le = elim (is_lf b) as (λ t. (1 ≤ cond (not t) (1 + 0) 0) → cond t ([] ∷ []) ((b ∷ []) ∷ []) ≡ (b ∷ []) ∷ []) [ true ↦ λ h. absurd (omega (arith, h)) | false ↦ λ h. refl ] le
-cut_all b (d ∷ ds) le =
-    elim (is_lf b) as (λ t. (1 + length (d ∷ ds) ≤ cond (not t) (1 + position_or_len is_lf (d ∷ ds)) 0) → cond t ([] ∷ cut (d ∷ ds)) (onto_first b (cut (d ∷ ds))) ≡ (b ∷ d ∷ ds) ∷ [])
-    [ true ↦ λ h. absurd (omega (arith, h)) | false ↦ λ h. rw (cut_all d ds (omega (arith, h))) refl ] (omega (arith, le))
-
-pub cut_first : (xs : List ℕ) → position_or_len is_lf xs < length xs → cut xs ≡ take (position_or_len is_lf xs) xs ∷ cut (drop 1 (drop (position_or_len is_lf xs) xs))
-unfolding cut
-cut_first [] lt = absurd (omega (arith, lt))
-cut_first (b ∷ bs) lt =
-    let n = position_or_len is_lf bs in
-    let e : 1 + n ≡ suc n = omega arith in
-    elim (is_lf b) as (λ t. (cond (not t) (1 + n) 0 < 1 + length bs) → cond t ([] ∷ cut bs) (onto_first b (cut bs)) ≡ take (cond (not t) (1 + n) 0) (b ∷ bs) ∷ cut (drop 1 (drop (cond (not t) (1 + n) 0) (b ∷ bs))))
-    [ true ↦ λ h. refl | false ↦ λ h. rw (e, cut_first bs (omega (arith, h))) refl ] (omega (arith, lt))
 
 -- ---- the first token
 
@@ -117,16 +99,6 @@ starts_visible (b ∷ bs) lt =
     [ true ↦ λ h l. rw e (starts_visible bs (omega (arith, l))) | false ↦ λ h l. rw h (omega arith) ] refl (omega (arith, lt))
 
 -- ---- as the code cuts
-
-pub line_none : (xs : List ℕ) → 0 < length xs → position is_lf xs ≡ None → cut xs ≡ xs ∷ cut []
-unfolding cut
-line_none [] some e = absurd (omega (arith, some))
-line_none (b ∷ bs) some e = cut_all b bs (position_none is_lf (b ∷ bs) e)
-
-pub line_some : (xs line rest after : List ℕ) (k : ℕ) → position is_lf xs ≡ Some k → line ≡ take k xs → rest ≡ drop k xs → after ≡ drop 1 rest → cut xs ≡ line ∷ cut after
-line_some xs line rest after k e l r a =
-    let p = position_some is_lf xs k e in
-    rw (l, a, r, ← p.0) (cut_first xs p.1)
 
 pub token_none : (xs : List ℕ) → position is_visible xs ≡ None → tokens xs ≡ []
 token_none xs e = tokens_none xs (position_none is_visible xs e)

@@ -1,10 +1,12 @@
 pub mod Latin
 pub mod Cutting
 pub mod Digits
+pub mod Pieces
 pub mod Resume
 pub mod Steps
 pub mod Answer
 pub mod Values
 pub mod Ranges
 pub mod Sound
+pub mod Readers
 pub mod Worked

@@ -15,10 +15,11 @@ use Rattle.harmonics_text.specs.declared.scale.Scale.TheVariants.{Speed, Angle, 
 use Rattle.harmonics_text.specs.Lines.{only, only_two, tokens}
 use Rattle.decimal_text.specs.declared.fault.DecimalFault.{DecimalFault}
 use Rattle.decimal_text.specs.declared.fault.DecimalFault.TheVariants as decimals
-use Rattle.harmonics_text.specs.declared.place.Place.{Place}
+use Rattle.harmonics_text.specs.declared.local_time.LocalTime.{LocalTime}
 use Rattle.harmonics_text.specs.declared.book.Units.{Units}
 use Rattle.harmonics_text.specs.Books.{IsWithin, IsName, IsNameByte, IsConstituent}
-use Rattle.harmonics_text.specs.Rules.{◌>>=◌, or_fault, in_scale, number_of, least_of, most_of, from_to, count_of, first_year_of, whole_of, is_name_byte, name_of, new_name_of, is_absent, is_end, has_name, constituent_from, constituent_of, place_from, place_of, meridian_of, clock_of, minutes_of, zone_of, datum_of, pair_from, pair_of, units_of, if_true, is_name, is_colon, digits_of, two_digits_of}
+use Rattle.decimal_text.specs.Expected.{◌>>=◌}
+use Rattle.harmonics_text.specs.Rules.{or_fault, in_scale, number_of, least_of, most_of, from_to, count_of, first_year_of, whole_of, is_name_byte, name_of, new_name_of, is_absent, is_end, has_name, constituent_from, constituent_of, local_time_from, local_time_of, meridian_of, clock_of, minutes_of, zone_of, datum_of, pair_from, pair_of, units_of, if_true, is_name, is_colon, digits_of, two_digits_of}
 
 -- the value of a step that did not fail
 pub bind_ok : {A B E : Type 0} (r : Result A E) (f : A → Result B E) (y : B) → (r >>= f) ≡ Ok y → (x : A) × (r ≡ Ok x) × (f x ≡ Ok y)
@@ -44,7 +45,7 @@ both : (a b : Bool) → (a && b) ≡ true → (a ≡ true) × (b ≡ true)
 both true b e = (refl, e)
 both false b e = absurd cc
 
-neither : (a b : Bool) → (a || b) ≡ false → (a ≡ false) × (b ≡ false)
+pub neither : (a b : Bool) → (a || b) ≡ false → (a ≡ false) × (b ≡ false)
 neither true b e = absurd cc
 neither false b e = (refl, e)
 
@@ -167,19 +168,19 @@ meridian_sound token m e =
     let small = clock_small (without_leading_sign token) b.0 (known BadMeridian _ b.0 b.1) in
     rw (← ok_is _ m b.2) (signed_within (starts_with_minus token) b.0 small)
 
-place_sound : (tokens : List (List ℕ)) (p : Place) → place_from tokens ≡ Ok p → IsWithin (negsuc 958) (pos 959) p.meridian
-unfolding place_from
-place_sound [] p e = absurd cc
-place_sound (a ∷ []) p e = let b = bind_ok (meridian_of a) _ p e in rw (← ok_is _ p b.2) (meridian_sound a b.0 b.1)
-place_sound (a ∷ z ∷ []) p e =
+local_time_sound : (tokens : List (List ℕ)) (p : LocalTime) → local_time_from tokens ≡ Ok p → IsWithin (negsuc 958) (pos 959) p.meridian
+unfolding local_time_from
+local_time_sound [] p e = absurd cc
+local_time_sound (a ∷ []) p e = let b = bind_ok (meridian_of a) _ p e in rw (← ok_is _ p b.2) (meridian_sound a b.0 b.1)
+local_time_sound (a ∷ z ∷ []) p e =
     let b = bind_ok (meridian_of a) _ p e in
     let d = bind_ok (zone_of z) _ p b.2 in
     rw (← ok_is _ p d.2) (meridian_sound a b.0 b.1)
-place_sound (a ∷ z ∷ y ∷ more) p e = absurd cc
+local_time_sound (a ∷ z ∷ y ∷ more) p e = absurd cc
 
-pub place_of_sound : (text : List ℕ) (p : Place) → place_of text ≡ Ok p → IsWithin (negsuc 958) (pos 959) p.meridian
-unfolding place_of
-place_of_sound text p e = place_sound (tokens text) p e
+pub local_time_of_sound : (text : List ℕ) (p : LocalTime) → local_time_of text ≡ Ok p → IsWithin (negsuc 958) (pos 959) p.meridian
+unfolding local_time_of
+local_time_of_sound text p e = local_time_sound (tokens text) p e
 
 pub datum_sound : (text : List ℕ) (d : ℤ × Units) → datum_of text ≡ Ok d → IsWithin (negsuc 9999999999) (pos 10000000000) d.0
 unfolding datum_of

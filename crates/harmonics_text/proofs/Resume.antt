@@ -8,16 +8,17 @@ use Rattle.harmonics_text.specs.declared.scale.Scale.{Scale}
 use Rattle.harmonics_text.specs.declared.scale.Scale.TheVariants.{Angle, Factor}
 use Rattle.harmonics_text.specs.declared.heading.Heading.{Heading}
 use Rattle.harmonics_text.specs.declared.table.Table.{Table}
-use Rattle.harmonics_text.specs.declared.place.Place.{Place}
+use Rattle.harmonics_text.specs.declared.local_time.LocalTime.{LocalTime}
 use Rattle.harmonics_text.specs.declared.record.Constants.{Constants}
 use Rattle.harmonics_text.specs.declared.record.Record.{Record}
 use Rattle.harmonics_text.specs.declared.record.Record.TheVariants as records
 use Rattle.harmonics_text.specs.declared.draft.Draft.{Draft}
 use Rattle.harmonics_text.specs.declared.draft.Draft.TheVariants as drafts
 use Rattle.harmonics_text.specs.Lines.{Line}
-use Rattle.harmonics_text.specs.Rules.{◌>>=◌, count_of, first_year_of, end_of, same_count_of, place_of, datum_of}
+use Rattle.decimal_text.specs.Expected.{◌>>=◌}
+use Rattle.harmonics_text.specs.Rules.{count_of, first_year_of, end_of, same_count_of, local_time_of, datum_of}
 use Rattle.harmonics_text.specs.Reading.{At, Part, one, constituents, values, table, pairs, stations, most_stations, book}
-use Rattle.harmonics_text.specs.Drafts.{new_book, station_of}
+use Rattle.harmonics_text.specs.Workings.Drafts.{new_book, station_of}
 
 abbrev pub Left : Type 0
 Left = Result Book (Option At)
@@ -68,16 +69,16 @@ station_then b s = (s >>= λ s. stations (most_stations - length b.stations - 1)
 unfoldable pub constants_then : Constants → Result ((List ℤ × List ℤ) × List Line) (Option At) → Result (Station × List Line) (Option At)
 constants_then c r = r >>= λ p. Ok (station_of (record c { amplitude = p.0.0; epoch = p.0.1 }), p.1)
 
-unfoldable pub place_then : List Constituent → List ℕ → Place → List Line → Result (Station × List Line) (Option At)
-place_then cs name place ls = one datum_of ls >>= λ d. pairs cs [] [] d.1 >>= λ p. Ok (record { name = name; meridian = place.meridian; zone = place.zone; datum = d.0.0; units = d.0.1; amplitude = p.0.0; epoch = p.0.1 }, p.1)
+unfoldable pub local_time_then : List Constituent → List ℕ → LocalTime → List Line → Result (Station × List Line) (Option At)
+local_time_then cs name place ls = one datum_of ls >>= λ d. pairs cs [] [] d.1 >>= λ p. Ok (record { name = name; meridian = place.meridian; zone = place.zone; datum = d.0.0; units = d.0.1; amplitude = p.0.0; epoch = p.0.1 }, p.1)
 
 unfoldable pub name_then : List Constituent → List ℕ → List Line → Result (Station × List Line) (Option At)
-name_then cs name ls = one place_of ls >>= λ p. place_then cs name p.0 p.1
+name_then cs name ls = one local_time_of ls >>= λ p. local_time_then cs name p.0 p.1
 
 unfoldable pub resume_record : Book → Record → List Line → Left
 resume_record b records.Nothing ls = resume_stations b ls
 resume_record b (records.Name name) ls = station_then b (name_then b.constituents name ls)
-resume_record b (records.Place name place) ls = station_then b (place_then b.constituents name place ls)
+resume_record b (records.LocalTime name place) ls = station_then b (local_time_then b.constituents name place ls)
 resume_record b (records.Constants c) ls = station_then b (constants_then c (pairs (drop (length c.amplitude) b.constituents) c.amplitude c.epoch ls))
 
 unfoldable pub resume : Draft → List Line → Left

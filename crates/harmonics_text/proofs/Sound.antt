@@ -19,9 +19,9 @@ use Rattle.harmonics_text.specs.declared.record.Record.TheVariants as records
 use Rattle.harmonics_text.specs.declared.draft.Draft.{Draft}
 use Rattle.harmonics_text.specs.declared.draft.Draft.TheVariants as drafts
 use Rattle.harmonics_text.specs.Books.{IsWithin, IsConstituent, IsStation, IsBook}
-use Rattle.harmonics_text.specs.Rules.{number_of, least_of, most_of, count_of, first_year_of, name_of, constituent_of, values_from, named, end_of, same_count_of, station_name_of, place_of, datum_of, pair_of}
-use Rattle.harmonics_text.specs.Drafts.{IsHeading, AreValues, IsAngles, IsFactors, IsTable, AreConstants, IsDraft, station_of, at_place, after_values, after_name, after_table_line, new_table, with_constituents, with_angles, with_factors, with_pair, after_count, after_constituent, after_years, after_angles, after_years_again, after_factors, after_nothing, after_pair, after_record, after_text, after_line, new_book}
-use Rattle.harmonics_text.proofs.Ranges.{bind_ok, ok_is, unless, number_within, count_within, first_year_within, name_sound, IsConstituent-of, place_of_sound, datum_sound, IsPair, pair_sound}
+use Rattle.harmonics_text.specs.Rules.{number_of, least_of, most_of, count_of, first_year_of, name_of, constituent_of, values_from, named, end_of, same_count_of, station_name_of, local_time_of, datum_of, pair_of}
+use Rattle.harmonics_text.specs.Workings.Drafts.{IsHeading, AreValues, IsAngles, IsFactors, IsTable, AreConstants, IsDraft, station_of, at_place, after_values, after_name, after_table_line, new_table, with_constituents, with_angles, with_factors, with_pair, after_count, after_constituent, after_years, after_angles, after_years_again, after_factors, after_nothing, after_pair, after_record, after_text, after_line, new_book}
+use Rattle.harmonics_text.proofs.Ranges.{bind_ok, ok_is, unless, number_within, count_within, first_year_within, name_sound, IsConstituent-of, local_time_of_sound, datum_sound, IsPair, pair_sound}
 
 -- ---- the values of a line
 
@@ -215,9 +215,9 @@ record_sound : (b : Book) (r : Record) (text : List ℕ) (d : Draft) → IsDraft
 unfolding after_record
 record_sound b records.Nothing text d h e = nothing_sound b text d h.0 e
 record_sound b (records.Name name) text d h e =
-    let p = bind_ok (place_of text) _ d e in
-    rw (← ok_is _ d p.2) (h.0, (h.1.0, h.1.1, place_of_sound text p.0 p.1))
-record_sound b (records.Place name place) text d h e =
+    let p = bind_ok (local_time_of text) _ d e in
+    rw (← ok_is _ d p.2) (h.0, (h.1.0, h.1.1, local_time_of_sound text p.0 p.1))
+record_sound b (records.LocalTime name place) text d h e =
     let m = bind_ok (datum_of text) _ d e in
     rw (← ok_is _ d m.2) (h.0, (h.1.0, record { name = h.1.1; meridian = h.1.2; datum = datum_sound text m.0 m.1; some_left = omega (arith, h.0.some_constituents); both = refl; amplitude = λ k d lt. absurd (omega (arith, lt)); epoch = λ k d lt. absurd (omega (arith, lt)) }))
 record_sound b (records.Constants c) text d h e = pair_after_sound b c text d h e

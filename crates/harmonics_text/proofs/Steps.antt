@@ -13,17 +13,18 @@ use Rattle.harmonics_text.specs.declared.scale.Scale.{Scale}
 use Rattle.harmonics_text.specs.declared.scale.Scale.TheVariants.{Angle, Factor}
 use Rattle.harmonics_text.specs.declared.heading.Heading.{Heading}
 use Rattle.harmonics_text.specs.declared.table.Table.{Table}
-use Rattle.harmonics_text.specs.declared.place.Place.{Place}
+use Rattle.harmonics_text.specs.declared.local_time.LocalTime.{LocalTime}
 use Rattle.harmonics_text.specs.declared.record.Constants.{Constants}
 use Rattle.harmonics_text.specs.declared.record.Record.{Record}
 use Rattle.harmonics_text.specs.declared.record.Record.TheVariants as records
 use Rattle.harmonics_text.specs.declared.draft.Draft.{Draft}
 use Rattle.harmonics_text.specs.declared.draft.Draft.TheVariants as drafts
 use Rattle.harmonics_text.specs.Lines.{Line, is_too_long, without_cr, tokens}
-use Rattle.harmonics_text.specs.Rules.{◌>>=◌, count_of, constituent_of, first_year_of, end_of, named, values_from, same_count_of, station_name_of, place_of, datum_of, pair_of}
+use Rattle.decimal_text.specs.Expected.{◌>>=◌}
+use Rattle.harmonics_text.specs.Rules.{count_of, constituent_of, first_year_of, end_of, named, values_from, same_count_of, station_name_of, local_time_of, datum_of, pair_of}
 use Rattle.harmonics_text.specs.Reading.{At, at_line, checked, one, constituents, values, table, pairs, station, stations, most_stations}
-use Rattle.harmonics_text.specs.Drafts.{IsDraft, new_book, station_of, with_constituents, with_angles, with_factors, with_pair, after_count, after_constituent, after_years, after_values, after_name, after_table_line, after_angles, after_years_again, after_factors, after_nothing, after_pair, after_record, after_text, at_place, new_table}
-use Rattle.harmonics_text.proofs.Resume.{Left, with_stations, resume_stations, resume_second_end, resume_years_again, resume_first_end, resume_years, resume_first_year, resume_constituents, resume_count, rest_of_table, resume_angles, resume_factors, station_then, constants_then, place_then, name_then, resume_record, resume}
+use Rattle.harmonics_text.specs.Workings.Drafts.{IsDraft, new_book, station_of, with_constituents, with_angles, with_factors, with_pair, after_count, after_constituent, after_years, after_values, after_name, after_table_line, after_angles, after_years_again, after_factors, after_nothing, after_pair, after_record, after_text, at_place, new_table}
+use Rattle.harmonics_text.proofs.Resume.{Left, with_stations, resume_stations, resume_second_end, resume_years_again, resume_first_end, resume_years, resume_first_year, resume_constituents, resume_count, rest_of_table, resume_angles, resume_factors, station_then, constants_then, local_time_then, name_then, resume_record, resume}
 
 -- the next draft with the other lines, or the fault at this line
 abbrev pub follow : ℕ → List Line → Result Draft Why → Left
@@ -196,7 +197,7 @@ too_many b n text ls = elim (is_too_long text) as (λ (t : Bool). (at_line n (co
 station_named : (b : Book) (n : ℕ) (text : List ℕ) (ls : List Line)
     → ((station b.constituents (line n text ∷ ls) >>= λ s. stations (most_stations - length b.stations - 1) b.constituents (b.stations ++ s.0 ∷ []) s.1) >>= with_stations b)
     ≡ follow n ls (checked (λ t. station_name_of t >>= λ name. Ok (drafts.Stations b (records.Name name))) text)
-unfolding station_then station name_then place_then resume resume_record
+unfolding station_then station name_then local_time_then resume resume_record
 station_named b n text ls = station_one b station_name_of n text ls (λ x. name_then b.constituents x.0 x.1) (λ name. drafts.Stations b (records.Name name)) (λ name. refl)
 
 step_nothing : (b : Book) (n : ℕ) (text : List ℕ) (ls : List Line) → resume_stations b (line n text ∷ ls) ≡ follow n ls (checked (after_nothing b) text)
@@ -215,14 +216,14 @@ step_nothing b n text ls =
 
 step_name_of_station : (b : Book) (name : List ℕ) (n : ℕ) (text : List ℕ) (ls : List Line) → resume (drafts.Stations b (records.Name name)) (line n text ∷ ls) ≡ follow n ls (checked (after_record b (records.Name name)) text)
 unfolding resume resume_record name_then after_record
-step_name_of_station b name n text ls = station_one b place_of n text ls (λ p. place_then b.constituents name p.0 p.1) (λ place. drafts.Stations b (records.Place name place)) (λ place. refl)
+step_name_of_station b name n text ls = station_one b local_time_of n text ls (λ p. local_time_then b.constituents name p.0 p.1) (λ place. drafts.Stations b (records.LocalTime name place)) (λ place. refl)
 
-step_place : (b : Book) (name : List ℕ) (place : Place) (n : ℕ) (text : List ℕ) (ls : List Line) → resume (drafts.Stations b (records.Place name place)) (line n text ∷ ls) ≡ follow n ls (checked (after_record b (records.Place name place)) text)
-unfolding resume resume_record place_then constants_then after_record
-step_place b name place n text ls =
+step_local_time : (b : Book) (name : List ℕ) (place : LocalTime) (n : ℕ) (text : List ℕ) (ls : List Line) → resume (drafts.Stations b (records.LocalTime name place)) (line n text ∷ ls) ≡ follow n ls (checked (after_record b (records.LocalTime name place)) text)
+unfolding resume resume_record local_time_then constants_then after_record
+step_local_time b name place n text ls =
     station_one b datum_of n text ls
     (λ d. pairs b.constituents [] [] d.1 >>= λ p. Ok (record { name = name; meridian = place.meridian; zone = place.zone; datum = d.0.0; units = d.0.1; amplitude = p.0.0; epoch = p.0.1 }, p.1))
-    (λ d. drafts.Stations b (records.Constants (record { name = name; place = place; datum = d.0; units = d.1; amplitude = []; epoch = [] })))
+    (λ d. drafts.Stations b (records.Constants (record { name = name; local_time = place; datum = d.0; units = d.1; amplitude = []; epoch = [] })))
     (λ d. refl)
 
 pub at_pair : (cs : List Constituent) (amplitude epoch : List ℤ) (ls : List Line) → length amplitude < length cs
@@ -260,7 +261,7 @@ step_record : (b : Book) (r : Record) (n : ℕ) (text : List ℕ) (ls : List Lin
 unfolding resume resume_record after_record
 step_record b records.Nothing n text ls h = step_nothing b n text ls
 step_record b (records.Name name) n text ls h = step_name_of_station b name n text ls
-step_record b (records.Place name place) n text ls h = step_place b name place n text ls
+step_record b (records.LocalTime name place) n text ls h = step_local_time b name place n text ls
 step_record b (records.Constants c) n text ls h = step_constants b c n text ls h.1.1.some_left
 
 -- ---- any draft

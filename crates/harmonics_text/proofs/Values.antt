@@ -14,8 +14,9 @@ use Rattle.harmonics_text.specs.declared.record.Constants.{Constants}
 use Rattle.harmonics_text.specs.declared.record.Record.TheVariants as records
 use Rattle.harmonics_text.specs.declared.draft.Draft.TheVariants as drafts
 use Rattle.harmonics_text.specs.Lines.{tokens}
-use Rattle.harmonics_text.specs.Rules.{◌>>=◌, number_of, values_from, pair_of}
-use Rattle.harmonics_text.specs.Drafts.{Fails, pushed, after_values, at_place, after_pair, station_of}
+use Rattle.decimal_text.specs.Expected.{◌>>=◌}
+use Rattle.harmonics_text.specs.Rules.{number_of, values_from, pair_of}
+use Rattle.harmonics_text.specs.Workings.Drafts.{Fails, pushed, after_values, at_place, after_pair, station_of}
 use Rattle.harmonics_text.proofs.Steps.{unnamed}
 
 pub pushed_is : (s : Scale) (values : List ℤ) (token : List ℕ) (n : ℤ) (new : List ℤ) → number_of s token ≡ Ok n → new ≡ values ++ n ∷ [] → pushed s values token ≡ Ok new

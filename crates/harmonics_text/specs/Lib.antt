@@ -1,7 +1,8 @@
 pub mod Books
-pub mod Drafts
+pub mod Workings
 pub mod Latin
 pub mod Lines
+pub mod Pieces
 pub mod Reading
 pub mod Rules
 pub mod Whys

@@ -11,7 +11,8 @@ use Rattle.harmonics_text.specs.declared.fault.Why.TheVariants.{CutShort, LineTo
 use Rattle.harmonics_text.specs.declared.scale.Scale.{Scale}
 use Rattle.harmonics_text.specs.declared.scale.Scale.TheVariants.{Angle, Factor}
 use Rattle.harmonics_text.specs.Lines.{Line, tokens, cut, numbered, kept, without_cr, is_too_long}
-use Rattle.harmonics_text.specs.Rules.{◌>>=◌, count_of, constituent_of, first_year_of, named, values_from, end_of, same_count_of, station_name_of, place_of, datum_of, pair_of}
+use Rattle.decimal_text.specs.Expected.{◌>>=◌}
+use Rattle.harmonics_text.specs.Rules.{count_of, constituent_of, first_year_of, named, values_from, end_of, same_count_of, station_name_of, local_time_of, datum_of, pair_of}
 
 -- the first fault of a file: a line's number and what is wrong there
 pub record At : Type 0 where
@@ -63,7 +64,7 @@ pairs (c ∷ cs) amplitude epoch ls = one (pair_of c.name) ls >>= λ p. pairs cs
 unfoldable pub station : List Constituent → Part Station
 station cs ls = do
   name ← one station_name_of ls
-  place ← one place_of name.1
+  place ← one local_time_of name.1
   datum ← one datum_of place.1
   pair ← pairs cs [] [] datum.1
   Ok (record { name = name.0; meridian = place.0.meridian; zone = place.0.zone; datum = datum.0.0; units = datum.0.1; amplitude = pair.0.0; epoch = pair.0.1 }, pair.1)

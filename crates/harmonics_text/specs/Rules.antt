@@ -7,6 +7,7 @@ use Rattle.std.specs.Str.Parse.{digits_value, starts_with_minus, without_leading
 use Rattle.decimal_text.specs.declared.fault.DecimalFault.{DecimalFault}
 use Rattle.decimal_text.specs.declared.fault.DecimalFault.TheVariants as decimals
 use Rattle.decimal_text.specs.Decimal.{read_of}
+use Rattle.decimal_text.specs.Expected.{◌>>=◌}
 use Rattle.harmonics_text.specs.declared.book.Constituent.{Constituent}
 use Rattle.harmonics_text.specs.declared.book.Units.{Units}
 use Rattle.harmonics_text.specs.declared.book.Units.TheVariants.{Feet, Meters, Knots, KnotsSquared}
@@ -14,14 +15,8 @@ use Rattle.harmonics_text.specs.declared.fault.Why.{Why}
 use Rattle.harmonics_text.specs.declared.fault.Why.TheVariants.{BadCount, BadName, BadNumber, TooFine, OutOfRange, YearsDiffer, WrongConstituent, NoEnd, BadMeridian, BadUnits}
 use Rattle.harmonics_text.specs.declared.scale.Scale.{Scale}
 use Rattle.harmonics_text.specs.declared.scale.Scale.TheVariants.{Speed, Angle, Factor, Height}
-use Rattle.harmonics_text.specs.declared.place.Place.{Place}
+use Rattle.harmonics_text.specs.declared.local_time.LocalTime.{LocalTime}
 use Rattle.harmonics_text.specs.Lines.{tokens, only, only_two, trimmed}
-
--- the first fault ends a reading
-infixl 10 ◌>>=◌
-abbrev pub ◌>>=◌ : {A B E : Type 0} → Result A E → (A → Result B E) → Result B E
-(Ok x) >>= f = f x
-(Err e) >>= f = Err e
 
 abbrev pub or_fault : {A : Type 0} → Why → Option A → Result A Why
 or_fault why None = Err why
@@ -183,17 +178,17 @@ zone_of token =
     then Ok (encode_utf8_all (if starts_with nat_eq token (codes ":") then drop 1 token else token))
     else Err BadMeridian
 
-unfoldable pub place_from : List (List ℕ) → Result Place Why
-place_from [] = Err BadMeridian
-place_from (first ∷ []) = meridian_of first >>= λ m. Ok (record { meridian = m; zone = [] })
-place_from (first ∷ second ∷ []) = do
+unfoldable pub local_time_from : List (List ℕ) → Result LocalTime Why
+local_time_from [] = Err BadMeridian
+local_time_from (first ∷ []) = meridian_of first >>= λ m. Ok (record { meridian = m; zone = [] })
+local_time_from (first ∷ second ∷ []) = do
   m ← meridian_of first
   zone ← zone_of second
   Ok (record { meridian = m; zone = zone })
-place_from (first ∷ second ∷ third ∷ more) = Err BadMeridian
+local_time_from (first ∷ second ∷ third ∷ more) = Err BadMeridian
 
-unfoldable pub place_of : List ℕ → Result Place Why
-place_of text = place_from (tokens text)
+unfoldable pub local_time_of : List ℕ → Result LocalTime Why
+local_time_of text = local_time_from (tokens text)
 
 unfoldable pub units_of : List ℕ → Result Units Why
 units_of token =

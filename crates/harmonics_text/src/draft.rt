@@ -2,7 +2,7 @@
 
 ghost use Rattle.std.specs.Prelude.{◌≡◌, ◌<◌, ◌≤◌, length};
 ghost use Rattle.harmonics_text.specs.Rules.{end_of, same_count_of};
-ghost use Rattle.harmonics_text.specs.Drafts.{Gives, IsDraft, with_constituents, with_angles, with_factors, new_book, after_constituent, after_years, after_angles, after_years_again, after_factors, after_nothing, after_pair, after_record, after_text, after_line, book_in};
+ghost use Rattle.harmonics_text.specs.Workings.Drafts.{Gives, IsDraft, with_constituents, with_angles, with_factors, new_book, after_constituent, after_years, after_angles, after_years_again, after_factors, after_nothing, after_pair, after_record, after_text, after_line, book_in};
 
 use crate::book::Book;
 use crate::column::Column;
@@ -10,9 +10,9 @@ use crate::fault::{LineFault, Why};
 use crate::heading::{Heading, constituent, is_end};
 use crate::lines::{is_all_blank, is_comment, is_too_long, only_token, trimmed, without_cr};
 use crate::lists::{Constituents, Stations};
+use crate::local_time::local_time_of_line;
 use crate::names::name_of;
 use crate::numbers::{count, first_year};
-use crate::place::place_of_line;
 use crate::record::{Constants, Record, amplitude_and_epoch, datum, into_station};
 use crate::scale::Scale;
 use crate::table::{Table, start_table, with_line};
@@ -37,7 +37,7 @@ pub enum Draft {
 
 impl Draft {
     /// The draft after a line of the file.
-    #[tactic(auto, unfolding(crate::specs::Drafts::after_line))]
+    #[tactic(auto, unfolding(crate::specs::Workings::Drafts::after_line))]
     pub fn after_line(self, alloc: Global, line: &[u8]) -> Result<Draft, LineFault>
         requires { IsDraft self }
         ensures { Gives (λ d. d) result (after_line self line.now) }
@@ -56,7 +56,7 @@ impl Draft {
     }
 
     /// The draft after a line that is kept.
-    #[tactic(auto, unfolding(crate::specs::Drafts::after_text, crate::specs::Drafts::after_count))]
+    #[tactic(auto, unfolding(crate::specs::Workings::Drafts::after_text, crate::specs::Workings::Drafts::after_count))]
     fn after_text(self, alloc: Global, text: &[u8]) -> Result<Draft, LineFault>
         requires { IsDraft self }
         ensures { Gives (λ d. d) result (after_text self text.now) }
@@ -116,7 +116,7 @@ fn check_end(text: &[u8]) -> Result<(), Why>
     }
 }
 
-#[tactic(auto, unfolding(crate::specs::Drafts::after_constituent))]
+#[tactic(auto, unfolding(crate::specs::Workings::Drafts::after_constituent))]
 fn after_constituent(
     alloc: Global,
     left: u32,
@@ -134,7 +134,7 @@ fn after_constituent(
     }
 }
 
-#[tactic(auto, unfolding(crate::specs::Drafts::after_years))]
+#[tactic(auto, unfolding(crate::specs::Workings::Drafts::after_years))]
 fn after_years(
     alloc: Global,
     constituents: Constituents,
@@ -162,7 +162,7 @@ fn with_angles(heading: Heading, table: Table) -> Draft
     }
 }
 
-#[tactic(auto, unfolding(crate::specs::Drafts::after_angles))]
+#[tactic(auto, unfolding(crate::specs::Workings::Drafts::after_angles))]
 fn after_angles(heading: Heading, table: Table, text: &[u8]) -> Result<Draft, LineFault>
     requires here { table.place < length heading.constituents }
     requires few { length heading.constituents ≤ 500 }
@@ -183,7 +183,7 @@ fn check_years(years: u32, text: &[u8]) -> Result<(), Why>
     }
 }
 
-#[tactic(auto, unfolding(crate::specs::Drafts::after_years_again))]
+#[tactic(auto, unfolding(crate::specs::Workings::Drafts::after_years_again))]
 fn after_years_again(
     alloc: Global,
     heading: Heading,
@@ -206,7 +206,7 @@ fn with_factors(heading: Heading, angles: Numbers, table: Table) -> Draft
     }
 }
 
-#[tactic(auto, unfolding(crate::specs::Drafts::after_factors))]
+#[tactic(auto, unfolding(crate::specs::Workings::Drafts::after_factors))]
 fn after_factors(
     heading: Heading,
     angles: Numbers,
@@ -235,7 +235,7 @@ fn new_book(alloc: Global, heading: Heading, angles: Numbers, factors: Numbers) 
     }
 }
 
-#[tactic(auto, unfolding(crate::specs::Drafts::after_nothing, crate::specs::Rules::station_name_of))]
+#[tactic(auto, unfolding(crate::specs::Workings::Drafts::after_nothing, crate::specs::Rules::station_name_of))]
 fn after_nothing(alloc: Global, book: Book, text: &[u8]) -> Result<Draft, LineFault>
     ensures { Gives (λ d. d) result (after_nothing book text.now) }
 {
@@ -246,7 +246,7 @@ fn after_nothing(alloc: Global, book: Book, text: &[u8]) -> Result<Draft, LineFa
     Ok(Draft::Stations(book, Record::Name(name)))
 }
 
-#[tactic(auto, unfolding(crate::specs::Drafts::after_record))]
+#[tactic(auto, unfolding(crate::specs::Workings::Drafts::after_record))]
 fn after_record(alloc: Global, book: Book, begun: Record, text: &[u8]) -> Result<Draft, LineFault>
     requires { IsDraft (Draft.Stations book begun) }
     ensures { Gives (λ d. d) result (after_record book begun text.now) }
@@ -254,14 +254,14 @@ fn after_record(alloc: Global, book: Book, begun: Record, text: &[u8]) -> Result
     match begun {
         Record::Nothing => after_nothing(alloc, book, text),
         Record::Name(name) => {
-            let place = place_of_line(alloc, text)?;
-            Ok(Draft::Stations(book, Record::Place(name, place)))
+            let local_time = local_time_of_line(alloc, text)?;
+            Ok(Draft::Stations(book, Record::LocalTime(name, local_time)))
         }
-        Record::Place(name, place) => {
+        Record::LocalTime(name, local_time) => {
             let (datum, units) = datum(text)?;
             let constants = Constants {
                 name,
-                place,
+                local_time,
                 datum,
                 units,
                 amplitude: Column::new(alloc),
@@ -273,7 +273,7 @@ fn after_record(alloc: Global, book: Book, begun: Record, text: &[u8]) -> Result
     }
 }
 
-#[tactic(auto, unfolding(crate::specs::Drafts::after_pair))]
+#[tactic(auto, unfolding(crate::specs::Workings::Drafts::after_pair))]
 fn after_pair(mut book: Book, mut station: Constants, text: &[u8]) -> Result<Draft, LineFault>
     requires { length station.amplitude < length book.constituents }
     ensures { Gives (λ d. d) result (after_pair book station text.now) }

@@ -104,3 +104,13 @@ pub enum BookFault {
     /// line is one past its last.
     At { line: u32, why: Why },
 }
+
+impl From<AllocError> for BookFault {
+    ghost use Rattle.harmonics_text.specs.declared.fault.BookFault.TheVariants.{NoMemory};
+
+    ghost from_gives = { λ _ e. e ≡ NoMemory };
+
+    fn from(_e: AllocError) -> BookFault {
+        BookFault::NoMemory
+    }
+}

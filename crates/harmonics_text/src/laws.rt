@@ -1,9 +1,10 @@
 //! Worked rows of the definitions.
 
-ghost use Rattle.std.specs.Prelude.{◌≡◌, ◌∷◌, ◌++◌, [], codes, map, take, pos, negsuc, Ok, Err};
-ghost use Rattle.harmonics_text.specs.Rules.{count_of, station_name_of, place_of, pair_of};
+ghost use Rattle.std.specs.Prelude.{◌≡◌, ◌≤◌, ℕ, List, ◌∷◌, ◌++◌, [], length, codes, map, take, replicate, pos, negsuc, Ok, Err, Some, None};
+ghost use Rattle.harmonics_text.specs.Rules.{count_of, station_name_of, local_time_of, pair_of};
 ghost use Rattle.harmonics_text.specs.Lines.{cut, numbered, kept, tokens};
-ghost use Rattle.harmonics_text.specs.Reading.{book_of};
+ghost use Rattle.harmonics_text.specs.Reading.{At, book_of};
+ghost use Rattle.harmonics_text.specs.Pieces.{ended_lines, pending_length, fault_so_far};
 ghost use Rattle.harmonics_text.specs.Worked.{pier_lines, file_of, pier_book, pier_with, changes};
 
 use crate::fault::Why;
@@ -19,9 +20,9 @@ pub fn worked_lines()
     ensures no_count { count_of (codes "0") ≡ Err Why.BadCount }
     ensures latin { station_name_of (codes " \t~" ++ 128 ∷ 159 ∷ 255 ∷ codes " ") ≡ Ok (126 ∷ 194 ∷ 128 ∷ 194 ∷ 159 ∷ 195 ∷ 191 ∷ []) }
     ensures no_name { station_name_of (127 ∷ []) ≡ Err Why.BadName }
-    ensures west { place_of (codes "-5:30 :America/Caracas") ≡ Ok (record { meridian = negsuc 329; zone = codes "America/Caracas" }) }
-    ensures half_hour_west { place_of (codes "-0:30 ::") ≡ Ok (record { meridian = negsuc 29; zone = codes ":" }) }
-    ensures no_minute { place_of (codes "0:5") ≡ Err Why.BadMeridian }
+    ensures west { local_time_of (codes "-5:30 :America/Caracas") ≡ Ok (record { meridian = negsuc 329; zone = codes "America/Caracas" }) }
+    ensures half_hour_west { local_time_of (codes "-0:30 ::") ≡ Ok (record { meridian = negsuc 29; zone = codes ":" }) }
+    ensures no_minute { local_time_of (codes "0:5") ≡ Err Why.BadMeridian }
     ensures absent { pair_of (codes "S2") (codes "x 1 2") ≡ Ok (pos 0, pos 0) }
 {}
 
@@ -32,4 +33,24 @@ pub fn worked_files()
     ensures changed { map (λ c. book_of (pier_with c)) changes ≡ map (λ c. Err (record { line = c.at; why = c.why })) changes }
     ensures empty { book_of [] ≡ Err (record { line = 1; why = Why.CutShort }) }
     ensures too_fine { book_of (codes "# a comment\n1\n\nS2 30.00000001\r\n") ≡ Err (record { line = 4; why = Why.TooFine }) }
+{}
+
+/// What the bytes of a file so far say, as they come.
+pub fn worked_pieces()
+    ensures begun { fault_so_far (codes "# Pier test\n1") ≡ None }
+    ensures one_byte { pending_length (codes "# Pier test\n1") ≡ 1 }
+    ensures not_ended { fault_so_far (codes "#\n1\nS2 30,0\r") ≡ None }
+    ensures bad { fault_so_far (codes "#\n1\nS2 30,0\r\n1999") ≡ Some (record { line = 3; why = Why.BadNumber }) }
+    ensures with_its_cr { pending_length (codes "1\r") ≡ 2 }
+    ensures in_comment { pending_length (codes "1\n# 2") ≡ 0 }
+    ensures long { fault_so_far (replicate 4096 32) ≡ None }
+    ensures too_long { fault_so_far (replicate 4097 32) ≡ Some (record { line = 1; why = Why.LineTooLong }) }
+    ensures long_comment { fault_so_far (35 ∷ replicate 4097 32) ≡ None }
+    ensures complete { fault_so_far (file_of pier_lines) ≡ None }
+{}
+
+/// The fault that a file's bytes so far have is the file's, however it goes on, and a bad line is told as soon as it has ended.
+pub fn first_faults()
+    ensures stand { (bytes more : List ℕ) (fault : At) → fault_so_far bytes ≡ Some fault → book_of (bytes ++ more) ≡ Err fault }
+    ensures told { (bytes : List ℕ) (fault : At) → book_of bytes ≡ Err fault → fault.line ≤ length (ended_lines bytes) → fault_so_far bytes ≡ Some fault }
 {}

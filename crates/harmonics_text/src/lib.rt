@@ -6,24 +6,29 @@
 #![tactic(auto)]
 
 mod book;
+mod book_reader;
 mod column;
 mod draft;
 mod fault;
 mod heading;
+mod history;
 mod laws;
 mod lines;
 mod lists;
+mod local_time;
 mod names;
 mod numbers;
-mod place;
+mod pending;
+mod progress;
 mod reading;
 mod record;
 mod scale;
 mod table;
 
 pub use book::{Book, Constituent, Station, Units};
+pub use book_reader::BookReader;
 pub use fault::{BookFault, Why};
-pub use laws::{worked_files, worked_lines};
+pub use laws::{first_faults, worked_files, worked_lines, worked_pieces};
 pub use lists::{Constituents, Stations};
 pub use reading::read_book;
 

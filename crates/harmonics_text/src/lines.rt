@@ -1,9 +1,10 @@
 //! Lines of a file and tokens of a line.
 
-ghost use Rattle.std.specs.Prelude.{◌≡◌, ◌<◌, ◌∷◌, [], length, MatchOption, IfSome, position, option_map};
+ghost use Rattle.std.specs.Prelude.{◌≡◌, ◌<◌, ◌∷◌, ◌++◌, [], length, false, MatchOption, IfSome, position, option_map};
 ghost use Rattle.std.specs.List.{list_all};
 ghost use Rattle.std.specs.Option.{option_copied};
-ghost use Rattle.harmonics_text.specs.Lines.{cut, is_lf, is_blank, is_visible, is_comment, is_too_long, without_cr, tokens, only, only_two, trimmed, without_blank_end};
+ghost use Rattle.harmonics_text.specs.Workings.Readers.{has_lf};
+ghost use Rattle.harmonics_text.specs.Lines.{is_lf, is_blank, is_visible, is_comment, is_too_long, without_cr, tokens, only, only_two, trimmed, without_blank_end};
 
 fn lf_at(bytes: &[u8]) -> Option<usize>
     ensures { result ≡ position is_lf bytes.now }
@@ -11,22 +12,14 @@ fn lf_at(bytes: &[u8]) -> Option<usize>
     bytes.iter().position(|b| *b == b'\n')
 }
 
-/// The first line without its LF, and what follows it. There is none where no byte is left.
+/// The first line that ends, without its LF, and what follows it.
 pub fn next_line(bytes: &[u8]) -> Option<(&[u8], &[u8])>
     ensures shorter { IfSome result (λ r. length r.1.now < length bytes.now) }
-    ensures exact { MatchOption result (bytes.now ≡ []) (λ r. cut bytes.now ≡ r.0.now ∷ cut r.1.now) }
+    ensures exact { MatchOption result (has_lf bytes.now ≡ false) (λ r. (bytes.now ≡ r.0.now ++ 10 ∷ r.1.now) × (has_lf r.0.now ≡ false)) }
 {
-    if bytes.is_empty() {
-        return None;
-    }
-    match lf_at(bytes) {
-        None => Some((bytes, &[])),
-        Some(end) => {
-            let (line, rest) = bytes.split_at(end);
-            let (_, rest) = rest.split_at(1);
-            Some((line, rest))
-        }
-    }
+    let end = lf_at(bytes)?;
+    let (line, rest) = bytes.split_at(end);
+    Some((line, rest.split_at(1).1))
 }
 
 /// Whether the line is a comment.

@@ -3,22 +3,11 @@
 ghost use Rattle.std.specs.Prelude.{◌≡◌, ◌≤◌, length, IfOk};
 ghost use Rattle.harmonics_text.specs.Books.{IsBook};
 ghost use Rattle.harmonics_text.specs.Reading.{GivesBook, book_of};
-ghost use Rattle.harmonics_text.specs.Drafts.{placed};
 
 use crate::book::Book;
-use crate::draft::Draft;
-use crate::fault::{BookFault, LineFault, Why};
-use crate::lines::next_line;
+use crate::book_reader::BookReader;
+use crate::fault::BookFault;
 use std::alloc::Global;
-
-fn at_line(line: u32, fault: LineFault) -> BookFault
-    ensures { result ≡ placed line fault }
-{
-    match fault {
-        LineFault::NoMemory => BookFault::NoMemory,
-        LineFault::Bad(why) => BookFault::At { line, why },
-    }
-}
 
 /// The book of a file of harmonic constants, or its first fault.
 ///
@@ -34,22 +23,7 @@ pub fn read_book(alloc: Global, bytes: &[u8]) -> Result<Book, BookFault>
     ensures exact { GivesBook result (book_of bytes.now) }
     ensures sound { IfOk result IsBook }
 {
-    let mut draft = Draft::Count;
-    let mut rest = bytes;
-    let mut number = 1u32;
-    while let Some((line, after)) = next_line(rest) {
-        match draft.after_line(alloc, line) {
-            Ok(next) => draft = next,
-            Err(fault) => return Err(at_line(number, fault)),
-        }
-        number += 1;
-        rest = after;
-    }
-    match draft.into_book() {
-        Some(book) => Ok(book),
-        None => Err(BookFault::At {
-            line: number,
-            why: Why::CutShort,
-        }),
-    }
+    let mut reader = BookReader::new(alloc)?;
+    reader.feed(bytes)?;
+    reader.finish()
 }

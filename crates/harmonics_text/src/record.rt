@@ -2,16 +2,16 @@
 
 ghost use Rattle.std.specs.Prelude.{◌≡◌, pos, if◌then◌else◌};
 ghost use Rattle.harmonics_text.specs.Rules.{units_of, datum_of, pair_of};
-ghost use Rattle.harmonics_text.specs.Drafts.{station_of};
+ghost use Rattle.harmonics_text.specs.Workings.Drafts.{station_of};
 
 use crate::book::{Station, Units};
 use crate::column::Column;
 use crate::fault::Why;
 use crate::heading::is_absent;
 use crate::lines::{next_token, only_two_tokens};
+use crate::local_time::LocalTime;
 use crate::names::is_name;
 use crate::numbers::number;
-use crate::place::Place;
 use crate::scale::Scale;
 use decimal_text::Text;
 
@@ -19,7 +19,7 @@ use decimal_text::Text;
 #[derive(Drop)]
 pub struct Constants {
     pub name: Text,
-    pub place: Place,
+    pub local_time: LocalTime,
     pub datum: i64,
     pub units: Units,
     pub amplitude: Column,
@@ -31,7 +31,7 @@ pub struct Constants {
 pub enum Record {
     Nothing,
     Name(Text),
-    Place(Text, Place),
+    LocalTime(Text, LocalTime),
     Constants(Constants),
 }
 
@@ -41,13 +41,13 @@ pub fn into_station(constants: Constants) -> Station
 {
     let Constants {
         name,
-        place,
+        local_time,
         datum,
         units,
         amplitude,
         epoch,
     } = constants;
-    let Place { meridian, zone } = place;
+    let LocalTime { meridian, zone } = local_time;
     Station {
         name,
         meridian,

@@ -2,7 +2,7 @@
 
 ghost use Rattle.std.specs.Prelude.{◌≡◌, ◌<◌, ◌≤◌, length};
 ghost use Rattle.harmonics_text.specs.Rules.{named};
-ghost use Rattle.harmonics_text.specs.Drafts.{Gives, at_place, pushed, new_table, after_values, after_name, after_table_line};
+ghost use Rattle.harmonics_text.specs.Workings.Drafts.{Gives, at_place, pushed, new_table, after_values, after_name, after_table_line};
 
 use crate::column::Column;
 use crate::fault::{LineFault, Why};
@@ -36,7 +36,7 @@ pub fn start_table(alloc: Global) -> Table
 }
 
 /// Adds the number of a token.
-#[tactic(auto, unfolding(crate::specs::Drafts::pushed))]
+#[tactic(auto, unfolding(crate::specs::Workings::Drafts::pushed))]
 fn push_number(values: &mut Column, scale: Scale, token: &[u8]) -> Result<(), LineFault>
     ensures { Gives (λ _. values.new) result (pushed scale values.old token.now) }
 {
@@ -53,7 +53,7 @@ fn next_place(left: u32, place: usize) -> usize
 }
 
 /// The values of a line.
-#[tactic(auto, unfolding(crate::specs::Drafts::after_values))]
+#[tactic(auto, unfolding(crate::specs::Workings::Drafts::after_values))]
 fn with_values(table: Table, scale: Scale, text: &[u8]) -> Result<Table, LineFault>
     requires { table.place < 500 }
     ensures { Gives (λ t. t) result (after_values scale table text.now) }
@@ -92,7 +92,7 @@ fn check_name(name: &Text, text: &[u8]) -> Result<(), Why>
 }
 
 /// The next line of a table that is not complete.
-#[tactic(auto, unfolding(crate::specs::Drafts::after_table_line, crate::specs::Drafts::after_name))]
+#[tactic(auto, unfolding(crate::specs::Workings::Drafts::after_table_line, crate::specs::Workings::Drafts::after_name))]
 pub fn with_line(
     table: Table,
     heading: &Heading,

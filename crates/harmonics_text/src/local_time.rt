@@ -2,8 +2,8 @@
 
 ghost use Rattle.std.specs.Prelude.{◌≡◌, ◌≤◌, IfSome, position, encode_utf8_all};
 ghost use Rattle.std.specs.List.{list_all};
-ghost use Rattle.harmonics_text.specs.Rules.{is_colon, two_digits_of, minutes_of, clock_of, meridian_of, is_zone_byte, zone_of, place_of};
-ghost use Rattle.harmonics_text.specs.Drafts.{Gives};
+ghost use Rattle.harmonics_text.specs.Rules.{is_colon, two_digits_of, minutes_of, clock_of, meridian_of, is_zone_byte, zone_of, local_time_of};
+ghost use Rattle.harmonics_text.specs.Workings.Drafts.{Gives};
 
 use crate::fault::{LineFault, Why};
 use crate::lines::next_token;
@@ -14,7 +14,7 @@ use std::alloc::Global;
 
 /// Where a station's clock stands.
 #[derive(Drop)]
-pub struct Place {
+pub struct LocalTime {
     /// In minutes east of Greenwich.
     pub meridian: i32,
     pub zone: Text,
@@ -105,16 +105,16 @@ fn zone_name(alloc: Global, token: &[u8]) -> Result<Text, LineFault>
 }
 
 /// The meridian and the zone of a line.
-#[tactic(auto, unfolding(crate::specs::Rules::place_of, crate::specs::Rules::place_from))]
-pub fn place_of_line(alloc: Global, text: &[u8]) -> Result<Place, LineFault>
-    ensures { Gives (λ p. p) result (place_of text.now) }
+#[tactic(auto, unfolding(crate::specs::Rules::local_time_of, crate::specs::Rules::local_time_from))]
+pub fn local_time_of_line(alloc: Global, text: &[u8]) -> Result<LocalTime, LineFault>
+    ensures { Gives (λ p. p) result (local_time_of text.now) }
 {
     let Some((first, rest)) = next_token(text) else {
         return Err(LineFault::Bad(Why::BadMeridian));
     };
     let Some((second, rest)) = next_token(rest) else {
         let meridian = meridian_minutes(first)?;
-        return Ok(Place {
+        return Ok(LocalTime {
             meridian,
             zone: Text::empty(alloc),
         });
@@ -124,5 +124,5 @@ pub fn place_of_line(alloc: Global, text: &[u8]) -> Result<Place, LineFault>
     }
     let meridian = meridian_minutes(first)?;
     let zone = zone_name(alloc, second)?;
-    Ok(Place { meridian, zone })
+    Ok(LocalTime { meridian, zone })
 }

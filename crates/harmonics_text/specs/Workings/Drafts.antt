@@ -1,5 +1,5 @@
 -- The inner account of reading line by line: what holds of a draft, and the draft after one more line. It is proved to give
--- the book of Reading.antt, and no public clause cites it (this project).
+-- the book of Reading.antt (this project).
 use Rattle.std.specs.Prelude.{[], ◌∷◌, ◌++◌, ◌-◌, ◌==◌, nat_lt, nat_le, if◌then◌else◌, Option, Some, None, Result, Ok, Err, slice_index_or, ◌≡◌, ℕ, ℤ, pos, negsuc, ◌+◌, ◌*◌, ◌<◌, ◌≤◌, List, length, All}
 use Rattle.harmonics_text.specs.declared.book.Constituent.{Constituent}
 use Rattle.harmonics_text.specs.declared.book.Station.{Station}
@@ -20,7 +20,8 @@ use Rattle.harmonics_text.specs.declared.fault.LineFault.TheVariants.{NoMemory, 
 use Rattle.harmonics_text.specs.declared.scale.Scale.{Scale}
 use Rattle.harmonics_text.specs.declared.scale.Scale.TheVariants.{Angle, Factor}
 use Rattle.harmonics_text.specs.Lines.{tokens, is_comment, is_too_long, is_blank, without_cr}
-use Rattle.harmonics_text.specs.Rules.{◌>>=◌, count_of, constituent_of, first_year_of, named, number_of, values_from, end_of, same_count_of, station_name_of, place_of, datum_of, pair_of}
+use Rattle.decimal_text.specs.Expected.{◌>>=◌}
+use Rattle.harmonics_text.specs.Rules.{count_of, constituent_of, first_year_of, named, number_of, values_from, end_of, same_count_of, station_name_of, local_time_of, datum_of, pair_of}
 use Rattle.std.specs.List.{list_all}
 use Rattle.harmonics_text.specs.Books.{IsWithin, IsName, IsConstituent, IsBook}
 
@@ -51,7 +52,7 @@ pub record IsTable (least most : ℤ) (count years : ℕ) (t : Table) : Type 0 w
 -- the constants of some of so many constituents, but not all
 pub record AreConstants (count : ℕ) (c : Constants) : Type 0 where
   pub name : IsName 200 c.name
-  pub meridian : IsWithin (negsuc 958) (pos 959) c.place.meridian
+  pub meridian : IsWithin (negsuc 958) (pos 959) c.local_time.meridian
   pub datum : IsWithin (negsuc 9999999999) (pos 10000000000) c.datum
   pub some_left : length c.amplitude < count
   pub both : length c.epoch ≡ length c.amplitude
@@ -59,13 +60,13 @@ pub record AreConstants (count : ℕ) (c : Constants) : Type 0 where
   pub epoch : All (IsWithin (negsuc 7199999999) (pos 7200000000)) c.epoch
 
 abbrev pub station_of : Constants → Station
-station_of c = record { name = c.name; meridian = c.place.meridian; zone = c.place.zone; datum = c.datum; units = c.units; amplitude = c.amplitude; epoch = c.epoch }
+station_of c = record { name = c.name; meridian = c.local_time.meridian; zone = c.local_time.zone; datum = c.datum; units = c.units; amplitude = c.amplitude; epoch = c.epoch }
 
 -- room for one more station, where one is being read
 abbrev pub IsRecord : Book → Record → Type 0
 IsRecord b records.Nothing = Unit {0}
 IsRecord b (records.Name n) = (length b.stations < 20000) × IsName 200 n
-IsRecord b (records.Place n p) = (length b.stations < 20000) × IsName 200 n × IsWithin (negsuc 958) (pos 959) p.meridian
+IsRecord b (records.LocalTime n p) = (length b.stations < 20000) × IsName 200 n × IsWithin (negsuc 958) (pos 959) p.meridian
 IsRecord b (records.Constants c) = (length b.stations < 20000) × AreConstants (length b.constituents) c
 
 abbrev pub IsAngles : Heading → List ℤ → Type 0
@@ -169,8 +170,8 @@ after_pair b c text =
 
 unfoldable pub after_record : Book → Record → List ℕ → Result Draft Why
 after_record b records.Nothing text = after_nothing b text
-after_record b (records.Name name) text = place_of text >>= λ place. Ok (drafts.Stations b (records.Place name place))
-after_record b (records.Place name place) text = datum_of text >>= λ d. Ok (drafts.Stations b (records.Constants (record { name = name; place = place; datum = d.0; units = d.1; amplitude = []; epoch = [] })))
+after_record b (records.Name name) text = local_time_of text >>= λ t. Ok (drafts.Stations b (records.LocalTime name t))
+after_record b (records.LocalTime name local_time) text = datum_of text >>= λ d. Ok (drafts.Stations b (records.Constants (record { name = name; local_time = local_time; datum = d.0; units = d.1; amplitude = []; epoch = [] })))
 after_record b (records.Constants c) text = after_pair b c text
 
 unfoldable pub after_text : Draft → List ℕ → Result Draft Why
@@ -196,7 +197,7 @@ after_line d line =
 abbrev pub book_at : Book → Record → Option Book
 book_at b records.Nothing = Some b
 book_at b (records.Name n) = None
-book_at b (records.Place n p) = None
+book_at b (records.LocalTime n p) = None
 book_at b (records.Constants c) = None
 
 -- the book of a draft whose last part is complete

@@ -1,6 +1,6 @@
 use Rattle.std.proofs.Common.{sym}
 use Rattle.harmonics_text.proofs.Cutting.{clock_is}
-use Rattle.harmonics_text.proofs.place.clock_minutes.Goals as goal
+use Rattle.harmonics_text.proofs.local_time.clock_minutes.Goals as goal
 
 pub returns-clause-exact : goal.returns-clause-exact
 returns-clause-exact c =

@@ -1,0 +1,120 @@
+//! A file of harmonic constants that comes in pieces.
+
+ghost use Rattle.std.specs.Prelude.{◌≡◌, ◌+◌, ◌^◌, ◌++◌, ◌<◌, ◌≤◌, [], length, if◌then◌else◌, is_none, IfOk, IfSome, None};
+ghost use Rattle.std.specs.Result.{ForOk, result_err};
+ghost use Rattle.harmonics_text.specs.Books.{IsBook};
+ghost use Rattle.harmonics_text.specs.Reading.{GivesBook, book_of};
+ghost use Rattle.harmonics_text.specs.Pieces.{GivesFault, fault_so_far, pending_length};
+ghost use Rattle.harmonics_text.specs.Workings.Readers.{IsProgress, ReadsOn};
+
+use crate::book::Book;
+use crate::fault::BookFault;
+use crate::history::History;
+use crate::progress::Progress;
+use std::alloc::{AllocError, Global};
+use std::marker::Model;
+use std::mem;
+
+/// Reads a file in pieces, which may be cut anywhere, within a comment or before a line's last byte
+/// too. It keeps no bytes but those of the line that has not ended, which are at most 4,096.
+///
+/// Contracts see it as the bytes that it was fed and the fault that it answered, if one was. All
+/// pieces together have at most 400,000,000 bytes.
+#[derive(Drop)]
+pub struct BookReader {
+    alloc: Global,
+    /// How far the file is read, or the fault that was answered.
+    progress: Result<Progress, BookFault>,
+    history: History,
+}
+
+impl Model for BookReader {
+    ghost use Rattle.std.specs.Result.{result_err};
+    ghost use Rattle.harmonics_text.specs.Pieces.{Fed};
+    ghost use Rattle.harmonics_text.specs.Workings.Readers.{IsReader};
+
+    ghost Value = { Fed };
+
+    ghost view = { λ r. record { bytes = r.history.bytes; fault = result_err r.progress } };
+
+    ghost invariant = { λ r. IsReader r.progress r.history.bytes };
+}
+
+impl BookReader {
+    /// A reader that was fed nothing.
+    pub fn new(alloc: Global) -> Result<BookReader, AllocError>
+        ensures { IfOk result (λ r. r ≡ record { bytes = []; fault = None }) }
+    {
+        Ok(BookReader {
+            alloc,
+            progress: Ok(Progress::new(alloc)?),
+            history: History::new(),
+        })
+    }
+
+    /// Reads a piece more.
+    ///
+    /// `At` names the first line that is bad, as soon as its last byte has come, or more bytes of it
+    /// than a line may have. A fault stays: each later call answers it again.
+    pub fn feed(&mut self, piece: &[u8]) -> Result<(), BookFault>
+        requires { length self.old.bytes + length piece.now ≤ 400000000 }
+        ensures fed { self.new.bytes ≡ self.old.bytes ++ piece.now }
+        ensures fault { self.new.fault ≡ result_err result }
+        ensures exact { GivesFault result (fault_so_far self.new.bytes) }
+        ensures again { IfSome self.old.fault (λ fault. result ≡ Err fault) }
+    {
+        self.history = self.history.then(piece);
+        let before = mem::replace(&mut self.progress, Err(BookFault::NoMemory));
+        self.progress = read_on(before, self.alloc, piece);
+        answered(&self.progress)
+    }
+
+    /// The book of all bytes that it was fed, or their first fault.
+    pub fn finish(self) -> Result<Book, BookFault>
+        ensures exact { GivesBook result (book_of self.bytes) }
+        ensures again { IfSome self.fault (λ fault. result ≡ Err fault) }
+        ensures sound { IfOk result IsBook }
+    {
+        let BookReader {
+            alloc,
+            progress,
+            history: _,
+        } = self;
+        progress?.into_book(alloc)
+    }
+
+    /// How many bytes the line that has not ended has so far: at most 4,096, and 0 within a comment
+    /// or after a fault.
+    pub fn pending(&self) -> u32
+        ensures exact { result ≡ (if is_none self.now.fault then pending_length self.now.bytes else 0) }
+        ensures few { result ≤ 4096 }
+    {
+        match &self.progress {
+            Ok(progress) => progress.pending.count(),
+            Err(_) => 0,
+        }
+    }
+}
+
+/// What is kept after a piece more. A fault stays.
+fn read_on(
+    before: Result<Progress, BookFault>,
+    alloc: Global,
+    piece: &[u8],
+) -> Result<Progress, BookFault>
+    requires sound { ForOk before IsProgress }
+    requires few { ForOk before (λ p. p.number + length piece.now < 2 ^ 32) }
+    ensures { ReadsOn before piece.now result }
+{
+    before?.after_piece(alloc, piece)
+}
+
+/// The fault that is kept.
+fn answered(progress: &Result<Progress, BookFault>) -> Result<(), BookFault>
+    ensures { result_err result ≡ result_err progress.now }
+{
+    match progress {
+        Ok(_) => Ok(()),
+        Err(fault) => Err(*fault),
+    }
+}
