@@ -2,3 +2,4 @@ pub mod WeightLemmas
 pub mod YearLemmas
 pub mod PlaceLemmas
 pub mod PlainLemmas
+pub mod StretchLemmas

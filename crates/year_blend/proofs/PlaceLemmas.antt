@@ -11,10 +11,10 @@ use Rattle.year_blend.specs.Years.{year_start_of}
 use Rattle.year_blend.specs.Places.{AreYears, InDomain, IsInBlend, IsInYear, IsPlaceOf, start_of, year_at, place_in, place_of}
 use Rattle.year_blend.proofs.YearLemmas.{year_start_of-later, year_start_of_mono, year_start_of_low, year_start_of_high, young_day, old_day}
 
-le_test : (a b : ℤ) → a ≤ℤ b → int_le a b ≡ true
+pub le_test : (a b : ℤ) → a ≤ℤ b → int_le a b ≡ true
 le_test a b h = grind (arith, ints)
 
-lt_test : (a b : ℤ) → b <ℤ a → int_le a b ≡ false
+pub lt_test : (a b : ℤ) → b <ℤ a → int_le a b ≡ false
 lt_test a b h = grind (arith, ints)
 
 year_at-begun : (first_year : ℤ) (n : ℕ) (m : ℤ) → start_of first_year n ≤ℤ m → year_at first_year (suc n) m ≡ n

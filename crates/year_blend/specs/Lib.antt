@@ -1,3 +1,4 @@
 pub mod Years
 pub mod Places
+pub mod Stretches
 pub mod Weights

@@ -1,11 +1,13 @@
 //! What holds of all years and of every minute.
 
-ghost use Rattle.std.specs.Prelude.{◌≡◌, ℕ, ◌+◌, ◌*◌, ◌<◌, ◌≤◌, ℤ, pos, negsuc, ◌+ℤ◌, ◌-ℤ◌, ◌≤ℤ◌, ◌⊎◌, unsigned_abs};
+ghost use Rattle.std.specs.Prelude.{◌≡◌, ℕ, ◌+◌, ◌*◌, ◌<◌, ◌≤◌, ℤ, pos, negsuc, ◌+ℤ◌, ◌-ℤ◌, ◌≤ℤ◌, ◌<ℤ◌, ◌⊎◌, unsigned_abs};
 ghost use Rattle.year_blend.specs.declared.parts.Place.{Place};
 ghost use Rattle.year_blend.specs.declared.parts.Place.TheVariants.{Plain};
 ghost use Rattle.year_blend.specs.Years.{year_start_of, IsYearInReach};
 ghost use Rattle.year_blend.specs.Places.{AreYears, InDomain, IsPlaceOf, place_of, plain_end_of};
-ghost use Rattle.year_blend.specs.Weights.{weight_of, weight_slope_of, total_weight};
+ghost use Rattle.year_blend.specs.declared.parts.Stretch.{Stretch};
+ghost use Rattle.year_blend.specs.Stretches.{IsStretchOf, stretch_of};
+ghost use Rattle.year_blend.specs.Weights.{weight_of, weight_slope_of, total_weight, IsNearNewYear};
 
 /// Starts ascend by a year of 365 or 366 days, from that of the year 2 to that of the year 9300.
 pub fn year_lengths()
@@ -33,6 +35,23 @@ pub fn plain_parts()
         → place_of first_year years m ≡ Plain year → m ≤ℤ plain_end_of first_year years year }
 {}
 
+/// At most 1,024 minutes of the domain lie in exactly one stretch.
+pub fn unique_stretches()
+    ensures some { (first_year : ℤ) (years : ℕ) (m : ℤ) (n : ℕ) → AreYears first_year years → InDomain first_year years m
+        → InDomain first_year years (m +ℤ pos n) → n ≤ 1024 → IsStretchOf first_year years m n (stretch_of first_year years m n) }
+    ensures one { (first_year : ℤ) (years : ℕ) (m : ℤ) (n : ℕ) → AreYears first_year years → InDomain first_year years m
+        → InDomain first_year years (m +ℤ pos n) → n ≤ 1024
+        → (s : Stretch) → IsStretchOf first_year years m n s → s ≡ stretch_of first_year years m n }
+{}
+
+/// Sizes of the weight and of its slope over the blend, and how much each changes in a minute of it.
+pub fn weight_steps()
+    ensures weight { (x : ℤ) → IsNearNewYear x → (pos 0 ≤ℤ weight_of x) × (weight_of x ≤ℤ pos total_weight) }
+    ensures slope { (x : ℤ) → IsNearNewYear x → (pos 0 ≤ℤ weight_slope_of x) × (weight_slope_of x ≤ℤ pos 64800000) }
+    ensures weight_step { (x : ℤ) → IsNearNewYear x → x <ℤ pos 60 → unsigned_abs (weight_of (x +ℤ pos 1) -ℤ weight_of x) ≤ 64800000 }
+    ensures slope_step { (x : ℤ) → IsNearNewYear x → x <ℤ pos 60 → unsigned_abs (weight_slope_of (x +ℤ pos 1) -ℤ weight_slope_of x) ≤ 1663000 }
+{}
+
 /// Where minutes are among the three years from 1999 on: at both ends of them, and round a new year.
 #[tactic(auto, unfolding(crate::specs::Places::place_of, crate::specs::Places::place_in, crate::specs::Places::year_at, crate::specs::Years::year_start_of, jiff_core::specs::Calendar::days_from_civil, jiff_core::specs::Calendar::day_count, jiff_core::specs::Calendar::days_of_years, jiff_core::specs::Calendar::days_of_months))]
 pub fn worked_places()
@@ -43,6 +62,18 @@ pub fn worked_places()
     ensures last_blended { place_of (pos 1999) 3 (pos 15778139) ≡ Place.Blend 1 (pos 59) }
     ensures hour_after { place_of (pos 1999) 3 (pos 15778140) ≡ Place.Plain 1 }
     ensures last { place_of (pos 1999) 3 (pos 16830720) ≡ Place.Plain 2 }
+{}
+
+/// Where hours among the same years lie: up to the plain part's end, past it, beside a blend, over it
+/// and in it, and up to the domain's last minute.
+#[tactic(auto, unfolding(crate::specs::Stretches::stretch_of, crate::specs::Places::plain_end_of, crate::specs::Places::place_of, crate::specs::Places::place_in, crate::specs::Places::year_at, crate::specs::Years::year_start_of, jiff_core::specs::Calendar::days_from_civil, jiff_core::specs::Calendar::day_count, jiff_core::specs::Calendar::days_of_years, jiff_core::specs::Calendar::days_of_months))]
+pub fn worked_stretches()
+    ensures up_to_the_end { stretch_of (pos 1999) 3 (pos 15776996) 1024 ≡ Stretch.Within 0 }
+    ensures past_the_end { stretch_of (pos 1999) 3 (pos 15776997) 1024 ≡ Stretch.Across 1 }
+    ensures over_the_blend { stretch_of (pos 1999) 3 (pos 15777600) 1000 ≡ Stretch.Across 1 }
+    ensures last_blended { stretch_of (pos 1999) 3 (pos 15778139) 1 ≡ Stretch.Across 1 }
+    ensures after_the_blend { stretch_of (pos 1999) 3 (pos 15778140) 1024 ≡ Stretch.Within 1 }
+    ensures up_to_the_last { stretch_of (pos 1999) 3 (pos 16829696) 1024 ≡ Stretch.Within 2 }
 {}
 
 /// Values of the definitions at arguments of their own.

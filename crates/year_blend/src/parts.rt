@@ -9,3 +9,13 @@ pub enum Place {
     /// `-60 < x < 60`.
     Blend { year: u32, x: i64 },
 }
+
+/// Where the minutes from one to another lie, both included. A year is counted from 0.
+#[derive(Clone, Copy, Debug, PartialEq, Eq)]
+pub enum Stretch {
+    /// All in the plain part of one year.
+    Within { year: u32 },
+    /// Some in the blend at the start of that year, the others in the plain parts of it and of the
+    /// year before.
+    Across { year: u32 },
+}

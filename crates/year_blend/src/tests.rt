@@ -40,6 +40,32 @@ fn places_of_minutes(rt: HostRuntime) {
 }
 
 #[test]
+fn stretches_of_minutes(rt: HostRuntime) {
+    let rows = [
+        (15_776_996, 1024, Stretch::Within { year: 0 }),
+        (15_776_997, 1024, Stretch::Across { year: 1 }),
+        (15_778_020, 0, Stretch::Within { year: 0 }),
+        (15_778_020, 1, Stretch::Across { year: 1 }),
+        (15_778_139, 1, Stretch::Across { year: 1 }),
+        (15_778_140, 1024, Stretch::Within { year: 1 }),
+        (16_305_059, 121, Stretch::Across { year: 2 }),
+        (16_829_696, 1024, Stretch::Within { year: 2 }),
+    ];
+    let first = year_start(1999);
+    let last = year_start(2002);
+    for (minute, n, want) in rows {
+        assert!(rt; n <= 1024);
+        assert!(rt; first <= minute);
+        assert!(rt; minute + i64::from(n) <= last);
+        assert_eq!(rt;
+            stretch(1999, 3, minute, n),
+            want,
+            "{n} minutes from {minute}"
+        );
+    }
+}
+
+#[test]
 fn ends_of_plain_parts(rt: HostRuntime) {
     let rows = [(0, 15_778_020), (1, 16_305_060), (2, 16_830_720)];
     for (year, want) in rows {
