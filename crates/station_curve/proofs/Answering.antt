@@ -6,7 +6,8 @@ use Rattle.harmonics_text.specs.declared.book.Station.{Station}
 use Rattle.harmonics_text.specs.declared.book.Book.{Book}
 use Rattle.station_curve.specs.declared.fault.CurveFault.{CurveFault}
 use Rattle.station_curve.specs.declared.fault.CurveFault.TheVariants.{Hydraulic, TooLarge, TooSteep, NoMemory}
-use Rattle.station_curve.specs.Curves.{first_fault, tide_of, is_hydraulic, curve_of, Gives}
+use Rattle.decimal_text.specs.Expected.{Gives}
+use Rattle.station_curve.specs.Curves.{first_fault, tide_of, is_hydraulic, curve_of, wants_memory}
 
 pub hydraulic_answer : (b : Book) (s : Station) → is_hydraulic s.units ≡ true → curve_of b s ≡ Err Hydraulic
 unfolding curve_of
@@ -20,7 +21,7 @@ fault_found : (b : Book) (s : Station) (fault : CurveFault) → is_hydraulic s.u
 unfolding curve_of
 fault_found b s fault h found = simp (h, found)
 
-pub fault_answer : (b : Book) (s : Station) (fault : CurveFault) → is_hydraulic s.units ≡ false → (fault ≡ NoMemory) ⊎ (first_fault b s b.years ≡ Some fault) → Gives (curve_of b s) (Err fault)
+pub fault_answer : (b : Book) (s : Station) (fault : CurveFault) → is_hydraulic s.units ≡ false → (fault ≡ NoMemory) ⊎ (first_fault b s b.years ≡ Some fault) → Gives wants_memory (curve_of b s) (Err fault)
 fault_answer b s NoMemory h why = tt
 fault_answer b s Hydraulic h (inl e) = cc
 fault_answer b s Hydraulic h (inr found) = fault_found b s Hydraulic h found

@@ -10,7 +10,7 @@ use Rattle.fixed_sine.specs.Circle.{circle}
 use Rattle.harmonics_text.specs.declared.book.Station.{Station}
 use Rattle.harmonics_text.specs.declared.book.Book.{Book}
 use Rattle.year_blend.specs.Places.{start_of}
-use Rattle.station_curve.specs.Limits.{IsNear}
+use Rattle.station_curve.specs.Workings.Nearness.{IsNear}
 use Rattle.station_curve.specs.Levels.{minutes_into}
 use Rattle.station_curve.specs.Schureman.{speed_of, angle_of, phase_of}
 use Rattle.station_curve.proofs.Products.{pos_abs}

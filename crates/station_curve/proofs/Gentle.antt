@@ -1,5 +1,5 @@
 -- The tide of a station within the limits.
-use Rattle.std.proofs.Common.{◌≡◌, ℕ, zero, suc, ◌+◌, ◌*◌, ◌<◌, ◌≤◌, Bool, true, false, List, [], ◌∷◌, length, get_or, Option, Some, None, ℤ, pos, inl, inr, refl, sym, ap, ◌∙◌, add-zero, arith}
+use Rattle.std.proofs.Common.{◌≡◌, ℕ, zero, suc, ◌+◌, ◌*◌, ◌^◌, ◌<◌, ◌≤◌, Bool, true, false, List, [], ◌∷◌, length, get_or, Option, Some, None, ℤ, pos, inl, inr, refl, sym, ap, ◌∙◌, add-zero, arith}
 use Rattle.std.specs.Prelude.{unsigned_abs, filter, map, fold, nat_eq, All}
 use Rattle.std.specs.Option.{option_or}
 use Rattle.std.proofs.lemmas.Bool.{eqb-true, cases_lt}
@@ -7,18 +7,22 @@ use Rattle.std.proofs.lemmas.Int.{ints}
 use Rattle.std.proofs.lemmas.List.{get_or-map, length-map}
 use Rattle.std.proofs.lemmas.List.Elements.{All-filter}
 use Rattle.std.proofs.lemmas.List.FromFn.{get_or-map-range_with_len, length-map-range_with_len}
+use Rattle.fixed_sine.specs.Rate.{step_of}
 use Rattle.harmonics_text.specs.declared.book.Station.{Station}
 use Rattle.harmonics_text.specs.declared.book.Book.{Book}
 use Rattle.harmonics_text.specs.Books.{IsBook, IsStation}
 use Rattle.station_curve.specs.declared.fault.CurveFault.{CurveFault}
 use Rattle.station_curve.specs.declared.years.Year.{Year}
-use Rattle.station_curve.specs.Waves.{Harmonic, amount_of, steepness_of}
-use Rattle.station_curve.specs.Limits.{IsGentle}
+use Rattle.station_curve.specs.Waves.{Harmonic, Tide, amount_of, steepness_of}
+use Rattle.station_curve.specs.Sums.{height_rate_of, fall_rate_of, near_of, far_of, sums_of}
+use Rattle.station_curve.specs.Limits.{IsGentle, AreGentle}
 use Rattle.station_curve.specs.Curves.{waves_of, is_present, year_fault, first_fault, tide_of}
-use Rattle.station_curve.specs.Prepared.{AreReady}
+use Rattle.station_curve.specs.Levels.{waves_in}
+use Rattle.station_curve.specs.Workings.Prepared.{AreReady}
 use Rattle.station_curve.proofs.Products.{abs_span}
 use Rattle.station_curve.proofs.BookValues.{speed_small}
 use Rattle.station_curve.proofs.WavesOf.{none_fault, length-waves_of, get_or-waves_of}
+use Rattle.station_curve.proofs.YearChanges.{near_bound, far_bound}
 
 -- a sum over the waves that are present is that over all, where absent ones add nothing
 with_first : {B : Type 0} (add : B → Harmonic → B) → ((a : B) (h : Harmonic) → h.amplitude ≡ pos 0 → add a h ≡ a) → (a : B) (h : Harmonic) (hs : List Harmonic) → ((x : B) → fold add x (filter is_present hs) ≡ fold add x hs) → (absent : Bool) → nat_eq (unsigned_abs h.amplitude) 0 ≡ absent → fold add a (filter is_present (h ∷ hs)) ≡ fold add a (h ∷ hs)
@@ -37,6 +41,15 @@ amount-present hs = fold-present (λ a h. a + unsigned_abs h.amplitude) (λ a h 
 
 pub steepness-present : (hs : List Harmonic) → steepness_of (filter is_present hs) ≡ steepness_of hs
 steepness-present hs = fold-present (λ a h. a + unsigned_abs h.amplitude * h.speed) (λ a h e. ap (λ z. a + unsigned_abs z * h.speed) e ∙ omega arith) 0 hs
+
+pub near-present : (hs : List Harmonic) → near_of (filter is_present hs) ≡ near_of hs
+near-present hs = fold-present (λ a h. a + height_rate_of h) (λ a h e. ap (λ z. a + unsigned_abs z * step_of h.speed) e ∙ omega arith) 0 hs
+
+pub far-present : (hs : List Harmonic) → far_of (filter is_present hs) ≡ far_of hs
+far-present hs = fold-present (λ a h. a + fall_rate_of h) (λ a h e. ap (λ z. a + unsigned_abs z * h.speed * step_of h.speed) e ∙ omega arith) 0 hs
+
+pub sums-present : (hs : List Harmonic) → sums_of (filter is_present hs) ≡ sums_of hs
+sums-present hs = simp (amount-present hs, steepness-present hs, near-present hs, far-present hs)
 
 -- no year before the last is beyond a limit
 both_none : (a b : Option CurveFault) → option_or a b ≡ None → (a ≡ None) × (b ≡ None)
@@ -84,6 +97,35 @@ gentle_tide b s book station none = record {
       let below : k < b.years = omega (arith, h, length-tide_of b s) in
       rw (waves_in-tide_of b s k d below) (All-filter is_present (λ h. h.speed ≤ 3600000000) (waves_of b s k) (slow b s k book));
 }
+
+-- the waves of a year of a tide within the limits, which are none beyond its years
+pub waves_small : (P : List Harmonic → Type 0) → P [] → (years : List (List Harmonic)) → All P years → (k : ℕ) → P (get_or years k [])
+waves_small P none years all k =
+    elim (cases_lt k (length years)) [
+      | inl inside ↦ all k [] inside
+      | inr past ↦ rw (get_or-past years k past) none
+    ]
+  where
+    get_or-past : (years : List (List Harmonic)) (k : ℕ) → length years ≤ k → get_or years k [] ≡ []
+    get_or-past [] k past = refl
+    get_or-past (y ∷ ys) zero past = absurd (omega (arith, past))
+    get_or-past (y ∷ ys) (suc k) past = get_or-past ys k (omega (arith, past))
+
+near_small : (near steep amount : ℕ) → 600000000 * near ≤ 17454000 * steep + 600000000 * amount → steep ≤ 10 ^ 17 → amount ≤ 10 ^ 9 → near ≤ 3 * 10 ^ 15
+near_small near steep amount bound flat small = omega arith
+
+pub gentle_sums : (tide : Tide) (year : ℕ) → IsGentle tide → AreGentle (sums_of (waves_in tide year))
+gentle_sums tide year gentle =
+    let hs = waves_in tide year in
+    let amount = waves_small (λ hs. amount_of hs ≤ 10 ^ 9) (omega arith) tide.years gentle.amounts year in
+    let steep = waves_small (λ hs. steepness_of hs ≤ 10 ^ 17) (omega arith) tide.years gentle.steepnesses year in
+    let quick = waves_small (All (λ h. h.speed ≤ 3600000000)) (λ k d h. absurd (omega (arith, h))) tide.years gentle.speeds year in
+    record {
+      amount = amount;
+      steep = steep;
+      near = near_small (near_of hs) (steepness_of hs) (amount_of hs) (near_bound hs) steep amount;
+      far = omega (arith, far_bound hs quick, steep);
+    }
 
 -- the tide that is kept
 same_list : (xs ys : List (List Harmonic)) → length xs ≡ length ys → ((k : ℕ) (d : List Harmonic) → k < length xs → get_or xs k d ≡ get_or ys k d) → xs ≡ ys

@@ -1,12 +1,19 @@
-mod Blending
+pub mod Blending
 mod BookValues
-mod Near
-mod Products
+pub mod Near
+pub mod Products
 mod Ready
 mod WavesOf
 mod ReadyYears
 mod Circling
-mod Gentle
+pub mod Gentle
 mod Predicting
 mod Answering
 mod Quiet
+pub mod Gaps
+pub mod YearChanges
+pub mod Steps
+pub mod NearNewYear
+pub mod CellSteps
+pub mod PlainSteps
+pub mod Ranges

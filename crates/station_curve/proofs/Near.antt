@@ -7,7 +7,7 @@ use Rattle.year_blend.specs.declared.parts.Place.TheVariants.{Plain, Blend}
 use Rattle.year_blend.specs.Places.{IsPlaceOf, IsInYear, IsInBlend, start_of}
 use Rattle.year_blend.specs.Weights.{IsNearNewYear}
 use Rattle.year_blend.proofs.YearLemmas.{year_length}
-use Rattle.station_curve.specs.Limits.{IsNear, IsNearPlace}
+use Rattle.station_curve.specs.Workings.Nearness.{IsNear, IsNearPlace}
 
 -- from one year's start to the next
 pub record IsStep (a b : ℤ) : Type 0 where

@@ -18,13 +18,14 @@ use Rattle.year_blend.specs.Places.{InDomain, place_of}
 use Rattle.year_blend.specs.Weights.{total_weight, weight_of, weight_slope_of}
 use Rattle.year_blend.proofs.PlaceLemmas.{place_of-rule}
 use Rattle.station_curve.specs.Waves.{Harmonic, phase_at, height_at, fall_at, heights_of, falls_of}
-use Rattle.station_curve.specs.Limits.{IsNear, IsNearPlace}
+use Rattle.station_curve.specs.Sums.{sums_of}
+use Rattle.station_curve.specs.Workings.Nearness.{IsNear, IsNearPlace}
 use Rattle.station_curve.specs.Levels.{minutes_into, blended, drift, year_level, year_slope, level_of, slope_of, millionths_of}
 use Rattle.station_curve.specs.Schureman.{constituents_of, amplitude_of, speed_of, phase_of, predicted_year_level, predicted_year_slope, predicted_level, predicted_slope, predicted_millionths}
 use Rattle.station_curve.specs.Curves.{wave_of, waves_of, is_present, tide_of, Predicts}
 use Rattle.station_curve.proofs.BookValues.{speed_pos}
 use Rattle.station_curve.proofs.Circling.{phase_onward}
-use Rattle.station_curve.proofs.Gentle.{fold-present, length-tide_of, waves_in-tide_of}
+use Rattle.station_curve.proofs.Gentle.{fold-present, sums-present, length-tide_of, waves_in-tide_of}
 use Rattle.station_curve.proofs.Near.{near_place}
 
 -- sums of equal terms
@@ -149,4 +150,5 @@ predicts_tide b s book = record {
   level = λ m h. level_same b s m book h;
   slope = λ m h. slope_same b s m book h;
   millionths = λ m h. ap (λ l. rounded_of l (total_weight * 10 ^ 9)) (level_same b s m book h);
+  sums = λ year below. ap sums_of (waves_in-tide_of b s year [] below) ∙ sums-present (waves_of b s year);
 }

@@ -1,96 +1,27 @@
 -- How much a slope changes in a minute, and for how long it keeps its side therefore.
-use Rattle.std.proofs.Common.{◌≡◌, ℕ, zero, suc, ◌+◌, ◌-◌, ◌*◌, ◌/◌, ◌%◌, ◌≤◌, min, max, List, [], ◌∷◌, length, true, false, ℤ, pos, negsuc, neg_ℤ, ◌+ℤ◌, ◌-ℤ◌, ◌*ℤ◌, ◌≤ℤ◌, ◌<ℤ◌, int_lt, refl, sym, ap, ◌∙◌, arith, lit<}
-use Rattle.std.specs.Prelude.{unsigned_abs, fold, sum_by}
+use Rattle.std.proofs.Common.{◌≡◌, ℕ, zero, suc, ◌+◌, ◌-◌, ◌*◌, ◌/◌, ◌≤◌, min, max, length, true, false, ℤ, pos, negsuc, ◌+ℤ◌, ◌-ℤ◌, ◌*ℤ◌, ◌≤ℤ◌, ◌<ℤ◌, int_lt, refl, sym, ap, ◌∙◌, arith}
+use Rattle.std.specs.Prelude.{unsigned_abs}
 use Rattle.std.proofs.lemmas.Bool.{false≢true}
-use Rattle.std.proofs.lemmas.Int.{ints, unsigned_abs-mul}
-use Rattle.std.proofs.lemmas.Nat.{mul-le, mod_below, div-add-mod'}
-use Rattle.fixed_sine.specs.Circle.{circle}
-use Rattle.fixed_sine.specs.Sine.{isin_of}
-use Rattle.fixed_sine.specs.Rate.{step_of}
-use Rattle.fixed_sine.proofs.RateLemmas.{rate_law}
+use Rattle.std.proofs.lemmas.Int.{ints}
+use Rattle.std.proofs.lemmas.Nat.{mul-le, div-add-mod'}
 use Rattle.year_blend.specs.declared.parts.Place.{Place}
 use Rattle.year_blend.specs.declared.parts.Place.TheVariants.{Plain, Blend}
-use Rattle.year_blend.specs.Places.{AreYears, InDomain, start_of, place_of, plain_end_of}
+use Rattle.year_blend.specs.Places.{AreYears, InDomain, place_of, plain_end_of}
 use Rattle.year_blend.specs.Weights.{total_weight}
 use Rattle.year_blend.proofs.PlaceLemmas.{place_of-rule, domain_small}
 use Rattle.year_blend.proofs.PlainLemmas.{plain_until, plain_rest}
-use Rattle.station_curve.specs.Waves.{Harmonic, Tide, phase_at, fall_at, falls_of}
-use Rattle.station_curve.specs.Limits.{IsNear}
-use Rattle.station_curve.specs.Levels.{minutes_into, waves_in, place_in_tide, year_slope, slope_of}
-use Rattle.station_curve.specs.Rates.{fall_rate_of, slope_rate_of, kept_for, quiet_in, quiet_minutes_of}
+use Rattle.station_curve.specs.Waves.{Tide}
+use Rattle.station_curve.specs.Workings.Nearness.{IsNear}
+use Rattle.station_curve.specs.Levels.{waves_in, place_in_tide, year_slope, slope_of}
+use Rattle.station_curve.specs.Sums.{far_of}
+use Rattle.station_curve.specs.Rates.{slope_rate_of, kept_for, quiet_in, quiet_minutes_of}
 use Rattle.station_curve.proofs.Blending.{slope_plain}
+use Rattle.station_curve.proofs.Gaps.{scaled_gap}
 use Rattle.station_curve.proofs.Near.{near_place}
 use Rattle.station_curve.proofs.Products.{abs_plus}
-
--- products with numbers that are near each other
-gap_times : (x : ℕ) (b c : ℤ) (m : ℕ) → unsigned_abs (b -ℤ c) ≤ m → unsigned_abs ((pos x *ℤ b) -ℤ (pos x *ℤ c)) ≤ x * m
-gap_times x (pos p) (pos q) m near =
-    let up = mul-le x p x (q + m) (omega arith) (omega (arith, ints)) in
-    let down = mul-le x q x (p + m) (omega arith) (omega (arith, ints)) in
-    omega (arith, ints, up, down)
-gap_times x (pos p) (negsuc q) m near =
-    let sum = mul-le x (p + suc q) x m (omega arith) (omega (arith, ints)) in
-    omega (arith, ints, sum)
-gap_times x (negsuc p) (pos q) m near =
-    let sum = mul-le x (q + suc p) x m (omega arith) (omega (arith, ints)) in
-    omega (arith, ints, sum)
-gap_times x (negsuc p) (negsuc q) m near =
-    let up = mul-le x (suc p) x (suc q + m) (omega arith) (omega (arith, ints)) in
-    let down = mul-le x (suc q) x (suc p + m) (omega arith) (omega (arith, ints)) in
-    omega (arith, ints, up, down)
-
-turned : (x : ℕ) (b : ℤ) → negsuc x *ℤ b ≡ neg_ℤ (pos (suc x) *ℤ b)
-turned x (pos p) = omega (arith, ints)
-turned x (negsuc p) = omega (arith, ints)
-
-turned_gap : (y z : ℤ) (m : ℕ) → unsigned_abs (y -ℤ z) ≤ m → unsigned_abs (neg_ℤ y -ℤ neg_ℤ z) ≤ m
-turned_gap y z m near = omega (arith, ints, near)
-
-scaled_gap : (a b c : ℤ) (m : ℕ) → unsigned_abs (b -ℤ c) ≤ m → unsigned_abs ((a *ℤ b) -ℤ (a *ℤ c)) ≤ unsigned_abs a * m
-scaled_gap (pos x) b c m near = gap_times x b c m near
-scaled_gap (negsuc x) b c m near =
-    rw (turned x b, turned x c) (turned_gap (pos (suc x) *ℤ b) (pos (suc x) *ℤ c) (suc x * m) (gap_times (suc x) b c m near))
-
--- one wave, a minute later
-onward : (n w : ℕ) → (n + w) % circle ≡ (n % circle + w) % circle
-onward n w = omega arith
-
-phase_onward : (h : Harmonic) (t : ℕ) → phase_at h (t + 1) ≡ (phase_at h t + h.speed) % circle
-phase_onward h t = ap (λ n. n % circle) (later h.phase h.speed t) ∙ onward (h.phase + h.speed * t) h.speed
-  where
-    later : (p w t : ℕ) → p + w * (t + 1) ≡ p + w * t + w
-    later p w t = omega arith
-
-fall_gap : (t : ℕ) (h : Harmonic) → unsigned_abs (fall_at (t + 1) h -ℤ fall_at t h) ≤ fall_rate_of h
-fall_gap t h =
-    let sine : unsigned_abs (isin_of (phase_at h (t + 1)) -ℤ isin_of (phase_at h t)) ≤ step_of h.speed =
-    rw (phase_onward h t) (rate_law h.speed (phase_at h t) (mod_below (h.phase + h.speed * t) circle (lit< tt))) in
-    rw (unsigned_abs-mul h.amplitude (pos h.speed)) at (scaled_gap (h.amplitude *ℤ pos h.speed) (isin_of (phase_at h (t + 1))) (isin_of (phase_at h t)) (step_of h.speed) sine)
-
--- the sum of a year's waves
-regrouped : (a x b y : ℤ) → (a +ℤ x) -ℤ (b +ℤ y) ≡ (a -ℤ b) +ℤ (x -ℤ y)
-regrouped a x b y = omega (arith, ints)
-
-sums_gap : (f g : Harmonic → ℤ) (rate : Harmonic → ℕ) → ((h : Harmonic) → unsigned_abs (f h -ℤ g h) ≤ rate h) → (hs : List Harmonic) (a b : ℤ) (c : ℕ) → unsigned_abs (a -ℤ b) ≤ c → unsigned_abs (fold (λ sum h. sum +ℤ f h) a hs -ℤ fold (λ sum h. sum +ℤ g h) b hs) ≤ fold (λ sum h. sum + rate h) c hs
-sums_gap f g rate each [] a b c near = near
-sums_gap f g rate each (h ∷ hs) a b c near =
-    sums_gap f g rate each hs (a +ℤ f h) (b +ℤ g h) (c + rate h)
-    (rw (regrouped a (f h) b (g h)) (abs_plus (a -ℤ b) (f h -ℤ g h) c (rate h) near (each h)))
-
-falls_gap : (t : ℕ) (hs : List Harmonic) → unsigned_abs (falls_of (t + 1) hs -ℤ falls_of t hs) ≤ sum_by fall_rate_of hs
-falls_gap t hs = sums_gap (fall_at (t + 1)) (fall_at t) fall_rate_of (fall_gap t) hs (pos 0) (pos 0) 0 (omega arith)
+use Rattle.station_curve.proofs.YearChanges.{year_slope_gap}
 
 -- the slope in the plain part of a year
-minutes_onward : (start m : ℤ) → pos 0 ≤ℤ ((m -ℤ start) +ℤ pos 60) → unsigned_abs (((m +ℤ pos 1) -ℤ start) +ℤ pos 60) ≡ unsigned_abs ((m -ℤ start) +ℤ pos 60) + 1
-minutes_onward start m least = omega (arith, ints)
-
-year_slope_gap : (tide : Tide) (m : ℤ) (year : ℕ) → IsNear tide.first_year year m → unsigned_abs (year_slope tide (m +ℤ pos 1) year -ℤ year_slope tide m year) ≤ sum_by fall_rate_of (waves_in tide year)
-unfolding year_slope
-year_slope_gap tide m year near =
-    let t = minutes_into tide.first_year year m in
-    let hs = waves_in tide year in
-    rw (minutes_onward (start_of tide.first_year year) m near.least) (turned_gap (falls_of (t + 1) hs) (falls_of t hs) (sum_by fall_rate_of hs) (falls_gap t hs))
-
 slope_in_plain : (tide : Tide) (m : ℤ) (year : ℕ) → place_in_tide tide m ≡ Plain year → slope_of tide m ≡ pos total_weight *ℤ year_slope tide m year
 slope_in_plain tide m year plain =
     sym (slope_plain tide m year (year_slope tide m year) (pos total_weight *ℤ year_slope tide m year) (sym plain) refl refl)
@@ -98,7 +29,7 @@ slope_in_plain tide m year plain =
 slope_gap : (tide : Tide) (m : ℤ) (year : ℕ) → place_in_tide tide m ≡ Plain year → place_in_tide tide (m +ℤ pos 1) ≡ Plain year → IsNear tide.first_year year m → unsigned_abs (slope_of tide (m +ℤ pos 1) -ℤ slope_of tide m) ≤ slope_rate_of (waves_in tide year)
 slope_gap tide m year here there near =
     rw (slope_in_plain tide (m +ℤ pos 1) year there, slope_in_plain tide m year here)
-    (scaled_gap (pos total_weight) (year_slope tide (m +ℤ pos 1) year) (year_slope tide m year) (sum_by fall_rate_of (waves_in tide year)) (year_slope_gap tide m year near))
+    (scaled_gap (pos total_weight) (year_slope tide (m +ℤ pos 1) year) (year_slope tide m year) (far_of (waves_in tide year)) (year_slope_gap tide m year near.least))
 
 near_in_plain : (first_year : ℤ) (years : ℕ) (m : ℤ) (year : ℕ) → AreYears first_year years → InDomain first_year years m → place_of first_year years m ≡ Plain year → IsNear first_year year m
 near_in_plain first_year years m year are domain plain =

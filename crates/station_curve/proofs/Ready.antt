@@ -6,9 +6,9 @@ use Rattle.station_curve.specs.declared.years.Year.{Year}
 use Rattle.station_curve.specs.declared.curve.StationCurve.TheInside.{Inside}
 use Rattle.station_curve.specs.Waves.{Tide, amount_of, steepness_of}
 use Rattle.station_curve.specs.Limits.{IsGentle, most_amount, most_steepness}
-use Rattle.station_curve.specs.Inside.{tide_in, IsReady}
+use Rattle.station_curve.specs.Workings.Inside.{tide_in, IsReady}
 use Rattle.station_curve.specs.Levels.{waves_in}
-use Rattle.station_curve.specs.Rates.{slope_rate_of}
+use Rattle.station_curve.specs.Sums.{sums_of}
 
 -- a year as it is kept beside the tide's
 pub record IsYearOf (tide : Tide) (year : ℕ) (y : Year) : Type 0 where
@@ -16,7 +16,7 @@ pub record IsYearOf (tide : Tide) (year : ℕ) (y : Year) : Type 0 where
   pub waves : y.waves.items ≡ waves_in tide year
   pub amount : amount_of y.waves.items ≤ most_amount
   pub steepness : steepness_of y.waves.items ≤ most_steepness
-  pub rate : y.rate ≡ slope_rate_of (waves_in tide year)
+  pub sums : y.sums ≡ sums_of (waves_in tide year)
 
 inside_year : (s : Inside) (year : ℕ) (y : Year) → IsReady s → year < length (tide_in s).years → y ≡ get_or s.years.items year y → IsYearOf (tide_in s) year y
 inside_year s year y ready in_list is =
@@ -28,7 +28,7 @@ inside_year s year y ready in_list is =
       waves = waves;
       amount = rw waves (ready.gentle.amounts year [] in_list);
       steepness = rw waves (ready.gentle.steepnesses year [] in_list);
-      rate = ap (λ y. y.rate) is ∙ ready.rates year y in_years ∙ ap slope_rate_of (ap (λ y. y.waves.items) (sym is) ∙ waves);
+      sums = ap (λ y. y.sums) is ∙ ready.sums year y in_years ∙ ap sums_of (ap (λ y. y.waves.items) (sym is) ∙ waves);
     }
 
 pub year_of : (s : Inside) (tide : Tide) (year : ℕ) (y : Year) → IsReady s → tide_in s ≡ tide → year < length tide.years → y ≡ get_or s.years.items year y → IsYearOf tide year y

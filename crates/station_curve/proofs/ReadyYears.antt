@@ -10,8 +10,8 @@ use Rattle.year_blend.specs.Places.{start_of}
 use Rattle.station_curve.specs.declared.years.Year.{Year}
 use Rattle.station_curve.specs.declared.fault.CurveFault.{CurveFault}
 use Rattle.station_curve.specs.Curves.{waves_of, is_present, year_fault, first_fault}
-use Rattle.station_curve.specs.Prepared.{AreReady}
-use Rattle.station_curve.specs.Rates.{slope_rate_of}
+use Rattle.station_curve.specs.Workings.Prepared.{AreReady}
+use Rattle.station_curve.specs.Sums.{sums_of}
 
 -- the first fault
 pub none_more : (b : Book) (s : Station) (year : ℕ) → first_fault b s year ≡ None → year_fault b s year ≡ None → first_fault b s (year + 1) ≡ None
@@ -38,7 +38,7 @@ ready_none b s = record {
   counted = refl;
   waves = λ k d h. absurd (omega (arith, h));
   starts = λ k d h. absurd (omega (arith, h));
-  rates = λ k d h. absurd (omega (arith, h));
+  sums = λ k d h. absurd (omega (arith, h));
   within = refl;
 }
 
@@ -52,11 +52,11 @@ last_too P years y count counted before last k d h =
           subst (λ (i : ℕ). P i (get_or (years ++ y ∷ []) i d)) at (rw (get_or-append_seam years y [] d) (rw counted last))
     ]
 
-pub ready_more : (b : Book) (s : Station) (year : ℕ) (years : List Year) (y : Year) → AreReady b s year years → year_fault b s year ≡ None → y.start ≡ start_of b.first_year year → y.waves.items ≡ filter is_present (waves_of b s year) → y.rate ≡ slope_rate_of y.waves.items → AreReady b s (year + 1) (years ++ y ∷ [])
-ready_more b s year years y ready fault start waves rate = record {
+pub ready_more : (b : Book) (s : Station) (year : ℕ) (years : List Year) (y : Year) → AreReady b s year years → year_fault b s year ≡ None → y.start ≡ start_of b.first_year year → y.waves.items ≡ filter is_present (waves_of b s year) → y.sums ≡ sums_of y.waves.items → AreReady b s (year + 1) (years ++ y ∷ [])
+ready_more b s year years y ready fault start waves sums = record {
   counted = length-append years (y ∷ []) ∙ ap (λ n. n + 1) ready.counted;
   waves = last_too (λ k y. y.waves.items ≡ filter is_present (waves_of b s k)) years y year ready.counted ready.waves waves;
   starts = last_too (λ k y. y.start ≡ start_of b.first_year k) years y year ready.counted ready.starts start;
-  rates = last_too (λ k y. y.rate ≡ slope_rate_of y.waves.items) years y year ready.counted ready.rates rate;
+  sums = last_too (λ k y. y.sums ≡ sums_of y.waves.items) years y year ready.counted ready.sums sums;
   within = none_more b s year ready.within fault;
 }

@@ -1,5 +1,5 @@
 -- Which curve a station has, and why it may have none (this project).
-use Rattle.std.specs.Prelude.{◌≡◌, ℕ, zero, suc, ◌==◌, nat_lt, not, Bool, true, false, if◌then◌else◌, List, length, map, filter, Option, Some, None, Result, Ok, Err, ℤ, pos, ◌+ℤ◌, ◌-ℤ◌, unsigned_abs}
+use Rattle.std.specs.Prelude.{◌≡◌, ℕ, zero, suc, ◌<◌, ◌==◌, nat_lt, not, Bool, true, false, if◌then◌else◌, List, length, map, filter, Option, Some, None, Result, Ok, Err, ℤ, pos, ◌+ℤ◌, ◌-ℤ◌, unsigned_abs}
 use Rattle.std.specs.List.{range_with_len}
 use Rattle.std.specs.Option.{option_or}
 use Rattle.harmonics_text.specs.declared.book.Units.{Units}
@@ -10,7 +10,8 @@ use Rattle.year_blend.specs.Places.{start_of, InDomain}
 use Rattle.station_curve.specs.declared.fault.CurveFault.{CurveFault}
 use Rattle.station_curve.specs.declared.fault.CurveFault.TheVariants.{Hydraulic, TooLarge, TooSteep, NoMemory}
 use Rattle.station_curve.specs.Waves.{Harmonic, Tide, amount_of, steepness_of}
-use Rattle.station_curve.specs.Levels.{level_of, slope_of, millionths_of}
+use Rattle.station_curve.specs.Levels.{waves_in, level_of, slope_of, millionths_of}
+use Rattle.station_curve.specs.Sums.{sums_of}
 use Rattle.station_curve.specs.Limits.{most_amount, most_steepness}
 use Rattle.station_curve.specs.Schureman.{constituents_of, speed_of, amplitude_of, phase_of, predicted_level, predicted_slope, predicted_millionths}
 
@@ -63,18 +64,16 @@ tide_or tide (Some fault) = Err fault
 unfoldable pub curve_of : Book → Station → Result Tide CurveFault
 curve_of b s = if is_hydraulic s.units then Err Hydraulic else tide_or (tide_of b s) (first_fault b s b.years)
 
--- the expected answer, or want of memory
-abbrev pub Gives : Result Tide CurveFault → Result Tide CurveFault → Type 0
-Gives expected (Ok tide) = expected ≡ Ok tide
-Gives expected (Err NoMemory) = Unit {0}
-Gives expected (Err Hydraulic) = expected ≡ Err Hydraulic
-Gives expected (Err (TooLarge year)) = expected ≡ Err (TooLarge year)
-Gives expected (Err (TooSteep year)) = expected ≡ Err (TooSteep year)
+abbrev pub wants_memory : CurveFault → Bool
+wants_memory NoMemory = true
+wants_memory _ = false
 
--- the tide is of the book's years, and has the station's level and slope at each minute by every constituent of the book
+-- the tide is of the book's years, and has the station's level and slope at each minute by every constituent of the book,
+-- and the sums of each year over every constituent
 pub record Predicts (b : Book) (s : Station) (tide : Tide) : Type 0 where
   pub first_year : tide.first_year ≡ b.first_year
   pub years : length tide.years ≡ b.years
   pub level : (m : ℤ) → InDomain b.first_year b.years m → level_of tide m ≡ predicted_level b s m
   pub slope : (m : ℤ) → InDomain b.first_year b.years m → slope_of tide m ≡ predicted_slope b s m
   pub millionths : (m : ℤ) → InDomain b.first_year b.years m → millionths_of tide m ≡ predicted_millionths b s m
+  pub sums : (year : ℕ) → year < b.years → sums_of (waves_in tide year) ≡ sums_of (waves_of b s year)

@@ -1,9 +1,9 @@
 pub mod Waves
 pub mod Levels
 pub mod Schureman
+pub mod Sums
 pub mod Limits
 pub mod Rates
-pub mod Inside
 pub mod Curves
-pub mod Prepared
 pub mod Worked
+pub mod Workings

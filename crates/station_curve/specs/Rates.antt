@@ -1,20 +1,16 @@
 -- How much a slope can change in a minute, and for how long it keeps its side for certain (this project, by the sine's rate law).
-use Rattle.std.specs.Prelude.{ℕ, suc, ◌-◌, ◌*◌, ◌/◌, min, max, List, length, ℤ, pos, negsuc, ◌-ℤ◌, unsigned_abs, sum_by}
-use Rattle.fixed_sine.specs.Rate.{step_of}
+use Rattle.std.specs.Prelude.{ℕ, suc, ◌-◌, ◌*◌, ◌/◌, min, max, List, length, ℤ, pos, negsuc, ◌-ℤ◌, unsigned_abs}
 use Rattle.year_blend.specs.declared.parts.Place.{Place}
 use Rattle.year_blend.specs.declared.parts.Place.TheVariants.{Plain, Blend}
 use Rattle.year_blend.specs.Places.{plain_end_of}
 use Rattle.year_blend.specs.Weights.{total_weight}
 use Rattle.station_curve.specs.Waves.{Harmonic, Tide}
+use Rattle.station_curve.specs.Sums.{far_of}
 use Rattle.station_curve.specs.Levels.{waves_in, place_in_tide, slope_of}
-
--- the most that a wave's fall changes by in a minute
-abbrev pub fall_rate_of : Harmonic → ℕ
-fall_rate_of h = unsigned_abs h.amplitude * h.speed * step_of h.speed
 
 -- the most that the slope changes by in a minute of the plain part of the waves' year
 abbrev pub slope_rate_of : List Harmonic → ℕ
-slope_rate_of hs = total_weight * sum_by fall_rate_of hs
+slope_rate_of hs = total_weight * far_of hs
 
 -- for how many minutes a value keeps its side that changes by at most the rate in a minute: above 0 it has to stay above,
 -- and from 0 down it may rise to 0

@@ -10,8 +10,9 @@ ghost use Rattle.year_blend.specs.Weights.{total_weight};
 
 use crate::blend::{drift, mixed, weighted};
 use crate::fault::CurveFault;
-use crate::rates::kept_for;
-use crate::sums::{falls, heights};
+use crate::rates::{kept_within, slope_rate};
+use crate::summing::{falls, heights};
+use crate::year_sums::Sums;
 use crate::years::{Year, years_of};
 use decimal_text::rounded;
 use harmonics_text::{Book, Station, Units};
@@ -39,7 +40,7 @@ impl Model for StationCurve {
 
     ghost Value = { Tide };
 
-    ghost use Rattle.station_curve.specs.Inside.{tide_in, IsReady};
+    ghost use Rattle.station_curve.specs.Workings.Inside.{tide_in, IsReady};
 
     ghost view = { tide_in };
 
@@ -47,10 +48,13 @@ impl Model for StationCurve {
 }
 
 impl StationCurve {
-    ghost use Rattle.station_curve.specs.Curves.{tide_of, curve_of, Gives, Predicts};
-    ghost use Rattle.station_curve.specs.Prepared.{AreReady};
+    ghost use Rattle.decimal_text.specs.Expected.{Gives};
+    ghost use Rattle.station_curve.specs.Curves.{tide_of, curve_of, wants_memory, Predicts};
+    ghost use Rattle.station_curve.specs.Workings.Prepared.{AreReady};
     ghost use Rattle.station_curve.specs.Waves.{heights_of, falls_of};
-    ghost use Rattle.station_curve.specs.Limits.{IsGentle, IsNear, IsNearPlace};
+    ghost use Rattle.station_curve.specs.Limits.{IsGentle, AreGentle};
+    ghost use Rattle.station_curve.specs.Workings.Nearness.{IsNear, IsNearPlace};
+    ghost use Rattle.station_curve.specs.Sums.{sums_of};
     ghost use Rattle.station_curve.specs.Rates.{quiet_minutes_of};
     ghost use Rattle.station_curve.specs.Levels.{minutes_into, waves_in, place_in_tide, year_level, year_slope, level_of, slope_of, millionths_of};
 
@@ -61,7 +65,7 @@ impl StationCurve {
     pub fn new(alloc: Global, book: &Book, station: u32) -> Result<StationCurve, CurveFault>
         requires book { IsBook book.now }
         requires station { station < length book.now.stations }
-        ensures exact { IfSome (slice_get book.now.stations station) (λ s. Gives (curve_of book.now s) result) }
+        ensures exact { IfSome (slice_get book.now.stations station) (λ s. Gives wants_memory (curve_of book.now s) result) }
         ensures predicts { IfSome (slice_get book.now.stations station) (λ s.
             IfOk result (λ tide. Predicts book.now s tide)) }
     {
@@ -72,7 +76,7 @@ impl StationCurve {
     fn of_station(alloc: Global, book: &Book, station: &Station) -> Result<StationCurve, CurveFault>
         requires book { IsBook book.now }
         requires station { IsStation (length book.now.constituents) station.now }
-        ensures exact { Gives (curve_of book.now station.now) result }
+        ensures exact { Gives wants_memory (curve_of book.now station.now) result }
         ensures predicts { IfOk result (λ tide. Predicts book.now station.now tide) }
     {
         if is_hydraulic(station.units) {
@@ -126,6 +130,22 @@ impl StationCurve {
         self.years.len() as u32
     }
 
+    /// What the constants of a year sum to, counted from 0.
+    pub fn sums(&self, year: u32) -> Sums
+        requires { year < length self.now.years }
+        ensures value { result ≡ sums_of (waves_in self.now year) }
+        ensures size { AreGentle result }
+    {
+        self.years[year as usize].sums
+    }
+
+    /// Nothing: it tells a proof that the curve is within the limits.
+    pub fn known(&self)
+        ensures { IsGentle self.now }
+    {
+        let _first_year = self.first_year;
+    }
+
     /// The level at a minute, from the first to the last.
     pub fn level(&self, m: i64) -> i128
         requires { InDomain self.now.first_year (length self.now.years) m }
@@ -174,8 +194,8 @@ impl StationCurve {
     {
         match self.place(m) {
             Place::Plain { year } => {
-                let rate = self.years[year as usize].rate;
-                kept_for(slope, rate, self.plain_minutes(year, m))
+                let rate = slope_rate(&self.years[year as usize].sums);
+                kept_within(slope, rate, self.plain_minutes(year, m))
             }
             Place::Blend { .. } => 0,
         }

@@ -3,9 +3,10 @@
 ghost use Rattle.std.specs.Prelude.{◌≡◌, ◌-◌, ◌*◌, ◌^◌, [], ◌∷◌, Ok, Err, pos, negsuc};
 ghost use Rattle.harmonics_text.specs.declared.book.Units.TheVariants.{Feet, KnotsSquared};
 ghost use Rattle.station_curve.specs.declared.fault.CurveFault.TheVariants.{Hydraulic, TooLarge, TooSteep};
-ghost use Rattle.station_curve.specs.Curves.{tide_of, curve_of};
+ghost use Rattle.station_curve.specs.Curves.{waves_of, tide_of, curve_of};
 ghost use Rattle.station_curve.specs.Schureman.{amplitude_of, phase_of, predicted_level, predicted_slope, predicted_millionths};
 ghost use Rattle.station_curve.specs.Waves.{heights_of, falls_of};
+ghost use Rattle.station_curve.specs.Sums.{sums_of};
 ghost use Rattle.station_curve.specs.Rates.{slope_rate_of, kept_for};
 ghost use Rattle.station_curve.specs.Worked.{small_book, small_station, small_wave, pier_book, shifted_book, pier, harbour_book, harbour};
 
@@ -66,6 +67,17 @@ pub fn worked_slopes()
     ensures harbour_2000 { predicted_slope harbour_book harbour (pos 15778380) ≡ negsuc 1845505594810030997276992511999999 }
     ensures harbour_new_year { predicted_slope harbour_book harbour (pos 16305140) ≡ negsuc 3274988533158132834799953510399999 }
     ensures harbour_2001 { predicted_slope harbour_book harbour (pos 16390080) ≡ pos 802828425453686744053872844800000 }
+{}
+
+/// What one wave, no wave, and the two waves of a year come to.
+pub fn worked_sums()
+    ensures one_wave { sums_of (small_wave ∷ [])
+        ≡ record { amount = pos 1000000; steep = pos (3 * 10 ^ 14); near = pos 8727001000000; far = pos 2618100300000000000000 } }
+    ensures no_wave { sums_of [] ≡ record { amount = pos 0; steep = pos 0; near = pos 0; far = pos 0 } }
+    ensures harbour_2000 { sums_of (waves_of harbour_book harbour 0)
+        ≡ record { amount = pos 1615490; steep = pos 472298888140580; near = pos 13739175163240; far = pos 4017639740183984896080 } }
+    ensures harbour_2001 { sums_of (waves_of harbour_book harbour 1)
+        ≡ record { amount = pos 1449234; steep = pos 422079284261828; near = pos 12278286689384; far = pos 3576482855350780498128 } }
 {}
 
 /// The rate of one wave's slope, and for how long values keep their sides at a rate of 5: 1 and 5

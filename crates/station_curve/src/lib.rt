@@ -6,20 +6,25 @@
 #![tactic(auto)]
 
 mod blend;
+mod changes;
 mod constants;
 mod curve;
 mod fault;
 mod laws;
 mod rates;
-mod sums;
+mod summing;
 mod wave;
+mod year_sums;
 mod years;
 
+pub use changes::{year_changes, year_sizes};
 pub use curve::StationCurve;
 pub use fault::CurveFault;
 pub use laws::{
-    worked_constants, worked_levels, worked_limits, worked_rates, worked_slopes, worked_waves,
+    worked_constants, worked_levels, worked_limits, worked_rates, worked_slopes, worked_sums,
+    worked_waves,
 };
+pub use year_sums::Sums;
 
 #[cfg(test)]
 mod tests;

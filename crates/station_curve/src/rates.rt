@@ -1,36 +1,23 @@
 //! How much a slope can change in a minute.
 
-ghost use Rattle.std.specs.Prelude.{◌≡◌, ◌*◌, ◌^◌, ◌≤◌, min, sum_by};
-ghost use Rattle.station_curve.specs.Waves.{steepness_of};
-ghost use Rattle.station_curve.specs.Rates.{fall_rate_of, slope_rate_of, kept_for};
+ghost use Rattle.std.specs.Prelude.{◌≡◌, ◌*◌, ◌^◌, ◌≤◌, min, unsigned_abs};
+ghost use Rattle.year_blend.specs.Weights.{total_weight};
+ghost use Rattle.station_curve.specs.Rates.{kept_for};
 
-use crate::wave::Wave;
+use crate::year_sums::Sums;
 use year_blend::TOTAL_WEIGHT;
 
-/// The most that the slope changes by in a minute of the plain part of the waves' year.
-pub fn slope_rate(waves: &[Wave]) -> u128
-    requires steepness { steepness_of waves.now ≤ 10 ^ 17 }
-    ensures { result ≡ slope_rate_of waves.now }
+/// The most that the slope changes by in a minute of the plain part of a year, by its sums.
+pub fn slope_rate(sums: &Sums) -> u128
+    requires { unsigned_abs sums.now.far ≤ 104724001 * 10 ^ 17 }
+    ensures { result ≡ total_weight * unsigned_abs sums.now.far }
 {
-    TOTAL_WEIGHT as u128 * fall_rates(waves)
-}
-
-/// The most that the sum of the waves' falls changes by in a minute.
-fn fall_rates(waves: &[Wave]) -> u128
-    requires steepness { steepness_of waves.now ≤ 10 ^ 17 }
-    ensures value { result ≡ sum_by fall_rate_of waves.now }
-    ensures size { result ≤ 104724001 * 10 ^ 17 }
-{
-    let mut sum = 0;
-    for wave in waves {
-        sum += wave.fall_rate();
-    }
-    sum
+    TOTAL_WEIGHT as u128 * sums.far.unsigned_abs()
 }
 
 /// For how many minutes a slope keeps its side that changes by at most the rate in a minute, and no
 /// longer than the minutes that are left.
-pub fn kept_for(slope: i128, rate: u128, left: u64) -> u64
+pub fn kept_within(slope: i128, rate: u128, left: u64) -> u64
     ensures { result ≡ min (kept_for slope rate) left }
 {
     let room = if slope > 0 {

@@ -62,6 +62,26 @@ fn levels_round_a_new_year(rt: HostRuntime) -> Result<(), Fail> {
     Ok(())
 }
 
+#[test]
+fn sums_of_years(rt: HostRuntime) -> Result<(), Fail> {
+    let book = pier(rt.alloc(), "30", "60", "-1", "feet")?;
+    assert_eq!(rt; book.stations.as_slice().len(), 1);
+    let curve = StationCurve::new(rt.alloc(), &book, 0)?;
+    let want = Sums {
+        amount: 1_000_000,
+        steep: 300_000_000_000_000,
+        near: 8_727_001_000_000,
+        far: 2_618_100_300_000_000_000_000,
+    };
+    for year in 0..curve.years() {
+        assert_eq!(rt; curve.sums(year), want, "in {year}");
+    }
+    curve.known();
+    year_changes();
+    year_sizes();
+    Ok(())
+}
+
 /// For how many minutes the slope keeps its side.
 fn quiet(curve: &StationCurve, m: i64) -> Option<u64> {
     let first = curve.first();

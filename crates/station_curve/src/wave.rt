@@ -3,8 +3,9 @@
 ghost use Rattle.std.specs.Prelude.{◌≡◌, ◌+◌, ◌*◌, ◌%◌, ◌^◌, ◌<◌, ◌≤◌, pos, ◌*ℤ◌, unsigned_abs};
 ghost use Rattle.fixed_sine.specs.Circle.{circle, IsOnCircle};
 ghost use Rattle.station_curve.specs.Waves.{Harmonic, phase_at, height_at, fall_at};
-ghost use Rattle.station_curve.specs.Rates.{fall_rate_of};
+ghost use Rattle.station_curve.specs.Sums.{height_rate_of, fall_rate_of};
 
+use crate::year_sums::Sums;
 use fixed_sine::{CIRCLE, icos, isin, step};
 use std::marker::Model;
 
@@ -24,7 +25,7 @@ pub struct Wave {
 impl Model for Wave {
     ghost use Rattle.std.specs.Prelude.{◌≡◌, ◌*◌, ◌^◌, ◌<◌, ◌≤◌, pos, ◌*ℤ◌, unsigned_abs};
     ghost use Rattle.station_curve.specs.Waves.{Harmonic};
-    ghost use Rattle.station_curve.specs.Limits.{IsWave};
+    ghost use Rattle.station_curve.specs.Workings.Nearness.{IsWave};
 
     ghost Value = { Harmonic };
 
@@ -69,13 +70,25 @@ impl Wave {
         i128::from(self.steepness) * i128::from(isin(self.phase_after(minutes)))
     }
 
-    /// The most that its fall changes by in a minute.
-    pub fn fall_rate(&self) -> u128
-        ensures value { result ≡ fall_rate_of self.now }
-        ensures size { result ≤ 104724001 * (unsigned_abs self.now.amplitude * self.now.speed) }
+    /// What it adds to each sum of its year.
+    pub fn sums(&self) -> Sums
+        ensures amount { result.amount ≡ pos (unsigned_abs self.now.amplitude) }
+        ensures steep { result.steep ≡ pos (unsigned_abs self.now.amplitude * self.now.speed) }
+        ensures near { result.near ≡ pos (height_rate_of self.now) }
+        ensures near_size { height_rate_of self.now ≤ 104724001 * unsigned_abs self.now.amplitude }
+        ensures far { result.far ≡ pos (fall_rate_of self.now) }
+        ensures far_size { fall_rate_of self.now
+            ≤ 104724001 * (unsigned_abs self.now.amplitude * self.now.speed) }
     {
-        let step = step(self.speed as i64);
-        u128::from(self.steepness.unsigned_abs()) * u128::from(step.unsigned_abs())
+        let step = i128::from(step(self.speed as i64));
+        let amount = i128::from(self.amplitude.unsigned_abs());
+        let steep = i128::from(self.steepness.unsigned_abs());
+        Sums {
+            amount,
+            steep,
+            near: amount * step,
+            far: steep * step,
+        }
     }
 
     /// Where on the circle it stands, `minutes` after an hour before the year.

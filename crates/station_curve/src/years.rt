@@ -3,13 +3,13 @@
 ghost use Rattle.std.specs.Prelude.{◌≡◌, ◌<◌, ◌≤◌, length, Some, MatchResult, ◌⊎◌, pos, ◌+ℤ◌, ◌-ℤ◌, ◌≤ℤ◌, unsigned_abs};
 ghost use Rattle.harmonics_text.specs.Books.{IsBook, IsStation};
 ghost use Rattle.station_curve.specs.Curves.{first_fault};
-ghost use Rattle.station_curve.specs.Prepared.{AreReady};
+ghost use Rattle.station_curve.specs.Workings.Prepared.{AreReady};
 ghost use Rattle.station_curve.specs.declared.fault.CurveFault.TheVariants.{NoMemory};
 
 use crate::constants::{check_year, year_waves};
 use crate::fault::CurveFault;
-use crate::rates::slope_rate;
 use crate::wave::Wave;
+use crate::year_sums::{Sums, sums_of_waves};
 use harmonics_text::{Book, Station};
 use std::alloc::Global;
 use year_blend::year_start;
@@ -20,8 +20,8 @@ pub struct Year {
     /// Its first minute.
     pub start: i64,
     pub waves: Vec<Wave>,
-    /// The most that the slope changes by in a minute of its plain part.
-    pub rate: u128,
+    /// What its waves sum to.
+    pub sums: Sums,
 }
 
 impl Year {
@@ -51,8 +51,8 @@ pub fn years_of(alloc: Global, book: &Book, station: &Station) -> Result<Vec<Yea
         }
         let start = year_start(book.first_year + year as i32);
         let waves = year_waves(alloc, book, station, year)?;
-        let rate = slope_rate(waves.as_slice());
-        years.push(Year { start, waves, rate })?;
+        let sums = sums_of_waves(waves.as_slice());
+        years.push(Year { start, waves, sums })?;
     }
     Ok(years)
 }

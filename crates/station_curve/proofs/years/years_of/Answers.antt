@@ -6,7 +6,7 @@ use Rattle.year_blend.specs.Places.{start_of}
 use Rattle.year_blend.proofs.YearLemmas.{year_start_of_size}
 use Rattle.station_curve.proofs.Products.{cast_small}
 use Rattle.station_curve.specs.Curves.{waves_of}
-use Rattle.station_curve.proofs.Gentle.{steepness-present}
+use Rattle.station_curve.proofs.Gentle.{amount-present, steepness-present}
 use Rattle.station_curve.proofs.WavesOf.{none_fault}
 use Rattle.station_curve.proofs.ReadyYears.{ready_none, ready_more, some_more, fault_stays}
 use Rattle.station_curve.proofs.years.years_of.Goals as goal
@@ -27,16 +27,21 @@ loop-year-preserved c =
     let size = year_start_of_size (b.first_year +ℤ pos year) (record { least = omega (arith, ints, first.least); most = omega (arith, ints, first.most, few, below) }) in
     let small : to_z w64 (of_z w64 c.year_start-start.result) ≡ c.year_start-start.result =
     rw is_start (cast_small w64 (start_of b.first_year year) 4000000000 (omega (arith, size)) (lit< tt)) in
-    rw c.in_ok-push.ensures.items (ready_more b c.args.station.now year c.loop-year.years.items _ c.loop-year.invariant c.in_default.ensures (small ∙ is_start) c.in_ok-waves.ensures (rw c.as_slice.ensures.value at c.slope_rate-rate.ensures))
+    rw c.in_ok-push.ensures.items (ready_more b c.args.station.now year c.loop-year.years.items _ c.loop-year.invariant c.in_default.ensures (small ∙ is_start) c.in_ok-waves.ensures (rw c.as_slice.ensures.value at c.sums_of_waves-sums.ensures))
 
-pub slope_rate-rate-requires : goal.slope_rate-rate-requires
-slope_rate-rate-requires c = record {
-  steepness =
-      let b = c.args.book.now in
-      let s = c.args.station.now in
-      let year = c.loop-year.year in
-      rw (c.as_slice.ensures.value, c.in_ok-waves.ensures, steepness-present (waves_of b s year)) (none_fault b s year c.in_default.ensures).1;
-}
+pub sums_of_waves-sums-requires-clause-amount : goal.sums_of_waves-sums-requires-clause-amount
+sums_of_waves-sums-requires-clause-amount c =
+    let b = c.args.book.now in
+    let s = c.args.station.now in
+    let year = c.loop-year.year in
+    rw (c.as_slice.ensures.value, c.in_ok-waves.ensures, amount-present (waves_of b s year)) (none_fault b s year c.in_default.ensures).0
+
+pub sums_of_waves-sums-requires-clause-steepness : goal.sums_of_waves-sums-requires-clause-steepness
+sums_of_waves-sums-requires-clause-steepness c =
+    let b = c.args.book.now in
+    let s = c.args.station.now in
+    let year = c.loop-year.year in
+    rw (c.as_slice.ensures.value, c.in_ok-waves.ensures, steepness-present (waves_of b s year)) (none_fault b s year c.in_default.ensures).1
 
 pub returns-in-Err : goal.returns-in-Err
 returns-in-Err c =

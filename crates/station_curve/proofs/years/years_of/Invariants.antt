@@ -1,4 +1,4 @@
-use Rattle.station_curve.specs.Prepared.{AreReady}
+use Rattle.station_curve.specs.Workings.Prepared.{AreReady}
 use Rattle.station_curve.proofs.years.years_of.Given as goal
 
 abbrev pub invariant-loop-year : goal.invariant-loop-year

@@ -18,7 +18,7 @@ invariant_of-result c =
     record {
       gentle = subst IsGentle (sym (kept_tide b s c.args.years.items _ _ c.requires.years first datum)) (gentle_tide b s c.requires.book c.requires.station c.requires.years.within);
       starts = λ k d h. c.requires.years.starts k d (omega (arith, h, c.requires.years.counted)) ∙ ap (λ f. start_of f k) (sym first);
-      rates = λ k d h. c.requires.years.rates k d (omega (arith, h, c.requires.years.counted));
+      sums = λ k d h. c.requires.years.sums k d (omega (arith, h, c.requires.years.counted));
     }
 
 pub returns : goal.returns

@@ -1,11 +1,11 @@
--- What a station's curve keeps, and the tide that it is seen as. No public clause cites it.
+-- What a station's curve keeps, and the tide that it is seen as.
 use Rattle.std.specs.Prelude.{◌≡◌, ℕ, ◌<◌, length, map, slice_index_or}
 use Rattle.year_blend.specs.Places.{start_of}
 use Rattle.station_curve.specs.declared.years.Year.{Year}
 use Rattle.station_curve.specs.declared.curve.StationCurve.TheInside.{Inside}
 use Rattle.station_curve.specs.Waves.{Tide}
 use Rattle.station_curve.specs.Limits.{IsGentle}
-use Rattle.station_curve.specs.Rates.{slope_rate_of}
+use Rattle.station_curve.specs.Sums.{sums_of}
 
 -- the tide of its years
 abbrev pub tide_in : Inside → Tide
@@ -14,4 +14,4 @@ tide_in s = record { first_year = s.first_year; datum = s.datum; years = map (λ
 pub record IsReady (s : Inside) : Type 0 where
   pub gentle : IsGentle (tide_in s)
   pub starts : (k : ℕ) (d : Year) → k < length s.years.items → (slice_index_or s.years.items k d).start ≡ start_of s.first_year k
-  pub rates : (k : ℕ) (d : Year) → k < length s.years.items → (slice_index_or s.years.items k d).rate ≡ slope_rate_of (slice_index_or s.years.items k d).waves.items
+  pub sums : (k : ℕ) (d : Year) → k < length s.years.items → (slice_index_or s.years.items k d).sums ≡ sums_of (slice_index_or s.years.items k d).waves.items

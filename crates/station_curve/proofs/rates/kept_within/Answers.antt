@@ -2,8 +2,8 @@ use Rattle.std.proofs.Common.{◌-◌, min, ap, ◌∙◌}
 use Rattle.std.proofs.lemmas.Int.{to_z-of_z}
 use mir.Syntax.{w128}
 use Rattle.station_curve.proofs.Quiet.{kept_above, kept_below}
-use Rattle.station_curve.proofs.rates.kept_for.Goals as goal
-use Rattle.station_curve.proofs.rates.kept_for.Goals.{then-slope-gt0, else-slope-gt0}
+use Rattle.station_curve.proofs.rates.kept_within.Goals as goal
+use Rattle.station_curve.proofs.rates.kept_within.Goals.{then-slope-gt0, else-slope-gt0}
 
 pub returns : goal.returns
 returns c =

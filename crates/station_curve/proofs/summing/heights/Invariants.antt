@@ -1,7 +1,7 @@
 use Rattle.std.proofs.Common.{◌≡◌, ◌*◌, ◌^◌, ◌≤◌, take}
 use Rattle.std.specs.Prelude.{unsigned_abs}
 use Rattle.station_curve.specs.Waves.{heights_of, amount_of}
-use Rattle.station_curve.proofs.sums.heights.Given as goal
+use Rattle.station_curve.proofs.summing.heights.Given as goal
 
 abbrev pub invariant-loop-wave : goal.invariant-loop-wave
 invariant-loop-wave l =

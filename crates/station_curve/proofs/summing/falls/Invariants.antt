@@ -1,7 +1,7 @@
 use Rattle.std.proofs.Common.{◌≡◌, ◌*◌, ◌^◌, ◌≤◌, take}
 use Rattle.std.specs.Prelude.{unsigned_abs}
 use Rattle.station_curve.specs.Waves.{falls_of, steepness_of}
-use Rattle.station_curve.proofs.sums.falls.Given as goal
+use Rattle.station_curve.proofs.summing.falls.Given as goal
 
 abbrev pub invariant-loop-wave : goal.invariant-loop-wave
 invariant-loop-wave l =

@@ -1,0 +1,27 @@
+-- What keeps all numbers of a curve within their types.
+use Rattle.std.specs.Prelude.{◌≡◌, ℕ, ◌-◌, ◌<◌, ◌≤◌, ℤ, pos, ◌+ℤ◌, ◌-ℤ◌, ◌*ℤ◌, ◌≤ℤ◌, unsigned_abs}
+use Rattle.fixed_sine.specs.Circle.{circle}
+use Rattle.year_blend.specs.declared.parts.Place.{Place}
+use Rattle.year_blend.specs.declared.parts.Place.TheVariants.{Plain, Blend}
+use Rattle.year_blend.specs.Places.{start_of}
+use Rattle.year_blend.specs.Weights.{IsNearNewYear}
+use Rattle.station_curve.specs.Limits.{most_amount, most_steepness}
+
+-- a wave with the product of its amplitude and its speed
+pub record IsWave (amplitude : ℤ) (speed : ℕ) (steepness : ℤ) (phase : ℕ) : Type 0 where
+  pub amount : unsigned_abs amplitude ≤ most_amount
+  pub steep : unsigned_abs steepness ≤ most_steepness
+  pub product : steepness ≡ amplitude *ℤ pos speed
+  pub quick : speed ≤ 3600000000
+  pub turn : phase < circle
+
+-- a minute that a year's constants are used at: at most an hour before it or after it
+pub record IsNear (first_year : ℤ) (year : ℕ) (m : ℤ) : Type 0 where
+  pub least : pos 0 ≤ℤ ((m -ℤ start_of first_year year) +ℤ pos 60)
+  pub most : ((m -ℤ start_of first_year year) +ℤ pos 60) ≤ℤ pos 600000
+
+-- a minute and the years and the new year that its place names
+abbrev pub IsNearPlace : ℤ → ℕ → ℤ → Place → Type 0
+IsNearPlace first_year years m (Plain year) = (year < years) × IsNear first_year year m
+IsNearPlace first_year years m (Blend year x) =
+    (0 < year) × (year < years) × IsNear first_year year m × IsNear first_year (year - 1) m × IsNearNewYear x
