@@ -1,1 +1,6 @@
+pub mod AcceptedLemmas
+pub mod AgreeLemmas
+pub mod CoverLemmas
+pub mod QuietLemmas
 pub mod TrackLemmas
+pub mod VerdictLemmas

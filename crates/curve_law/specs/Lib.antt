@@ -1,1 +1,7 @@
+pub mod Cells
+pub mod Cover
+pub mod Meaning
 pub mod Track
+pub mod Verdicts
+pub mod Samples
+pub mod Workings

@@ -2,23 +2,47 @@
 //!
 //! A track has a whole number at each minute, and an [`Event`] after each minute where its side of
 //! zero changes. The plain list of a span, in `specs/Track.antt`, looks at every minute of it: it is
-//! what each quicker search has to give.
+//! what each quicker search has to give. A [`Curve`] is a track that knows how fast it may change.
 #![tactic(auto)]
 
+mod cell;
+mod cell_laws;
+mod cells;
+mod curve;
 mod event;
+mod events;
 mod kind;
 mod laws;
 mod passing;
+mod point;
+mod quiet;
+pub mod samples;
+mod tracks;
+mod verdict;
 mod worked;
+mod worked_cells;
 
+pub use cell::Cell;
+pub use cell_laws::{
+    accepted_cells_are_exact, agreeing_curves_have_one_answer, cells_are_halved,
+    covers_are_accepted, quiet_cells_have_no_event, spans_are_cut_into_blocks,
+};
+pub use cells::Cells;
+pub use curve::Curve;
 pub use event::Event;
+pub use events::Events;
 pub use kind::Kind;
 pub use laws::{
     events_pass_zero, plain_list_of_one_minute, plain_list_of_quiet_minutes,
     plain_list_of_two_spans,
 };
 pub use passing::kind_after;
+pub use point::{Point, point_at};
+pub use quiet::{MOST_MINUTES, is_quiet, unit_cell};
+pub use tracks::Tracks;
+pub use verdict::Verdict;
 pub use worked::worked_rows;
+pub use worked_cells::{worked_covers, worked_quiet_cells, worked_verdicts};
 
 #[cfg(test)]
 mod tests;

@@ -1,0 +1,116 @@
+-- What an accepted verdict says, and which cells are accepted.
+use Rattle.std.proofs.Common.{◌≡◌, ℕ, suc, ◌==◌, ℤ, pos, ◌+ℤ◌, Bool, true, false, cond, List, [], ◌∷◌, refl, sym, arith}
+use Rattle.std.specs.Ordering.{int_eq}
+use Rattle.std.proofs.lemmas.Bool.Decides.{nat_tests, Decides-int_eq, Decides-eqb}
+use Rattle.std.proofs.lemmas.Int.{ints}
+use Rattle.curve_law.specs.declared.cell.Cell.{Cell}
+use Rattle.curve_law.specs.declared.cell.Cell.TheVariants.{Quiet, Still, Turn}
+use Rattle.curve_law.specs.declared.kind.Kind.{Kind}
+use Rattle.curve_law.specs.declared.kind.Kind.TheVariants.{High, Low, FloodBegins, EbbBegins, MarkRising, MarkFalling}
+use Rattle.curve_law.specs.declared.verdict.Verdict.{Verdict}
+use Rattle.curve_law.specs.declared.verdict.Verdict.TheVariants.{Accepted, WrongLength, NotQuiet, WrongStep, WrongLevel}
+use Rattle.curve_law.specs.Track.{has_event, event_at, plain_list}
+use Rattle.curve_law.specs.Meaning.{Meaning, IsSpan, IsLawful}
+use Rattle.curve_law.specs.Cells.{minutes_of, all_minutes, event_in, turns}
+use Rattle.curve_law.specs.Cover.{is_quiet}
+use Rattle.curve_law.specs.Verdicts.{same_kind, step_verdict, cell_verdict, or_next, cells_verdict, verdict}
+use Rattle.curve_law.proofs.TrackLemmas.{plain_list-zero, plain_list-one, plain_list-add, plain_list-none}
+use Rattle.curve_law.proofs.QuietLemmas.{quiet-no_event}
+
+pub one_kind : (k l : Kind) → same_kind k l ≡ true → k ≡ l
+one_kind High High h = refl
+one_kind High Low h = cc
+one_kind High FloodBegins h = cc
+one_kind High EbbBegins h = cc
+one_kind High MarkRising h = cc
+one_kind High MarkFalling h = cc
+one_kind Low High h = cc
+one_kind Low Low h = refl
+one_kind Low FloodBegins h = cc
+one_kind Low EbbBegins h = cc
+one_kind Low MarkRising h = cc
+one_kind Low MarkFalling h = cc
+one_kind FloodBegins High h = cc
+one_kind FloodBegins Low h = cc
+one_kind FloodBegins FloodBegins h = refl
+one_kind FloodBegins EbbBegins h = cc
+one_kind FloodBegins MarkRising h = cc
+one_kind FloodBegins MarkFalling h = cc
+one_kind EbbBegins High h = cc
+one_kind EbbBegins Low h = cc
+one_kind EbbBegins FloodBegins h = cc
+one_kind EbbBegins EbbBegins h = refl
+one_kind EbbBegins MarkRising h = cc
+one_kind EbbBegins MarkFalling h = cc
+one_kind MarkRising High h = cc
+one_kind MarkRising Low h = cc
+one_kind MarkRising FloodBegins h = cc
+one_kind MarkRising EbbBegins h = cc
+one_kind MarkRising MarkRising h = refl
+one_kind MarkRising MarkFalling h = cc
+one_kind MarkFalling High h = cc
+one_kind MarkFalling Low h = cc
+one_kind MarkFalling FloodBegins h = cc
+one_kind MarkFalling EbbBegins h = cc
+one_kind MarkFalling MarkRising h = cc
+one_kind MarkFalling MarkFalling h = refl
+
+pub same_kind-refl : (k : Kind) → same_kind k k ≡ true
+same_kind-refl k = grind (arith, nat_tests)
+
+both_accepted : (v w : Verdict) → or_next v w ≡ Accepted → (v ≡ Accepted) × (w ≡ Accepted)
+both_accepted Accepted w h = (refl, h)
+both_accepted (WrongLength covered wanted) w h = cc
+both_accepted (NotQuiet cell) w h = cc
+both_accepted (WrongStep cell) w h = cc
+both_accepted (WrongLevel cell written computed) w h = cc
+
+-- what a test says that chooses acceptance
+accepted_true : (b : Bool) (v : Verdict) → (v ≡ Accepted → ⊥) → cond b Accepted v ≡ Accepted → b ≡ true
+accepted_true true v unlike h = refl
+accepted_true false v unlike h = absurd (unlike h)
+
+accepted_false : (b : Bool) (v : Verdict) → (v ≡ Accepted → ⊥) → cond b v Accepted ≡ Accepted → b ≡ false
+accepted_false true v unlike h = absurd (unlike h)
+accepted_false false v unlike h = refl
+
+-- what a test says that chooses what may be accepted
+tested : (b : Bool) (v w : Verdict) → (w ≡ Accepted → ⊥) → cond b v w ≡ Accepted → (b ≡ true) × (v ≡ Accepted)
+tested true v w unlike h = (refl, h)
+tested false v w unlike h = absurd (unlike h)
+
+-- an accepted cell has the event of its minutes
+accepted-event : (c : Meaning) (a : ℤ) (number : ℕ) (cell : Cell) → IsLawful c → IsSpan c a (minutes_of cell) → cell_verdict c a number cell ≡ Accepted → event_in a cell ≡ plain_list c.track a (minutes_of cell)
+unfolding cell_verdict
+accepted-event c a number (Quiet n) lawful span ok =
+    let quiet = accepted_true (is_quiet c a n) (NotQuiet number) (λ e. cc) ok in
+    sym (plain_list-none c.track a n (quiet-no_event c a n lawful span quiet))
+accepted-event c a number Still lawful span ok =
+    let still = accepted_false (has_event c.track a) (WrongStep number) (λ e. cc) ok in
+    rw (plain_list-one c.track a, still) refl
+accepted-event c a number (Turn kind level) lawful span ok =
+    let turns = tested (has_event c.track a) (step_verdict c a number kind level) (WrongStep number) (λ e. cc) ok in
+    let alike = tested (same_kind kind (event_at c.track a).kind) _ (WrongStep number) (λ e. cc) turns.1 in
+    let written = accepted_true (int_eq level (c.track.note a)) (WrongLevel number level (c.track.note a)) (λ e. cc) alike.1 in
+    let k = one_kind kind (event_at c.track a).kind alike.0 in
+    let l = (Decides-int_eq level (c.track.note a)).0 written in
+    rw (plain_list-one c.track a, turns.0, k, l) refl
+
+accepted-turns : (c : Meaning) (a : ℤ) (number : ℕ) (cells : List Cell) → IsLawful c → IsSpan c a (all_minutes cells) → cells_verdict c a number cells ≡ Accepted → turns a cells ≡ plain_list c.track a (all_minutes cells)
+unfolding cells_verdict turns all_minutes
+accepted-turns c a number [] lawful span ok = sym (plain_list-zero c.track a)
+accepted-turns c a number (cell ∷ cells) lawful span ok =
+    let parts = both_accepted (cell_verdict c a number cell) (cells_verdict c (a +ℤ pos (minutes_of cell)) (suc number) cells) ok in
+    let first = span.first in
+    let last = span.last in
+    let here = accepted-event c a number cell lawful (record { first = first; last = omega (arith, ints) }) parts.0 in
+    let rest = accepted-turns c (a +ℤ pos (minutes_of cell)) (suc number) cells lawful (record { first = omega (arith, ints); last = omega (arith, ints) }) parts.1 in
+    rw (here, rest) (sym (plain_list-add c.track a (minutes_of cell) (all_minutes cells)))
+
+-- accepted cells have exactly the events of the span
+pub verdict-exact : (c : Meaning) (a : ℤ) (n : ℕ) (cells : List Cell) → IsLawful c → IsSpan c a n → verdict c a n cells ≡ Accepted → turns a cells ≡ plain_list c.track a n
+unfolding verdict
+verdict-exact c a n cells lawful span ok =
+    let whole = tested (all_minutes cells == n) _ _ (λ e. cc) ok in
+    let all : all_minutes cells ≡ n = (Decides-eqb (all_minutes cells) n).0 whole.0 in
+    let exact = accepted-turns c a 1 cells lawful (rw all span) whole.1 in rw (← all) exact

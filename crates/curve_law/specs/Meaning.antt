@@ -1,0 +1,50 @@
+-- What is known of a curve: a track, and how fast its value may change (this project).
+use Rattle.std.specs.Prelude.{◌≡◌, ℕ, ◌+◌, ◌*◌, ◌^◌, ◌<◌, ◌≤◌, ℤ, pos, neg_ℤ, ◌+ℤ◌, ◌-ℤ◌, ◌*ℤ◌, ◌≤ℤ◌, ◌<ℤ◌, unsigned_abs, Option, Some}
+use Rattle.curve_law.specs.Track.{Track}
+
+-- the minutes from the first to the last, the track over them, and how much its value changes at most in each minute of a cell,
+-- which is given by its first minute and its number of minutes; a cell may have no such rate
+pub record Meaning : Type 0 where
+  pub first : ℤ
+  pub last : ℤ
+  pub track : Track
+  pub rate : ℤ → ℕ → Option ℤ
+
+-- a minute that has a value
+pub record IsMinute (c : Meaning) (m : ℤ) : Type 0 where
+  pub first : c.first ≤ℤ m
+  pub last : m ≤ℤ c.last
+
+-- a span of so many minutes that has a value at both ends, and so at each of its minutes
+pub record IsSpan (c : Meaning) (a : ℤ) (n : ℕ) : Type 0 where
+  pub first : c.first ≤ℤ a
+  pub last : (a +ℤ pos n) ≤ℤ c.last
+
+-- a cell of so many minutes that has a value at both ends, of a length that may have a rate
+pub record IsCell (c : Meaning) (a : ℤ) (n : ℕ) : Type 0 where
+  pub first : c.first ≤ℤ a
+  pub last : (a +ℤ pos n) ≤ℤ c.last
+  pub some : 1 ≤ n
+  pub few : n ≤ 1024
+
+-- each step of a minute within the cell changes the value by at most the rate
+pub record IsRate (c : Meaning) (a : ℤ) (n : ℕ) (rate : ℤ) : Type 0 where
+  pub small : (rate *ℤ pos 1024) <ℤ pos (5 * 10 ^ 37)
+  pub steps : (k : ℕ) → k < n →
+      pos (unsigned_abs (c.track.value (a +ℤ pos k +ℤ pos 1) -ℤ c.track.value (a +ℤ pos k))) ≤ℤ rate
+
+-- what holds of every curve
+pub record IsLawful (c : Meaning) : Type 0 where
+  pub forward : c.first ≤ℤ c.last
+  pub early : neg_ℤ (pos (2 ^ 60)) ≤ℤ c.first
+  pub late : c.last ≤ℤ pos (2 ^ 60)
+  pub values : (m : ℤ) → IsMinute c m → unsigned_abs (c.track.value m) < 10 ^ 37
+  pub rates : (a : ℤ) (n : ℕ) (rate : ℤ) → IsCell c a n → c.rate a n ≡ Some rate → IsRate c a n rate
+
+-- two curves say the same of a span of so many minutes: the kinds, the value and the level at each minute, the rate of each cell
+pub record AgreeOver (c d : Meaning) (a : ℤ) (n : ℕ) : Type 0 where
+  pub rising : c.track.rising ≡ d.track.rising
+  pub falling : c.track.falling ≡ d.track.falling
+  pub values : (k : ℕ) → k ≤ n → c.track.value (a +ℤ pos k) ≡ d.track.value (a +ℤ pos k)
+  pub notes : (k : ℕ) → k ≤ n → c.track.note (a +ℤ pos k) ≡ d.track.note (a +ℤ pos k)
+  pub rates : (k l : ℕ) → k + l ≤ n → 1 ≤ l → l ≤ 1024 → c.rate (a +ℤ pos k) l ≡ d.rate (a +ℤ pos k) l

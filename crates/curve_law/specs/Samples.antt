@@ -1,0 +1,29 @@
+-- Small curves, for tests (this project).
+use Rattle.std.specs.Prelude.{Bool, ℤ, pos, negsuc, ◌+ℤ◌, ◌-ℤ◌, if◌then◌else◌, Some, None}
+use Rattle.std.specs.Int.{int_rem_euclid}
+use Rattle.std.specs.Ordering.{int_eq}
+use Rattle.curve_law.specs.declared.kind.Kind.TheVariants.{High, Low, MarkRising, MarkFalling}
+use Rattle.curve_law.specs.Meaning.{Meaning}
+
+-- a value that rises or falls by 1 each minute; its level is the minute
+abbrev pub line : ℤ → Bool → ℤ → Meaning
+line start falls rate = record {
+  first = negsuc 999999;
+  last = pos 1000000;
+  track = record { value = λ m. if falls then start -ℤ m else start +ℤ m; note = λ m. m; rising = Low; falling = High };
+  rate = λ a n. Some rate;
+}
+
+-- 1 at even minutes and -1 at odd ones, with no rate
+abbrev pub ripple : Meaning
+ripple = record {
+  first = negsuc 999999;
+  last = pos 1000000;
+  track = record {
+    value = λ m. if int_eq (int_rem_euclid m (pos 2)) (pos 0) then pos 1 else negsuc 0;
+    note = λ m. pos 0;
+    rising = MarkRising;
+    falling = MarkFalling;
+  };
+  rate = λ a n. None;
+}

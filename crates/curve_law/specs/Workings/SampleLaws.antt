@@ -1,0 +1,41 @@
+-- The small curves are lawful.
+use Rattle.std.specs.Prelude.{◌≡◌, ◌^◌, ◌<◌, ◌≤◌, ℤ, pos, negsuc, ◌+ℤ◌, ◌-ℤ◌, ◌≤ℤ◌, unsigned_abs, Some, Bool, true, false, cond}
+use Rattle.std.proofs.Common.{arith}
+use Rattle.std.proofs.lemmas.Int.{ints}
+use Rattle.curve_law.specs.Meaning.{IsMinute, IsLawful}
+use Rattle.curve_law.specs.Samples.{line, ripple}
+
+line-value : (start : ℤ) (falls : Bool) (rate m : ℤ) → unsigned_abs start ≤ 10 ^ 12 → IsMinute (line start falls rate) m → unsigned_abs (cond falls (start -ℤ m) (start +ℤ m)) < 10 ^ 37
+line-value start true rate m near minute = let first = minute.first in let last = minute.last in omega (arith, ints)
+line-value start false rate m near minute = let first = minute.first in let last = minute.last in omega (arith, ints)
+
+line-step : (start : ℤ) (falls : Bool) (rate m : ℤ) → pos 1 ≤ℤ rate → pos (unsigned_abs (cond falls (start -ℤ (m +ℤ pos 1)) (start +ℤ (m +ℤ pos 1)) -ℤ cond falls (start -ℤ m) (start +ℤ m))) ≤ℤ rate
+line-step start true rate m gentle = omega (arith, ints)
+line-step start false rate m gentle = omega (arith, ints)
+
+same_rate : (r s : ℤ) → Some r ≡ Some s → r ≡ s
+same_rate r s e = cc
+
+pub line-lawful : (start : ℤ) (falls : Bool) (rate : ℤ) → unsigned_abs start ≤ 10 ^ 12 → pos 1 ≤ℤ rate → rate ≤ℤ pos (10 ^ 12) → IsLawful (line start falls rate)
+line-lawful start falls rate near gentle small = record {
+  forward = omega (arith, ints);
+  early = omega (arith, ints);
+  late = omega (arith, ints);
+  values = λ m minute. line-value start falls rate m near minute;
+  rates = λ a n told cell is.
+      let same = same_rate rate told is in
+      record { small = omega (arith, ints); steps = λ k few. rw (← same) (line-step start falls rate (a +ℤ pos k) gentle) };
+}
+
+ripple-value : (b : Bool) → unsigned_abs (cond b (pos 1) (negsuc 0)) < 10 ^ 37
+ripple-value true = omega arith
+ripple-value false = omega arith
+
+pub ripple-lawful : IsLawful ripple
+ripple-lawful = record {
+  forward = omega (arith, ints);
+  early = omega (arith, ints);
+  late = omega (arith, ints);
+  values = λ m minute. ripple-value _;
+  rates = λ a n rate cell is. cc;
+}

@@ -1,0 +1,63 @@
+//! What follows of cells, of the curve's law and of verdicts.
+
+ghost use Rattle.std.specs.Prelude.{◌≡◌, ℕ, ◌+◌, ◌-◌, ◌/◌, ◌<◌, ◌≤◌, ℤ, pos, ◌+ℤ◌, true, false, List, [], ◌∷◌, ◌++◌, length};
+ghost use Rattle.curve_law.specs.declared.cell.Cell.{Cell};
+ghost use Rattle.curve_law.specs.declared.verdict.Verdict.{Verdict};
+ghost use Rattle.curve_law.specs.Track.{side_at, has_event, plain_list};
+ghost use Rattle.curve_law.specs.Meaning.{Meaning, IsSpan, IsLawful, AgreeOver};
+ghost use Rattle.curve_law.specs.Cells.{all_minutes, turns};
+ghost use Rattle.curve_law.specs.Cover.{is_quiet, unit_cell, split, cover};
+ghost use Rattle.curve_law.specs.Verdicts.{verdict};
+
+/// The cells of a block: one of a single minute, one that is quiet, or those of its first half,
+/// rounded down, and of the rest.
+pub fn cells_are_halved()
+    ensures one_minute { (c : Meaning) (a : ℤ) → split c a 1 ≡ unit_cell c.track a ∷ [] }
+    ensures quiet { (c : Meaning) (a : ℤ) (n : ℕ) → is_quiet c a n ≡ true → split c a n ≡ Cell.Quiet n ∷ [] }
+    ensures halves { (c : Meaning) (a : ℤ) (n : ℕ) → 2 ≤ n → is_quiet c a n ≡ false →
+        split c a n ≡ split c a (n / 2) ++ split c (a +ℤ pos (n / 2)) (n - n / 2) }
+{}
+
+/// The cells of a span: none, those of its last block of at most 1,024 minutes, or those of a block
+/// of 1,024 minutes and of the rest.
+pub fn spans_are_cut_into_blocks()
+    ensures no_minute { (c : Meaning) (a : ℤ) → cover c a 0 ≡ [] }
+    ensures last_block { (c : Meaning) (a : ℤ) (n : ℕ) → n ≤ 1024 → cover c a n ≡ split c a n }
+    ensures block { (c : Meaning) (a : ℤ) (n : ℕ) → 1024 < n →
+        cover c a n ≡ split c a 1024 ++ cover c (a +ℤ pos 1024) (n - 1024) }
+{}
+
+/// Inside a quiet cell no side differs from that at its ends, and no event stands after any of its
+/// minutes.
+pub fn quiet_cells_have_no_event()
+    ensures sides { (c : Meaning) (a : ℤ) (n : ℕ) → IsLawful c → IsSpan c a n → is_quiet c a n ≡ true →
+        (k : ℕ) → k ≤ n → side_at c.track (a +ℤ pos k) ≡ side_at c.track a }
+    ensures no_event { (c : Meaning) (a : ℤ) (n : ℕ) → IsLawful c → IsSpan c a n → is_quiet c a n ≡ true →
+        (k : ℕ) → k < n → has_event c.track (a +ℤ pos k) ≡ false }
+{}
+
+/// The events of accepted cells are exactly those of the span, whoever made the cells.
+pub fn accepted_cells_are_exact()
+    ensures { (c : Meaning) (a : ℤ) (n : ℕ) (cells : List Cell) → IsLawful c → IsSpan c a n →
+        verdict c a n cells ≡ Verdict.Accepted → turns a cells ≡ plain_list c.track a n }
+{}
+
+/// The cells of a span by the rule have its minutes, at most one cell a minute. They are accepted,
+/// and so their events are exactly those of the span.
+pub fn covers_are_accepted()
+    ensures minutes { (c : Meaning) (a : ℤ) (n : ℕ) → all_minutes (cover c a n) ≡ n }
+    ensures few { (c : Meaning) (a : ℤ) (n : ℕ) → length (cover c a n) ≤ n }
+    ensures accepted { (c : Meaning) (a : ℤ) (n : ℕ) → verdict c a n (cover c a n) ≡ Verdict.Accepted }
+    ensures exact { (c : Meaning) (a : ℤ) (n : ℕ) → IsLawful c → IsSpan c a n →
+        turns a (cover c a n) ≡ plain_list c.track a n }
+{}
+
+/// Two curves that say the same of a span have the same events there, the same cells and the same
+/// verdicts, whatever they say elsewhere.
+pub fn agreeing_curves_have_one_answer()
+    ensures events { (c d : Meaning) (a : ℤ) (n : ℕ) → AgreeOver c d a n →
+        plain_list c.track a n ≡ plain_list d.track a n }
+    ensures cells { (c d : Meaning) (a : ℤ) (n : ℕ) → AgreeOver c d a n → cover c a n ≡ cover d a n }
+    ensures verdicts { (c d : Meaning) (a : ℤ) (n : ℕ) (cells : List Cell) → AgreeOver c d a n →
+        verdict c a n cells ≡ verdict d a n cells }
+{}

@@ -1,0 +1,37 @@
+//! A list of cells.
+
+ghost use Rattle.std.specs.Prelude.{◌≡◌};
+
+use crate::cell::Cell;
+use std::marker::Model;
+
+/// Cells that lie one after the other. Contracts see it as the list of them.
+#[derive(Clone, Debug, Drop)]
+pub struct Cells {
+    items: Vec<Cell>,
+}
+
+impl Model for Cells {
+    ghost use Rattle.std.specs.Prelude.{List};
+    ghost use Rattle.curve_law.specs.declared.cell.Cell.{Cell};
+
+    ghost Value = { List Cell };
+
+    ghost view = { λ l. l.items.items };
+}
+
+impl Cells {
+    /// The list of a vector's cells. It takes no memory.
+    pub fn from_vec(items: Vec<Cell>) -> Cells
+        ensures { result ≡ items.items }
+    {
+        Cells { items }
+    }
+
+    /// The cells, lent.
+    pub fn as_slice(&self) -> &[Cell]
+        ensures { result.now ≡ self.now }
+    {
+        self.items.as_slice()
+    }
+}

@@ -1,0 +1,60 @@
+//! A value at each minute, and how fast it may change.
+
+ghost use Rattle.std.specs.Prelude.{◌≡◌, ℕ, ◌+◌, ◌^◌, ◌<◌};
+ghost use Rattle.curve_law.specs.Meaning.{Meaning, IsMinute, IsCell, IsLawful};
+
+use crate::kind::Kind;
+
+/// A track that is asked minute by minute, and that knows how fast its value may change.
+///
+/// Minutes are counted from 1970-01-01T00:00Z. What a curve means never changes; it counts how many
+/// values it was asked for.
+pub trait Curve {
+    /// The minutes, values, levels, kinds and rates that it tells.
+    ghost meaning: { Self → Meaning };
+
+    /// How many values it was asked for.
+    ghost count: { Self → ℕ };
+
+    /// The first minute that has a value.
+    fn first(&self) -> i64
+        ensures { result ≡ (meaning self.now).first };
+
+    /// The last minute that has a value.
+    fn last(&self) -> i64
+        ensures { result ≡ (meaning self.now).last };
+
+    /// The value at a minute, below 10^37 in size. It is the one call that counts.
+    fn value(&mut self, m: i64) -> i128
+        requires minute { IsMinute (meaning self.old) m }
+        requires few { count self.old < 2 ^ 63 }
+        ensures value { result ≡ (meaning self.old).track.value m }
+        ensures counted { count self.new ≡ count self.old + 1 }
+        ensures same { meaning self.new ≡ meaning self.old };
+
+    /// How much the value changes at most in each of `n` minutes from `a` on, from 1 to 1,024
+    /// minutes, where the curve can tell. 1,024 times a rate is below 5*10^37.
+    fn rate(&self, a: i64, n: u32) -> Option<i128>
+        requires { IsCell (meaning self.now) a n }
+        ensures { result ≡ (meaning self.now).rate a n };
+
+    /// The level that an event after a minute carries, in millionths of the station's unit.
+    fn note(&self, m: i64) -> i64
+        requires { IsMinute (meaning self.now) m }
+        ensures { result ≡ (meaning self.now).track.note m };
+
+    /// The kind of an event where the value rises past 0.
+    fn rising(&self) -> Kind
+        ensures { result ≡ (meaning self.now).track.rising };
+
+    /// The kind of an event where the value falls to 0 or below.
+    fn falling(&self) -> Kind
+        ensures { result ≡ (meaning self.now).track.falling };
+
+    /// How many values it was asked for.
+    fn evaluations(&self) -> u64
+        ensures { result ≡ count self.now };
+
+    /// A rate is a bound on each step, and all numbers are within their limits.
+    ghost lawful: { (curve : Self) → IsLawful (meaning curve) };
+}

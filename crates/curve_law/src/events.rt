@@ -1,0 +1,37 @@
+//! A list of events.
+
+ghost use Rattle.std.specs.Prelude.{◌≡◌};
+
+use crate::event::Event;
+use std::marker::Model;
+
+/// Events in their order. Contracts see it as the list of them.
+#[derive(Clone, Debug, Drop)]
+pub struct Events {
+    items: Vec<Event>,
+}
+
+impl Model for Events {
+    ghost use Rattle.std.specs.Prelude.{List};
+    ghost use Rattle.curve_law.specs.declared.event.Event.{Event};
+
+    ghost Value = { List Event };
+
+    ghost view = { λ l. l.items.items };
+}
+
+impl Events {
+    /// The list of a vector's events. It takes no memory.
+    pub fn from_vec(items: Vec<Event>) -> Events
+        ensures { result ≡ items.items }
+    {
+        Events { items }
+    }
+
+    /// The events, lent.
+    pub fn as_slice(&self) -> &[Event]
+        ensures { result.now ≡ self.now }
+    {
+        self.items.as_slice()
+    }
+}

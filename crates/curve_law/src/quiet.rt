@@ -1,0 +1,92 @@
+//! Which cell lies between two values.
+
+ghost use Rattle.std.specs.Prelude.{◌≡◌, ◌*◌, ◌^◌, ◌<◌, ◌≤◌, pos, ◌+ℤ◌, ◌*ℤ◌, ◌≤ℤ◌, ◌<ℤ◌, unsigned_abs, Some};
+ghost use Rattle.curve_law.specs.Meaning.{IsMinute, IsSpan};
+ghost use Rattle.curve_law.specs.Track.{side_at};
+ghost use Rattle.curve_law.specs.Cover.{keeps_side, is_quiet, unit_cell};
+
+use crate::cell::Cell;
+use crate::curve::Curve;
+use crate::passing::kind_after;
+
+/// The most minutes of a quiet cell, and the minutes of a block.
+pub const MOST_MINUTES: u32 = 1024;
+
+/// Whether the `n` minutes from `a` on are a quiet cell, by the values at both ends.
+pub fn is_quiet<C: Curve>(curve: &C, a: i64, n: u32, value: i128, end_value: i128) -> bool
+    requires span { IsSpan (C.meaning curve.now) a n }
+    requires value { value ≡ (C.meaning curve.now).track.value a }
+    requires end_value { end_value ≡ (C.meaning curve.now).track.value (a +ℤ pos n) }
+    ensures { result ≡ is_quiet (C.meaning curve.now) a n }
+{
+    if n < 2 || n > MOST_MINUTES {
+        return false;
+    }
+    match curve.rate(a, n) {
+        Some(rate) => keeps_side(rate, n, value, end_value),
+        None => false,
+    }
+}
+
+/// The cell of the single minute `a`, by the values at it and at the next minute.
+pub fn unit_cell<C: Curve>(curve: &C, a: i64, value: i128, next_value: i128) -> Cell
+    requires minute { IsMinute (C.meaning curve.now) a }
+    requires value { value ≡ (C.meaning curve.now).track.value a }
+    requires next_value { next_value ≡ (C.meaning curve.now).track.value (a +ℤ pos 1) }
+    ensures { result ≡ unit_cell (C.meaning curve.now).track a }
+{
+    cell_of_sides(curve, a, value > 0, next_value > 0)
+}
+
+fn cell_of_sides<C: Curve>(curve: &C, a: i64, is_above: bool, is_above_next: bool) -> Cell
+    requires minute { IsMinute (C.meaning curve.now) a }
+    requires side { is_above ≡ side_at (C.meaning curve.now).track a }
+    requires next_side { is_above_next ≡ side_at (C.meaning curve.now).track (a +ℤ pos 1) }
+    ensures { result ≡ unit_cell (C.meaning curve.now).track a }
+{
+    if is_above_next == is_above {
+        return Cell::Still;
+    }
+    Cell::Turn(
+        kind_after(is_above, curve.rising(), curve.falling()),
+        curve.note(a),
+    )
+}
+
+/// Whether the values at both ends of `n` minutes are too far on one side of 0 for the rate to lead to
+/// the other side between them.
+fn keeps_side(rate: i128, n: u32, value: i128, end_value: i128) -> bool
+    requires positive { pos 0 ≤ℤ rate }
+    requires rate { (rate *ℤ pos 1024) <ℤ pos (5 * 10 ^ 37) }
+    requires few { n ≤ 1024 }
+    requires value { unsigned_abs value < 10 ^ 37 }
+    requires end_value { unsigned_abs end_value < 10 ^ 37 }
+    ensures { result ≡ keeps_side (Some rate) n value end_value }
+{
+    let most = most_change(rate, n);
+    let sum = sum(value, end_value);
+    if value > 0 {
+        end_value > 0 && sum > most
+    } else {
+        end_value <= 0 && self::sum(sum, most) <= 0
+    }
+}
+
+/// The most that a value changes by in `n` minutes.
+fn most_change(rate: i128, n: u32) -> i128
+    requires positive { pos 0 ≤ℤ rate }
+    requires rate { (rate *ℤ pos 1024) <ℤ pos (5 * 10 ^ 37) }
+    requires few { n ≤ 1024 }
+    ensures value { result ≡ rate *ℤ pos n }
+    ensures size { unsigned_abs result < 5 * 10 ^ 37 }
+{
+    rate * i128::from(n)
+}
+
+fn sum(a: i128, b: i128) -> i128
+    requires a { unsigned_abs a < 5 * 10 ^ 37 }
+    requires b { unsigned_abs b < 5 * 10 ^ 37 }
+    ensures { result ≡ a +ℤ b }
+{
+    a + b
+}

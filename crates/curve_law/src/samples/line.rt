@@ -1,0 +1,92 @@
+//! A line.
+
+ghost use Rattle.std.specs.Prelude.{◌≡◌, ◌^◌, ◌≤◌, unsigned_abs, pos, ◌+ℤ◌, ◌-ℤ◌, ◌≤ℤ◌, if◌then◌else◌};
+
+use crate::curve::Curve;
+use crate::kind::Kind;
+
+/// A value that rises or falls by 1 each minute, over the minutes from -1,000,000 to 1,000,000. Its
+/// level is the minute, and its rate may be greater than it need be.
+#[derive(Debug, Drop)]
+pub struct Line {
+    start: i64,
+    falls: bool,
+    rate: i64,
+    asked: u64,
+    ghost near: { unsigned_abs start ≤ 10 ^ 12 },
+    ghost gentle: { pos 1 ≤ℤ rate },
+    ghost small: { rate ≤ℤ pos (10 ^ 12) },
+}
+
+impl Line {
+    ghost use Rattle.curve_law.specs.Samples.{line};
+
+    /// The line through `start` at minute 0. No value was asked yet.
+    pub fn new(start: i64, falls: bool, rate: i64) -> Line
+        requires near { unsigned_abs start ≤ 10 ^ 12 }
+        requires gentle { pos 1 ≤ℤ rate }
+        requires small { rate ≤ℤ pos (10 ^ 12) }
+        ensures meaning { ⟦<Line as Curve>⟧.meaning result ≡ line start falls rate }
+        ensures count { ⟦<Line as Curve>⟧.count result ≡ 0 }
+    {
+        Line {
+            start,
+            falls,
+            rate,
+            asked: 0,
+        }
+    }
+}
+
+impl Curve for Line {
+    ghost use Rattle.curve_law.specs.Samples.{line};
+    ghost use Rattle.curve_law.specs.Workings.SampleLaws.{line-lawful};
+
+    ghost meaning = { λ l. line l.start l.falls l.rate };
+
+    ghost count = { λ l. l.asked };
+
+    ghost lawful = { λ l. line-lawful l.start l.falls l.rate l.near l.gentle l.small };
+
+    fn first(&self) -> i64 {
+        -1_000_000
+    }
+
+    fn last(&self) -> i64 {
+        1_000_000
+    }
+
+    fn value(&mut self, m: i64) -> i128 {
+        self.asked += 1;
+        height(self.start, self.falls, m) as i128
+    }
+
+    fn rate(&self, _a: i64, _n: u32) -> Option<i128> {
+        Some(self.rate as i128)
+    }
+
+    fn note(&self, m: i64) -> i64 {
+        m
+    }
+
+    fn rising(&self) -> Kind {
+        Kind::Low
+    }
+
+    fn falling(&self) -> Kind {
+        Kind::High
+    }
+
+    fn evaluations(&self) -> u64 {
+        self.asked
+    }
+}
+
+fn height(start: i64, falls: bool, m: i64) -> i64
+    requires start { unsigned_abs start ≤ 10 ^ 12 }
+    requires minute { unsigned_abs m ≤ 10 ^ 6 }
+    ensures value { result ≡ (if falls then start -ℤ m else start +ℤ m) }
+    ensures size { unsigned_abs result ≤ 10 ^ 13 }
+{
+    if falls { start - m } else { start + m }
+}

@@ -1,0 +1,68 @@
+//! A value that changes side after each minute.
+
+ghost use Rattle.std.specs.Prelude.{◌≡◌};
+
+use crate::curve::Curve;
+use crate::kind::Kind;
+
+/// 1 at even minutes and -1 at odd ones, from -1,000,000 to 1,000,000, with no rate.
+#[derive(Debug, Default, Drop)]
+pub struct Ripple {
+    asked: u64,
+}
+
+impl Ripple {
+    ghost use Rattle.curve_law.specs.Samples.{ripple};
+
+    /// A ripple of which no value was asked yet.
+    pub fn new() -> Ripple
+        ensures meaning { ⟦<Ripple as Curve>⟧.meaning result ≡ ripple }
+        ensures count { ⟦<Ripple as Curve>⟧.count result ≡ 0 }
+    {
+        Ripple { asked: 0 }
+    }
+}
+
+impl Curve for Ripple {
+    ghost use Rattle.curve_law.specs.Samples.{ripple};
+    ghost use Rattle.curve_law.specs.Workings.SampleLaws.{ripple-lawful};
+
+    ghost meaning = { λ _. ripple };
+
+    ghost count = { λ r. r.asked };
+
+    ghost lawful = { λ _. ripple-lawful };
+
+    fn first(&self) -> i64 {
+        -1_000_000
+    }
+
+    fn last(&self) -> i64 {
+        1_000_000
+    }
+
+    fn value(&mut self, m: i64) -> i128 {
+        self.asked += 1;
+        if m.rem_euclid(2) == 0 { 1 } else { -1 }
+    }
+
+    fn rate(&self, _a: i64, _n: u32) -> Option<i128> {
+        None
+    }
+
+    fn note(&self, _m: i64) -> i64 {
+        0
+    }
+
+    fn rising(&self) -> Kind {
+        Kind::MarkRising
+    }
+
+    fn falling(&self) -> Kind {
+        Kind::MarkFalling
+    }
+
+    fn evaluations(&self) -> u64 {
+        self.asked
+    }
+}
