@@ -1,0 +1,4 @@
+mod Parts
+mod Naming
+mod Telling
+pub mod Predicted

@@ -1,0 +1,12 @@
+use Rattle.std.proofs.Common.{arith}
+use Rattle.std.proofs.lemmas.Int.{ints}
+use Rattle.rate_bound.proofs.tests.told.Goals as goal
+
+pub value-end-requires-clause-minute : goal.value-end-requires-clause-minute
+value-end-requires-clause-minute g c =
+    let lawful = g.met.C.Curve.lawful c.args.curve.now in
+    rw c.value-begin.ensures.same
+    (record {
+      first = omega (arith, ints, c.first-first.ensures, c.if-a-first.false, c.from-2.ensures, c.last-last.ensures, c.if-from-last.false, lawful.early, lawful.late, c.from.ensures, c.if-a-last.false);
+      last = omega (arith, ints, c.first-first.ensures, c.if-a-first.false, c.from-2.ensures, c.last-last.ensures, c.if-from-last.false, lawful.early, lawful.late, c.from.ensures, c.if-a-last.false);
+    })

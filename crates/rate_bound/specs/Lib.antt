@@ -1,0 +1,4 @@
+pub mod Rates
+pub mod Scale
+pub mod Meanings
+pub mod Workings

@@ -1,0 +1,63 @@
+-- The curves of a station (this project): its slope, whose sides tell high and low waters, and its level against a mark.
+use Rattle.std.specs.Prelude.{◌*◌, ◌^◌, length, Bool, if◌then◌else◌, ℤ, pos, ◌+ℤ◌, ◌-ℤ◌, ◌*ℤ◌}
+use Rattle.curve_law.specs.declared.kind.Kind.TheVariants.{High, Low, FloodBegins, EbbBegins, MarkRising, MarkFalling}
+use Rattle.curve_law.specs.Meaning.{Meaning}
+use Rattle.harmonics_text.specs.declared.book.Station.{Station}
+use Rattle.harmonics_text.specs.declared.book.Book.{Book}
+use Rattle.station_curve.specs.Levels.{level_of, slope_of, millionths_of}
+use Rattle.station_curve.specs.Schureman.{predicted_level, predicted_slope, predicted_millionths}
+use Rattle.station_curve.specs.Waves.{Tide}
+use Rattle.year_blend.specs.Weights.{total_weight}
+use Rattle.year_blend.specs.Years.{year_start_of}
+use Rattle.rate_bound.specs.declared.version.Version.{Version}
+use Rattle.rate_bound.specs.Rates.{slope_rate_of, level_rate_of, predicted_slope_rate, predicted_level_rate}
+
+-- the slope: it rises past 0 at a low water, and falls to 0 at a high one
+abbrev pub turn_meaning : Version → Tide → Meaning
+turn_meaning version tide = record {
+  first = year_start_of tide.first_year;
+  last = year_start_of (tide.first_year +ℤ pos (length tide.years));
+  track = record { value = slope_of tide; note = millionths_of tide; rising = Low; falling = High };
+  rate = slope_rate_of version tide;
+}
+
+-- a level of so many times the station's plus some, less a mark; times, plus and mark are in millionths
+abbrev pub over_mark : ℤ → ℤ → ℤ → ℤ → ℤ
+over_mark times plus mark level =
+    (times *ℤ level) +ℤ (pos (10 ^ 6 * total_weight * 10 ^ 9) *ℤ (plus -ℤ mark))
+
+-- where such a level passes the mark; a slack is where a current's passes 0
+abbrev pub mark_meaning : Version → Tide → ℤ → ℤ → ℤ → Bool → Meaning
+mark_meaning version tide times plus mark slack = record {
+  first = year_start_of tide.first_year;
+  last = year_start_of (tide.first_year +ℤ pos (length tide.years));
+  track = record {
+    value = λ m. over_mark times plus mark (level_of tide m);
+    note = millionths_of tide;
+    rising = if slack then FloodBegins else MarkRising;
+    falling = if slack then EbbBegins else MarkFalling;
+  };
+  rate = level_rate_of version times tide;
+}
+
+-- both curves by every constituent of a book
+abbrev pub predicted_turn : Version → Book → Station → Meaning
+predicted_turn version b s = record {
+  first = year_start_of b.first_year;
+  last = year_start_of (b.first_year +ℤ pos b.years);
+  track = record { value = predicted_slope b s; note = predicted_millionths b s; rising = Low; falling = High };
+  rate = predicted_slope_rate version b s;
+}
+
+abbrev pub predicted_mark : Version → Book → Station → ℤ → ℤ → ℤ → Bool → Meaning
+predicted_mark version b s times plus mark slack = record {
+  first = year_start_of b.first_year;
+  last = year_start_of (b.first_year +ℤ pos b.years);
+  track = record {
+    value = λ m. over_mark times plus mark (predicted_level b s m);
+    note = predicted_millionths b s;
+    rising = if slack then FloodBegins else MarkRising;
+    falling = if slack then EbbBegins else MarkFalling;
+  };
+  rate = predicted_level_rate version times b s;
+}

@@ -1,0 +1,11 @@
+-- The numbers that a level is scaled by and set against, in millionths (this project).
+use Rattle.std.specs.Prelude.{◌^◌, ℤ, pos, negsuc, ◌≤ℤ◌}
+
+-- up to 100 times a station's level, and up to 10,000 of the unit more and at the mark
+pub record IsScale (times plus mark : ℤ) : Type 0 where
+  pub times_least : pos 1 ≤ℤ times
+  pub times_most : times ≤ℤ pos (10 ^ 8)
+  pub plus_least : negsuc 9999999999 ≤ℤ plus
+  pub plus_most : plus ≤ℤ pos (10 ^ 10)
+  pub mark_least : negsuc 9999999999 ≤ℤ mark
+  pub mark_most : mark ≤ℤ pos (10 ^ 10)

@@ -1,0 +1,4 @@
+pub mod Cells
+pub mod RateForms
+pub mod TurnLaw
+pub mod MarkLaw

@@ -1,0 +1,24 @@
+//! The curves of a station, with bounds on how fast they change.
+//!
+//! A [`TurnCurve`] is a station's slope, whose sides tell high and low waters, and a [`MarkCurve`] its
+//! level against a mark or a slack. Each is a [`Curve`](curve_law::Curve) over the station's minutes:
+//! it tells a rate for a cell in the plain part of a year, and, where it is blended, across a new year.
+#![tactic(auto)]
+
+mod laws;
+mod mark;
+mod marking;
+mod rates;
+mod stretching;
+mod turn;
+mod version;
+mod worked;
+
+pub use laws::{curves_are_lawful, predicted_curves};
+pub use mark::MarkCurve;
+pub use turn::TurnCurve;
+pub use version::Version;
+pub use worked::{worked_marks, worked_rates, worked_turns};
+
+#[cfg(test)]
+mod tests;

@@ -1,0 +1,152 @@
+//! The level of a station against a mark as a curve.
+
+ghost use Rattle.std.specs.Prelude.{◌≡◌, pos, true};
+ghost use Rattle.std.specs.Bool.{OnTrue};
+ghost use Rattle.station_curve.specs.Limits.{IsGentle};
+ghost use Rattle.rate_bound.specs.Scale.{IsScale};
+
+use crate::marking::{over_mark, scaled};
+use crate::rates::{blended_level_rate, plain_level_rate};
+use crate::stretching::stretch_of;
+use crate::version::Version;
+use curve_law::{Curve, Kind};
+use station_curve::StationCurve;
+use year_blend::Stretch;
+
+/// A level, `times` millionths of the station's and `plus` millionths of the unit, less a mark: where
+/// it passes 0. No call of it takes memory.
+#[derive(Debug, Drop)]
+pub struct MarkCurve<'a> {
+    station: &'a StationCurve,
+    version: Version,
+    times: i64,
+    plus: i64,
+    mark: i64,
+    slack: bool,
+    evaluations: u64,
+    ghost gentle: { IsGentle station.now },
+    ghost scale: { IsScale times plus mark },
+}
+
+impl<'a> MarkCurve<'a> {
+    ghost use Rattle.rate_bound.specs.declared.version.Version.TheVariants.{First, Second};
+    ghost use Rattle.rate_bound.specs.Meanings.{mark_meaning};
+
+    /// The level against a mark, or a current's against 0 where it is a slack, with the rates of
+    /// version 1: those of cells in the plain part of one year. `times` is from 1 to 100,000,000,
+    /// `plus` and `mark` are from -10,000,000,000 to 10,000,000,000, and the mark of a slack is 0. It
+    /// was asked for no value yet.
+    pub fn over(
+        station: &'a StationCurve,
+        times: i64,
+        plus: i64,
+        mark: i64,
+        slack: bool,
+    ) -> MarkCurve<'a>
+        requires scale { IsScale times plus mark }
+        requires slack { OnTrue slack (mark ≡ pos 0) }
+        ensures meaning { ⟦<MarkCurve<'a> as Curve>⟧.meaning result
+            ≡ mark_meaning First station.now times plus mark slack }
+        ensures count { ⟦<MarkCurve<'a> as Curve>⟧.count result ≡ 0 }
+    {
+        station.known();
+        MarkCurve {
+            station,
+            version: Version::First,
+            times,
+            plus,
+            mark,
+            slack,
+            evaluations: 0,
+        }
+    }
+
+    /// The same with the rates of version 2: those of cells across a new year too.
+    pub fn blended(
+        station: &'a StationCurve,
+        times: i64,
+        plus: i64,
+        mark: i64,
+        slack: bool,
+    ) -> MarkCurve<'a>
+        requires scale { IsScale times plus mark }
+        requires slack { OnTrue slack (mark ≡ pos 0) }
+        ensures meaning { ⟦<MarkCurve<'a> as Curve>⟧.meaning result
+            ≡ mark_meaning Second station.now times plus mark slack }
+        ensures count { ⟦<MarkCurve<'a> as Curve>⟧.count result ≡ 0 }
+    {
+        station.known();
+        MarkCurve {
+            station,
+            version: Version::Second,
+            times,
+            plus,
+            mark,
+            slack,
+            evaluations: 0,
+        }
+    }
+}
+
+impl<'a> Curve for MarkCurve<'a> {
+    ghost use Rattle.rate_bound.specs.Meanings.{mark_meaning};
+    ghost use Rattle.rate_bound.specs.Workings.MarkLaw.{mark_lawful};
+
+    ghost meaning = { λ c. mark_meaning c.version c.station.now c.times c.plus c.mark c.slack };
+
+    ghost count = { λ c. c.evaluations };
+
+    ghost lawful = { λ c. mark_lawful c.version c.station.now c.times c.plus c.mark c.slack c.gentle c.scale };
+
+    fn first(&self) -> i64 {
+        self.station.first()
+    }
+
+    fn last(&self) -> i64 {
+        self.station.last()
+    }
+
+    fn value(&mut self, m: i64) -> i128 {
+        self.evaluations += 1;
+        over_mark(self.times, self.plus, self.mark, self.station.level(m))
+    }
+
+    fn rate(&self, a: i64, n: u32) -> Option<i128> {
+        match stretch_of(self.station, a, n) {
+            Stretch::Within { year } => {
+                Some(scaled(self.times, plain_level_rate(&self.station.sums(year))))
+            }
+            Stretch::Across { year } => match self.version {
+                Version::First => None,
+                Version::Second => Some(scaled(
+                    self.times,
+                    blended_level_rate(&self.station.sums(year - 1), &self.station.sums(year)),
+                )),
+            },
+        }
+    }
+
+    fn note(&self, m: i64) -> i64 {
+        self.station.millionths(m)
+    }
+
+    fn rising(&self) -> Kind {
+        if self.slack {
+            Kind::FloodBegins
+        } else {
+            Kind::MarkRising
+        }
+    }
+
+    fn falling(&self) -> Kind {
+        if self.slack {
+            Kind::EbbBegins
+        } else {
+            Kind::MarkFalling
+        }
+    }
+
+    fn evaluations(&self) -> u64 {
+        self.evaluations
+    }
+}

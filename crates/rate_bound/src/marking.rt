@@ -1,0 +1,41 @@
+//! A level against a mark.
+
+ghost use Rattle.std.specs.Prelude.{◌≡◌, ◌*◌, ◌^◌, ◌≤◌, pos, ◌+ℤ◌, ◌-ℤ◌, ◌*ℤ◌, ◌≤ℤ◌, unsigned_abs};
+ghost use Rattle.year_blend.specs.Weights.{total_weight};
+ghost use Rattle.rate_bound.specs.Meanings.{over_mark};
+
+use year_blend::TOTAL_WEIGHT;
+
+/// What a millionth is in a curve of so many millionths times the level: the whole weight times
+/// 10^15.
+const MILLIONTH: i128 = TOTAL_WEIGHT as i128 * 1_000_000_000_000_000;
+
+/// A station's level, so many millionths times it and some millionths more, less a mark.
+pub fn over_mark(times: i64, plus: i64, mark: i64, level: i128) -> i128
+    requires times { unsigned_abs times ≤ 10 ^ 8 }
+    requires plus { unsigned_abs plus ≤ 10 ^ 10 }
+    requires mark { unsigned_abs mark ≤ 10 ^ 10 }
+    requires level { unsigned_abs level ≤ total_weight * (11 * 10 ^ 18) }
+    ensures { result ≡ over_mark times plus mark level }
+{
+    scaled(times, level) + raised(plus - mark)
+}
+
+/// So many times a level, or a level's rate.
+pub fn scaled(times: i64, level: i128) -> i128
+    requires times { unsigned_abs times ≤ 10 ^ 8 }
+    requires level { unsigned_abs level ≤ 10 ^ 29 }
+    ensures value { result ≡ times *ℤ level }
+    ensures size { unsigned_abs result ≤ 10 ^ 37 }
+{
+    i128::from(times) * level
+}
+
+/// So many millionths.
+fn raised(millionths: i64) -> i128
+    requires { unsigned_abs millionths ≤ 2 * 10 ^ 10 }
+    ensures value { result ≡ pos (10 ^ 6 * total_weight * 10 ^ 9) *ℤ millionths }
+    ensures size { unsigned_abs result ≤ 10 ^ 35 }
+{
+    MILLIONTH * i128::from(millionths)
+}

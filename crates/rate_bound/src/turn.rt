@@ -1,0 +1,106 @@
+//! The slope of a station as a curve.
+
+ghost use Rattle.std.specs.Prelude.{◌≡◌};
+ghost use Rattle.station_curve.specs.Limits.{IsGentle};
+
+use crate::rates::{blended_slope_rate, limited, plain_slope_rate};
+use crate::stretching::stretch_of;
+use crate::version::Version;
+use curve_law::{Curve, Kind};
+use station_curve::StationCurve;
+use year_blend::Stretch;
+
+/// The slope of a station: it rises past 0 at a low water, and falls to 0 at a high one. No call of
+/// it takes memory.
+#[derive(Debug, Drop)]
+pub struct TurnCurve<'a> {
+    station: &'a StationCurve,
+    version: Version,
+    evaluations: u64,
+    ghost gentle: { IsGentle station.now },
+}
+
+impl<'a> TurnCurve<'a> {
+    ghost use Rattle.rate_bound.specs.declared.version.Version.TheVariants.{First, Second};
+    ghost use Rattle.rate_bound.specs.Meanings.{turn_meaning};
+
+    /// The slope with the rates of version 1: those of cells in the plain part of one year. It was
+    /// asked for no value yet.
+    pub fn over(station: &'a StationCurve) -> TurnCurve<'a>
+        ensures meaning { ⟦<TurnCurve<'a> as Curve>⟧.meaning result ≡ turn_meaning First station.now }
+        ensures count { ⟦<TurnCurve<'a> as Curve>⟧.count result ≡ 0 }
+    {
+        station.known();
+        TurnCurve {
+            station,
+            version: Version::First,
+            evaluations: 0,
+        }
+    }
+
+    /// The slope with the rates of version 2: those of cells across a new year too.
+    pub fn blended(station: &'a StationCurve) -> TurnCurve<'a>
+        ensures meaning { ⟦<TurnCurve<'a> as Curve>⟧.meaning result ≡ turn_meaning Second station.now }
+        ensures count { ⟦<TurnCurve<'a> as Curve>⟧.count result ≡ 0 }
+    {
+        station.known();
+        TurnCurve {
+            station,
+            version: Version::Second,
+            evaluations: 0,
+        }
+    }
+}
+
+impl<'a> Curve for TurnCurve<'a> {
+    ghost use Rattle.rate_bound.specs.Meanings.{turn_meaning};
+    ghost use Rattle.rate_bound.specs.Workings.TurnLaw.{turn_lawful};
+
+    ghost meaning = { λ c. turn_meaning c.version c.station.now };
+
+    ghost count = { λ c. c.evaluations };
+
+    ghost lawful = { λ c. turn_lawful c.version c.station.now c.gentle };
+
+    fn first(&self) -> i64 {
+        self.station.first()
+    }
+
+    fn last(&self) -> i64 {
+        self.station.last()
+    }
+
+    fn value(&mut self, m: i64) -> i128 {
+        self.evaluations += 1;
+        self.station.slope(m)
+    }
+
+    fn rate(&self, a: i64, n: u32) -> Option<i128> {
+        match stretch_of(self.station, a, n) {
+            Stretch::Within { year } => Some(plain_slope_rate(&self.station.sums(year))),
+            Stretch::Across { year } => match self.version {
+                Version::First => None,
+                Version::Second => limited(blended_slope_rate(
+                    &self.station.sums(year - 1),
+                    &self.station.sums(year),
+                )),
+            },
+        }
+    }
+
+    fn note(&self, m: i64) -> i64 {
+        self.station.millionths(m)
+    }
+
+    fn rising(&self) -> Kind {
+        Kind::Low
+    }
+
+    fn falling(&self) -> Kind {
+        Kind::High
+    }
+
+    fn evaluations(&self) -> u64 {
+        self.evaluations
+    }
+}

@@ -1,0 +1,84 @@
+//! Rates, values and cells that were worked out elsewhere: over half a day's tide at noon and midnight,
+//! 1 high.
+
+ghost use Rattle.std.specs.Prelude.{◌≡◌, ◌*◌, ◌^◌, [], ◌∷◌, Some, None, true, false, pos, negsuc};
+ghost use Rattle.curve_law.specs.Cover.{cover};
+ghost use Rattle.curve_law.specs.Verdicts.{verdict};
+ghost use Rattle.curve_law.specs.declared.cell.Cell.{Cell};
+ghost use Rattle.curve_law.specs.declared.kind.Kind.{Kind};
+ghost use Rattle.curve_law.specs.declared.verdict.Verdict.{Verdict};
+ghost use Rattle.harmonics_text.specs.declared.book.Units.TheVariants.{Feet};
+ghost use Rattle.station_curve.specs.Worked.{small_station, pier_book, shifted_book, pier};
+ghost use Rattle.rate_bound.specs.declared.version.Version.{Version};
+ghost use Rattle.rate_bound.specs.Rates.{predicted_slope_rate, predicted_level_rate};
+ghost use Rattle.rate_bound.specs.Meanings.{predicted_turn, predicted_mark};
+
+/// Rates of eight minutes in the middle of a year's plain part, and of four from an hour before a new
+/// year on. The steepest tide has none there for its slope.
+pub fn worked_rates()
+    ensures plain { predicted_slope_rate Version.First pier_book pier (pos 15791040) 8
+        ≡ Some (pos 10857785564160000000000000000000) }
+    ensures plain_in_both { predicted_slope_rate Version.Second pier_book pier (pos 15791040) 8
+        ≡ Some (pos 10857785564160000000000000000000) }
+    ensures across_by_the_first { predicted_slope_rate Version.First shifted_book pier (pos 15778020) 4 ≡ None }
+    ensures across { predicted_slope_rate Version.Second shifted_book pier (pos 15778020) 4
+        ≡ Some (pos 202958823641415808556800000000000) }
+    ensures steepest_plain { predicted_slope_rate Version.Second pier_book (small_station (pos 333333333) Feet) (pos 15791040) 8
+        ≡ Some (pos 3619261851100738145280000000000000) }
+    ensures steepest_across { predicted_slope_rate Version.Second pier_book (small_station (pos 333333333) Feet) (pos 15778020) 4 ≡ None }
+    ensures level { predicted_level_rate Version.First (pos 1000000) pier_book pier (pos 15791040) 8
+        ≡ Some (pos (1000000 * 36192618547200000000000)) }
+    ensures level_across_by_the_first { predicted_level_rate Version.First (pos 1000000) pier_book pier (pos 15778020) 4 ≡ None }
+    ensures twice_the_level_across { predicted_level_rate Version.Second (pos 2000000) pier_book pier (pos 15778020) 4
+        ≡ Some (pos (2000000 * 165792618547200000000000)) }
+{}
+
+/// The slope's cells. In the first minutes of a day the slope falls from 0, too fast for one quiet
+/// cell of eight minutes, by 0.04 per cent. Across a new year a cell is quiet by the second version
+/// alone.
+pub fn worked_turns()
+    ensures from_midnight { cover (predicted_turn Version.First pier_book pier) (pos 15791040) 8
+        ≡ Cell.Still ∷ Cell.Still ∷ Cell.Quiet 2 ∷ Cell.Quiet 4 ∷ [] }
+    ensures too_long { verdict (predicted_turn Version.Second pier_book pier) (pos 15791040) 8 (Cell.Quiet 8 ∷ [])
+        ≡ Verdict.NotQuiet 1 }
+    ensures low_water { cover (predicted_turn Version.Second pier_book pier) (pos 15791399) 2
+        ≡ Cell.Still ∷ Cell.Turn Kind.Low (negsuc 999999) ∷ [] }
+    ensures high_water { cover (predicted_turn Version.Second pier_book pier) (pos 15791759) 1
+        ≡ Cell.Turn Kind.High (pos 999962) ∷ [] }
+    ensures before_a_new_year { (predicted_turn Version.Second pier_book pier).track.value (pos 15778020)
+        ≡ pos 622080000000000000000000000000000 }
+    ensures in_its_blend { (predicted_turn Version.Second pier_book pier).track.value (pos 15778024)
+        ≡ pos 584097739822080000000000000000000 }
+    ensures across_a_new_year { cover (predicted_turn Version.Second pier_book pier) (pos 15778020) 8
+        ≡ Cell.Quiet 4 ∷ Cell.Quiet 4 ∷ [] }
+    ensures not_by_the_first { verdict (predicted_turn Version.First pier_book pier) (pos 15778020) 8 (Cell.Quiet 4 ∷ Cell.Quiet 4 ∷ [])
+        ≡ Verdict.NotQuiet 1 }
+    ensures minute_by_minute { verdict (predicted_turn Version.First pier_book pier) (pos 15778020) 8
+        (Cell.Still ∷ Cell.Still ∷ Cell.Still ∷ Cell.Still ∷ Cell.Still ∷ Cell.Still ∷ Cell.Still ∷ Cell.Still ∷ [])
+        ≡ Verdict.Accepted }
+    ensures no_tide { cover (predicted_turn Version.Second pier_book (small_station (pos 0) Feet)) (pos 15777600) 1024
+        ≡ Cell.Quiet 1024 ∷ [] }
+    ensures no_tide_by_the_first { verdict (predicted_turn Version.First pier_book (small_station (pos 0) Feet)) (pos 15777600) 1024
+        (Cell.Quiet 1024 ∷ []) ≡ Verdict.NotQuiet 1 }
+{}
+
+/// The level's cells against a mark, and a slack's. At two o'clock the level is half the unit, and twice
+/// as much and a half more is one and a half.
+pub fn worked_marks()
+    ensures highest { (predicted_mark Version.Second pier_book pier (pos 1000000) (pos 0) (pos 0) true).track.value (pos 15791040)
+        ≡ pos 4147200000000000000000000000000 }
+    ensures at_the_mark { (predicted_mark Version.Second pier_book pier (pos 1000000) (pos 0) (pos 500000) false).track.value (pos 15791160)
+        ≡ pos 0 }
+    ensures twice_and_more { (predicted_mark Version.Second pier_book pier (pos 2000000) (pos 500000) (pos 1500000) false).track.value (pos 15791160)
+        ≡ pos 0 }
+    ensures a_minute_on { (predicted_mark Version.Second pier_book pier (pos 2000000) (pos 500000) (pos 1500000) false).track.value (pos 15791161)
+        ≡ negsuc 62842040524799999999999999999 }
+    ensures falls_to_the_mark { cover (predicted_mark Version.Second pier_book pier (pos 1000000) (pos 0) (pos 500000) false) (pos 15791159) 1
+        ≡ Cell.Turn Kind.MarkFalling (pos 507538) ∷ [] }
+    ensures rises_past_it { cover (predicted_mark Version.Second pier_book pier (pos 1000000) (pos 0) (pos 500000) false) (pos 15791640) 1
+        ≡ Cell.Turn Kind.MarkRising (pos 500000) ∷ [] }
+    ensures ebb { cover (predicted_mark Version.Second pier_book pier (pos 1000000) (pos 0) (pos 0) true) (pos 15791219) 2
+        ≡ Cell.Turn Kind.EbbBegins (pos 8727) ∷ Cell.Still ∷ [] }
+    ensures flood { cover (predicted_mark Version.Second pier_book pier (pos 1000000) (pos 0) (pos 0) true) (pos 15791580) 1
+        ≡ Cell.Turn Kind.FloodBegins (pos 0) ∷ [] }
+{}
