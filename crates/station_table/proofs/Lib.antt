@@ -1,0 +1,4 @@
+pub mod FieldLemmas
+pub mod OnLiterals
+pub mod RecordLemmas
+pub mod TableLemmas

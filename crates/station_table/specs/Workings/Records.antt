@@ -1,0 +1,23 @@
+-- How far the records of a text have been read.
+use Rattle.std.specs.Prelude.{◌≡◌, ℕ, ◌<◌, List, Option, Some}
+use Rattle.std.specs.Borrow.{Bor}
+use Rattle.csv.specs.Reading.{Ready, Reached, default_config, owned_rows_left, owned_rows_reader, reader_config, reader_state, reader_trim, source_of, strip_bom}
+use Rattle.csv.specs.declared.iter.ByteRecordsIntoIter.{ByteRecordsIntoIter}
+use Rattle.csv.specs.declared.parser.State.TheVariants as st
+use Rattle.csv.specs.declared.reader.Trim.TheVariants as trim
+
+abbrev pub Records : Type 0
+Records = ByteRecordsIntoIter (Bor (List ℕ))
+
+abbrev pub held : Bor (List ℕ) → Option (List ℕ)
+held bytes = Some bytes.now
+
+-- these records of the text were given
+pub record HasGiven (text : List ℕ) (rows : List (List (List ℕ))) (records : Records) : Type 0 where
+  pub trim : reader_trim (owned_rows_reader records) ≡ trim.None
+  pub ready : Ready (owned_rows_reader records)
+  pub turns : 0 < owned_rows_left records
+  pub config : reader_config (owned_rows_reader records) ≡ default_config
+  pub rest : List ℕ
+  pub source : source_of held (owned_rows_reader records) ≡ Some rest
+  pub reached : Reached default_config st.StartRecord (strip_bom text) rows (reader_state (owned_rows_reader records)) rest

@@ -1,0 +1,74 @@
+//! What can be wrong with a table.
+
+use std::alloc::AllocError;
+
+/// What is wrong with a row. The file format numbers these reasons, from 1.
+#[derive(Clone, Copy, Debug, PartialEq, Eq)]
+pub enum OffsetWhy {
+    BadHeader,
+    FieldCount,
+    BadNumber,
+    TooFine,
+    OutOfRange,
+    NotUtf8,
+    BadName,
+    HalfSlack,
+}
+
+impl OffsetWhy {
+    ghost use Rattle.std.specs.Prelude.{◌≡◌};
+    ghost use Rattle.station_table.specs.Reasons.{number_of, text_of};
+
+    /// The reason's number, from 1 to 8.
+    pub fn number(self) -> u32
+        ensures { result ≡ number_of self }
+    {
+        match self {
+            OffsetWhy::BadHeader => 1,
+            OffsetWhy::FieldCount => 2,
+            OffsetWhy::BadNumber => 3,
+            OffsetWhy::TooFine => 4,
+            OffsetWhy::OutOfRange => 5,
+            OffsetWhy::NotUtf8 => 6,
+            OffsetWhy::BadName => 7,
+            OffsetWhy::HalfSlack => 8,
+        }
+    }
+
+    /// The reason in words.
+    pub fn text(self) -> &'static str
+        ensures { result.now ≡ text_of self }
+    {
+        match self {
+            OffsetWhy::BadHeader => "bad header",
+            OffsetWhy::FieldCount => "field count",
+            OffsetWhy::BadNumber => "bad number",
+            OffsetWhy::TooFine => "too fine",
+            OffsetWhy::OutOfRange => "out of range",
+            OffsetWhy::NotUtf8 => "not UTF-8",
+            OffsetWhy::BadName => "bad name",
+            OffsetWhy::HalfSlack => "half slack",
+        }
+    }
+}
+
+/// Why a file has no table.
+#[derive(Clone, Copy, Debug, PartialEq, Eq)]
+pub enum OffsetFault {
+    /// There was not enough memory.
+    NoMemory,
+    /// The first row that breaks a rule, and the first reason. Rows are counted from 1, which is the
+    /// header's; where the file has none, it is at fault.
+    At { row: u32, why: OffsetWhy },
+}
+
+impl From<AllocError> for OffsetFault {
+    ghost use Rattle.std.specs.Prelude.{◌≡◌};
+    ghost use Rattle.station_table.specs.declared.fault.OffsetFault.TheVariants.{NoMemory};
+
+    ghost from_gives = { λ _ e. e ≡ NoMemory };
+
+    fn from(_error: AllocError) -> OffsetFault {
+        OffsetFault::NoMemory
+    }
+}

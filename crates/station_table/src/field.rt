@@ -1,0 +1,133 @@
+//! The fields of a row.
+
+ghost use Rattle.std.specs.Prelude.{◌≡◌, pos, negsuc, IfOk, IsUtf8};
+ghost use Rattle.std.specs.List.{list_all};
+ghost use Rattle.harmonics_text.specs.Books.{IsWithin};
+ghost use Rattle.station_table.specs.Fields.{text_of, is_name_byte, name_of, within, minutes_in, millionths_in, add_of, times_of, plus_of};
+ghost use Rattle.station_table.specs.Offsets.{IsAdd, IsTableName};
+ghost use Rattle.station_table.specs.Workings.Rows.{Reads};
+
+use crate::clock::clock;
+use crate::fault::OffsetWhy;
+use crate::offset::Offset;
+use decimal_text::{DecimalFault, read, split_sign};
+use std::str::from_utf8;
+
+/// The text of a field.
+#[tactic(auto, unfolding(crate::specs::Fields::text_of))]
+fn text(field: &[u8]) -> Result<&str, OffsetWhy>
+    ensures exact { Reads (λ t. t.now) (text_of field.now) result }
+    ensures same { IfOk result (λ t. t.now ≡ field.now) }
+    ensures utf8 { IfOk result (λ t. IsUtf8 field.now) }
+{
+    match from_utf8(field) {
+        Ok(text) => Ok(text),
+        Err(_) => Err(OffsetWhy::NotUtf8),
+    }
+}
+
+fn is_name_byte(b: u8) -> bool
+    ensures { result ≡ is_name_byte b }
+{
+    b >= 32 && b != 127
+}
+
+fn is_printable(text: &[u8]) -> bool
+    ensures { result ≡ list_all is_name_byte text.now }
+{
+    text.iter().all(|b| is_name_byte(*b))
+}
+
+/// The name in a field.
+#[tactic(auto, unfolding(crate::specs::Fields::name_of, crate::specs::Fields::name_in))]
+pub fn name(field: &[u8]) -> Result<&str, OffsetWhy>
+    ensures exact { Reads (λ t. t.now) (name_of field.now) result }
+    ensures sound { IfOk result (λ t. IsTableName t.now) }
+{
+    let name = text(field)?;
+    if field.is_empty() || field.len() > 400 || !is_printable(field) {
+        return Err(OffsetWhy::BadName);
+    }
+    Ok(name)
+}
+
+#[tactic(auto, unfolding(crate::specs::Fields::within))]
+fn within(least: i64, most: i64, value: i128) -> Result<i64, OffsetWhy>
+    ensures exact { result ≡ within least most value }
+    ensures sound { IfOk result (IsWithin least most) }
+{
+    if value < i128::from(least) || i128::from(most) < value {
+        return Err(OffsetWhy::OutOfRange);
+    }
+    Ok(value as i64)
+}
+
+/// The minutes of a clock with a sign.
+#[tactic(auto, unfolding(crate::specs::Fields::minutes_in))]
+fn minutes(text: &[u8]) -> Result<i32, OffsetWhy>
+    ensures exact { result ≡ minutes_in text.now }
+    ensures sound { IfOk result IsAdd }
+{
+    let (negative, body) = split_sign(text);
+    match clock(body) {
+        None => Err(OffsetWhy::BadNumber),
+        Some(size) => {
+            let size = i128::from(size);
+            let minutes = within(-1440, 1440, if negative { -size } else { size })?;
+            Ok(minutes as i32)
+        }
+    }
+}
+
+/// The millionths of a decimal.
+#[tactic(auto, unfolding(crate::specs::Fields::millionths_in))]
+fn millionths(least: i64, most: i64, text: &[u8]) -> Result<i64, OffsetWhy>
+    ensures exact { result ≡ millionths_in least most text.now }
+    ensures sound { IfOk result (IsWithin least most) }
+{
+    match read(text, 6) {
+        Ok(value) => within(least, most, value),
+        Err(DecimalFault::TooFine) => Err(OffsetWhy::TooFine),
+        Err(DecimalFault::BadForm) => Err(OffsetWhy::BadNumber),
+        Err(DecimalFault::TooLong) => Err(OffsetWhy::BadNumber),
+    }
+}
+
+/// How many minutes later, from -1440 to 1440.
+#[tactic(auto, unfolding(crate::specs::Fields::add_of, crate::specs::Fields::value_of))]
+pub fn add(field: &[u8]) -> Result<i32, OffsetWhy>
+    ensures exact { result ≡ add_of field.now }
+    ensures sound { IfOk result IsAdd }
+{
+    text(field)?;
+    if field.is_empty() {
+        return Ok(Offset::USUAL.add);
+    }
+    minutes(field)
+}
+
+/// A factor in millionths, from 1 to 100,000,000.
+#[tactic(auto, unfolding(crate::specs::Fields::times_of, crate::specs::Fields::value_of))]
+pub fn times(field: &[u8]) -> Result<i64, OffsetWhy>
+    ensures exact { result ≡ times_of field.now }
+    ensures sound { IfOk result (IsWithin (pos 1) (pos 100000000)) }
+{
+    text(field)?;
+    if field.is_empty() {
+        return Ok(Offset::USUAL.times);
+    }
+    millionths(1, 100_000_000, field)
+}
+
+/// What is added to a level in millionths, from -10,000,000,000 to 10,000,000,000.
+#[tactic(auto, unfolding(crate::specs::Fields::plus_of, crate::specs::Fields::value_of))]
+pub fn plus(field: &[u8]) -> Result<i64, OffsetWhy>
+    ensures exact { result ≡ plus_of field.now }
+    ensures sound { IfOk result (IsWithin (negsuc 9999999999) (pos 10000000000)) }
+{
+    text(field)?;
+    if field.is_empty() {
+        return Ok(Offset::USUAL.plus);
+    }
+    millionths(-10_000_000_000, 10_000_000_000, field)
+}

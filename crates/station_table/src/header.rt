@@ -1,0 +1,98 @@
+//! The header of a table.
+
+ghost use Rattle.std.specs.Prelude.{◌≡◌, map, length, slice_index_or, [], List, ℕ};
+ghost use Rattle.std.specs.Cmp.Lexicographic.{pointwise};
+ghost use Rattle.std.specs.Str.{bytes_eq};
+ghost use Rattle.csv.specs.Records.{fields_of};
+ghost use Rattle.station_table.specs.Table.{columns_of, has_columns, header_of, field_of};
+
+use crate::fault::{OffsetFault, OffsetWhy};
+use csv::ByteRecord;
+
+/// What a table has in its rows.
+#[derive(Clone, Copy)]
+pub enum Header {
+    /// Offsets for highs and lows.
+    Plain,
+    /// The times of slack water too.
+    WithSlack,
+}
+
+static COLUMNS: [&str; 10] = [
+    "name",
+    "reference",
+    "high_add",
+    "low_add",
+    "high_times",
+    "low_times",
+    "high_plus",
+    "low_plus",
+    "flood_add",
+    "ebb_add",
+];
+
+impl Header {
+    /// How many columns there are.
+    pub fn count(self) -> usize
+        ensures { result ≡ length (columns_of self) }
+    {
+        match self {
+            Header::Plain => 8,
+            Header::WithSlack => 10,
+        }
+    }
+}
+
+/// The field in a column, counted from 0, or no byte where there is none.
+pub fn field(record: &ByteRecord, column: usize) -> &[u8]
+    ensures { result.now ≡ field_of (fields_of record.now) column }
+{
+    match record.get(column) {
+        Some(field) => field,
+        None => &[],
+    }
+}
+
+/// Whether the fields of a record are those names.
+fn has_names(record: &ByteRecord, names: &[&str]) -> bool
+    ensures { result ≡ pointwise bytes_eq (fields_of record.now) (map (λ name. name.now) names.now) }
+{
+    if record.len() != names.len() {
+        return false;
+    }
+    for (column, name) in names.iter().enumerate() {
+        if field(record, column) != name.as_bytes() {
+            return false;
+        }
+    }
+    true
+}
+
+fn has_columns(record: &ByteRecord, header: Header) -> bool
+    ensures { result ≡ has_columns header (fields_of record.now) }
+{
+    match header {
+        Header::Plain => has_names(record, COLUMNS.split_at(8).0),
+        Header::WithSlack => has_names(record, &COLUMNS),
+    }
+}
+
+/// Which header a table's first record is.
+#[tactic(auto, unfolding(crate::specs::Table::header_of))]
+pub fn header_of(record: &ByteRecord) -> Result<Header, OffsetFault>
+    ensures { result ≡ header_of (fields_of record.now) }
+{
+    if has_columns(record, Header::Plain) {
+        Ok(Header::Plain)
+    } else if has_columns(record, Header::WithSlack) {
+        Ok(Header::WithSlack)
+    } else {
+        Err(NO_HEADER)
+    }
+}
+
+/// What is wrong with a file whose first record is no header.
+pub const NO_HEADER: OffsetFault = OffsetFault::At {
+    row: 1,
+    why: OffsetWhy::BadHeader,
+};

@@ -1,0 +1,31 @@
+//! Subordinate stations: a table of how their waters differ from those of a reference station.
+//!
+//! [`read_offsets`] reads an [`OffsetTable`] from a CSV file: a row for each station, with what is
+//! added to the times of its high and low waters and how their levels are scaled. [`find`] gives
+//! the [`Basis`] of a name: its station of a book, and the offsets from it.
+#![tactic(auto)]
+
+mod basis;
+mod clock;
+mod fault;
+mod field;
+mod finding;
+mod header;
+mod offset;
+mod offsets;
+mod reading;
+mod row;
+mod table;
+mod worked;
+
+pub use basis::Basis;
+pub use fault::{OffsetFault, OffsetWhy};
+pub use finding::{FindFault, find};
+pub use offset::{Offset, Slack};
+pub use offsets::Offsets;
+pub use reading::read_offsets;
+pub use table::OffsetTable;
+pub use worked::{worked_bases, worked_fields, worked_rows, worked_tables};
+
+#[cfg(test)]
+mod tests;

@@ -1,0 +1,78 @@
+//! Reading a table.
+
+ghost use Rattle.std.specs.Prelude.{◌≡◌, ◌≤◌, [], length, IfOk};
+ghost use Rattle.decimal_text.specs.Expected.{Gives};
+ghost use Rattle.csv.specs.Records.{fields_of};
+ghost use Rattle.station_table.specs.Offsets.{IsOffsets, IsTable};
+ghost use Rattle.station_table.specs.Reasons.{wants_memory};
+ghost use Rattle.station_table.specs.Table.{at_row, offsets_of, table_of};
+ghost use Rattle.station_table.specs.Workings.Records.{HasGiven};
+
+use crate::fault::OffsetFault;
+use crate::header::{Header, NO_HEADER, header_of};
+use crate::offsets::Offsets;
+use crate::row::row_of;
+use crate::table::OffsetTable;
+use csv::{ByteRecord, ByteRecordsIntoIter, ReaderBuilder};
+use std::alloc::Global;
+
+/// The table of a CSV file, or its first fault.
+///
+/// The first record is the header:
+/// `name,reference,high_add,low_add,high_times,low_times,high_plus,low_plus`, after which
+/// `,flood_add,ebb_add` may stand. Each later one is a station. Names have 1 to 400 bytes of UTF-8
+/// without control bytes. Times to add are as `-0:10`, at most 24:00 either way; factors are decimals
+/// from 0.000001 to 100, and levels to add are decimals from -10000 to 10000. An empty one changes
+/// nothing, and both times of slack water or neither are empty.
+///
+/// The bytes, at most 400,000,000, are gone over once. `At` names the first row that breaks a rule,
+/// with the first reason; only want of memory may come in its place.
+pub fn read_offsets(alloc: Global, bytes: &[u8]) -> Result<OffsetTable, OffsetFault>
+    requires { length bytes.now ≤ 400000000 }
+    ensures exact { Gives wants_memory (table_of bytes.now) result }
+    ensures sound { IfOk result IsTable }
+{
+    let mut records = records_of(alloc, bytes);
+    let header = match records.next() {
+        Some(Ok(names)) => header_of(&names)?,
+        Some(Err(_)) => return Err(OffsetFault::NoMemory),
+        None => return Err(NO_HEADER),
+    };
+    let mut table = OffsetTable::new(alloc);
+    let mut row = 2;
+    for record in records {
+        match record {
+            Ok(record) => table.push(offsets_at(alloc, row, &record, header)?)?,
+            Err(_) => return Err(OffsetFault::NoMemory),
+        }
+        row += 1;
+    }
+    Ok(table)
+}
+
+/// The records of a text, of any lengths.
+fn records_of(alloc: Global, bytes: &[u8]) -> ByteRecordsIntoIter<&[u8]>
+    ensures { HasGiven bytes.now [] result }
+{
+    ReaderBuilder::new()
+        .has_headers(false)
+        .flexible(true)
+        .from_reader(alloc, bytes)
+        .into_byte_records()
+}
+
+/// The offsets of a row, by its number.
+fn offsets_at(
+    alloc: Global,
+    row: u32,
+    record: &ByteRecord,
+    header: Header,
+) -> Result<Offsets, OffsetFault>
+    ensures exact { Gives wants_memory (at_row row (offsets_of header (fields_of record.now))) result }
+    ensures sound { IfOk result IsOffsets }
+{
+    match row_of(record, header) {
+        Ok(offsets) => Ok(offsets.to_offsets(alloc)?),
+        Err(why) => Err(OffsetFault::At { row, why }),
+    }
+}

@@ -1,0 +1,99 @@
+//! One row of a table.
+
+ghost use Rattle.std.specs.Prelude.{◌≡◌, IfOk};
+ghost use Rattle.std.specs.Option.{ForSome};
+ghost use Rattle.csv.specs.Records.{fields_of};
+ghost use Rattle.station_table.specs.Offsets.{IsSlack, IsOffsets};
+ghost use Rattle.station_table.specs.Table.{slack_of, offsets_of};
+ghost use Rattle.station_table.specs.Workings.Rows.{offsets_in, Reads};
+
+use crate::fault::OffsetWhy;
+use crate::field::{add, name, plus, times};
+use crate::header::{Header, field};
+use crate::offset::{Offset, Slack};
+use crate::offsets::Offsets;
+use csv::ByteRecord;
+use decimal_text::Text;
+use std::alloc::{AllocError, Global};
+
+/// A row whose fields are all right. Its names are lent by the record.
+#[derive(Clone, Copy)]
+pub struct Row<'a> {
+    pub name: &'a str,
+    pub reference: &'a str,
+    pub high: Offset,
+    pub low: Offset,
+    pub slack: Option<Slack>,
+}
+
+/// The row of a record, or the first reason why it is none.
+#[tactic(auto, unfolding(crate::specs::Table::offsets_of))]
+pub fn row_of(record: &ByteRecord, header: Header) -> Result<Row<'_>, OffsetWhy>
+    ensures exact { Reads offsets_in (offsets_of header (fields_of record.now)) result }
+    ensures sound { IfOk result (λ row. IsOffsets (offsets_in row)) }
+{
+    if record.len() != header.count() {
+        return Err(OffsetWhy::FieldCount);
+    }
+    let own = name(field(record, 0))?;
+    let reference = name(field(record, 1))?;
+    let high_add = add(field(record, 2))?;
+    let low_add = add(field(record, 3))?;
+    let high_times = times(field(record, 4))?;
+    let low_times = times(field(record, 5))?;
+    let high_plus = plus(field(record, 6))?;
+    let low_plus = plus(field(record, 7))?;
+    let slack = slack(record, header)?;
+    Ok(Row {
+        name: own,
+        reference,
+        high: Offset {
+            add: high_add,
+            times: high_times,
+            plus: high_plus,
+        },
+        low: Offset {
+            add: low_add,
+            times: low_times,
+            plus: low_plus,
+        },
+        slack,
+    })
+}
+
+/// The times of slack water, where the row has both.
+#[tactic(auto, unfolding(crate::specs::Table::slack_of))]
+fn slack(record: &ByteRecord, header: Header) -> Result<Option<Slack>, OffsetWhy>
+    ensures exact { result ≡ slack_of header (fields_of record.now) }
+    ensures sound { IfOk result (λ slack. ForSome slack IsSlack) }
+{
+    match header {
+        Header::Plain => Ok(None),
+        Header::WithSlack => {
+            let flood = field(record, 8);
+            let ebb = field(record, 9);
+            let flood_add = add(flood)?;
+            let ebb_add = add(ebb)?;
+            match (flood.is_empty(), ebb.is_empty()) {
+                (true, true) => Ok(None),
+                (false, false) => Ok(Some(Slack { flood_add, ebb_add })),
+                _ => Err(OffsetWhy::HalfSlack),
+            }
+        }
+    }
+}
+
+impl Row<'_> {
+    /// The row with names of its own.
+    pub fn to_offsets(&self, alloc: Global) -> Result<Offsets, AllocError>
+        ensures { IfOk result (λ offsets. offsets ≡ offsets_in self.now) }
+    {
+        Ok(Offsets {
+            name: Text::from_str(alloc, self.name)?,
+            reference: Text::from_str(alloc, self.reference)?,
+            high: self.high,
+            low: self.low,
+            slack: self.slack,
+        })
+    }
+}
