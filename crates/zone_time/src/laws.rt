@@ -1,9 +1,18 @@
-//! What follows of dates and moments as text.
+//! What follows of dates, of moments as text and of zone files.
 
 ghost use Rattle.std.specs.Prelude.{◌≡◌, ℕ, ℤ, pos, List, Some};
+ghost use Rattle.std.specs.Bool.{Decides};
 ghost use Rattle.jiff_core.specs.Calendar.{IsCivilDate, days_from_civil};
+ghost use Rattle.jiff_core.specs.Timestamp.{nanos_of_seconds};
+ghost use Rattle.jiff_tz.specs.declared.posix.TimeZone.{TimeZone};
+ghost use Rattle.jiff_tz.specs.declared.tzif.Tzif.{Tzif};
+ghost use Rattle.jiff_tz.specs.PosixText.{tz_view};
+ghost use Rattle.jiff_tz.specs.Tzif.{offset_at, tzif_view};
+ghost use Rattle.jiff_tz.specs.TzifAgree.{FooterAgrees};
+ghost use Rattle.jiff_tz.specs.TzifText.{TransitionText};
 ghost use Rattle.zone_time.specs.Dates.{IsDay, date_of};
 ghost use Rattle.zone_time.specs.Moments.{IsMoment, moment_text, moment_of};
+ghost use Rattle.zone_time.specs.ZoneFiles.{seconds_ahead, goes_on};
 
 /// The date of a day number is in the calendar of `jiff`, and its day number there is the number.
 pub fn days_have_their_date()
@@ -18,4 +27,13 @@ pub fn moments_have_one_text()
     ensures read { (m : ℤ) → IsMoment m → moment_of (moment_text m) ≡ Some m }
     ensures written { (text : List ℕ) (m : ℤ) →
         moment_of text ≡ Some m → IsMoment m × (moment_text m ≡ text) }
+{}
+
+/// The clock of a zone file is ahead as far as `jiff` has its zone's offset at that second, and a rule
+/// goes on from a table exactly where `jiff` finds that the two agree.
+pub fn zone_files_go_by_jiff()
+    ensures ahead { (zone : Tzif) (second : ℤ) →
+        seconds_ahead (tzif_view zone) second ≡ (offset_at zone (nanos_of_seconds second)).seconds }
+    ensures rule { (rule : TimeZone) (rows : List TransitionText) →
+        Decides (goes_on (tz_view rule) rows) (FooterAgrees rows rule) }
 {}

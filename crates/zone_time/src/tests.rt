@@ -1,5 +1,10 @@
+ghost use Rattle.zone_time.specs.Zones.{IsZone};
+
 use super::*;
 use arrayvec::ArrayString;
+use std::alloc::Global;
+use std::process::Abort;
+use std::test::Fail;
 
 #[test]
 fn moments_are_read(rt: HostRuntime) {
@@ -54,6 +59,9 @@ fn moments_are_written(rt: HostRuntime) {
     worked_texts();
     worked_readings();
     worked_locals();
+    worked_clocks();
+    worked_zone_files();
+    zone_files_go_by_jiff();
 }
 
 #[test]
@@ -102,4 +110,78 @@ fn is_written(local: &Local) -> bool {
         Label::Minutes(ahead) => (-1560..=1560).contains(&ahead),
     };
     has_label && (-1036120320..=4223371679).contains(&local.minute)
+}
+
+// The zone file of New York with a table up to 1999: no old block, three changes, three types.
+const OLD_BLOCK: &[u8] =
+    b"TZif2\0\0\0\0\0\0\0\0\0\0\0\0\0\0\0\0\0\0\0\0\0\0\0\0\0\0\0\0\0\0\0\0\0\0\x01\0\0\0\x01\0\0\0\0\0\0\0";
+
+const HEAD: &[u8] =
+    b"TZif2\0\0\0\0\0\0\0\0\0\0\0\0\0\0\0\0\0\0\0\0\0\0\0\0\0\0\0\0\0\0\x03\0\0\0\x03\0\0\0\x0c";
+
+const CHANGES: &[u8] = b"\xff\xff\xff\xff^\x03\xf0\x90\0\0\0\06\xeb^p\0\0\0\08%\x15`\x02\x01\x02";
+
+const TYPES: &[u8] =
+    b"\xff\xff\xba\x9e\0\0\xff\xff\xc7\xc0\x01\x04\xff\xff\xb9\xb0\0\x08LMT\0EDT\0EST\0";
+
+fn new_york(alloc: Global, footer: &[u8]) -> Result<Vec<u8>, Fail> {
+    let mut bytes = Vec::new(alloc);
+    for part in [OLD_BLOCK, HEAD, CHANGES, TYPES, footer] {
+        bytes.extend_from_slice(part)?;
+    }
+    Ok(bytes)
+}
+
+fn check_new_york(rt: &impl Abort, zone: &Zone) -> Result<(), Fail>
+    requires { IsZone zone.now }
+{
+    for (minute, ahead) in [
+        (-63113760, -297),
+        (-45294181, -297),
+        (-45294180, -300),
+        (15386820, -240),
+        (15699239, -240),
+        (15699240, -300),
+        (15880739, -300),
+        (15880740, -240),
+        (16223399, -240),
+        (16223400, -300),
+    ] {
+        assert!(rt; (-1035069120..=3855733919).contains(&minute));
+        let local = zone.local(minute)?;
+        assert!(rt; local.label == Label::Minutes(ahead), "{minute}");
+        assert!(rt; local.minute == minute + i64::from(ahead), "{minute}");
+    }
+    Ok(())
+}
+
+#[test]
+fn zones_show_local_times(rt: HostRuntime) -> Result<(), Fail> {
+    let bytes = new_york(rt.alloc(), b"\nEST5EDT,M3.2.0,M11.1.0\n")?;
+    let zone = read_zone(rt.alloc(), bytes.as_slice())?;
+    check_new_york(&rt, &zone)?;
+    let local = Zone::Fixed(-300).local(15791400)?;
+    assert!(rt; local.minute == 15791100 && local.label == Label::Minutes(-300));
+    let local = Zone::Utc.local(15791400)?;
+    assert!(rt; local.minute == 15791400 && local.label == Label::Utc);
+    Ok(())
+}
+
+#[test]
+fn bad_zone_files_are_refused(rt: HostRuntime) -> Result<(), Fail> {
+    for footer in [
+        "\nEST5EDT,M3.2.0,M12.1.0\n",
+        "\nEST5EDT,M3.2.0,M11.1.0",
+        "EST5EDT,M3.2.0,M11.1.0\n",
+        "\nEST5EDT\n",
+        "",
+    ] {
+        let bytes = new_york(rt.alloc(), footer.as_bytes())?;
+        let refused = matches!(
+            read_zone(rt.alloc(), bytes.as_slice()),
+            Err(ZoneFault::BadZone)
+        );
+        assert!(rt; refused, "{footer}");
+    }
+    Ok(())
 }

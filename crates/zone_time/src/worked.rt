@@ -1,9 +1,15 @@
-//! Moments and local times that were worked out by hand.
+//! Moments, local times and clocks that were worked out by hand.
 
-ghost use Rattle.std.specs.Prelude.{◌≡◌, pos, negsuc, Some, None, codes};
+ghost use Rattle.std.specs.Prelude.{◌≡◌, pos, negsuc, true, false, [], take, Some, None, Ok, Err, codes};
+ghost use Rattle.jiff_tz.specs.declared.info.Dst.TheVariants.{No};
 ghost use Rattle.zone_time.specs.declared.local.Label.{Label};
+ghost use Rattle.zone_time.specs.declared.zone.Zone.{Zone};
+ghost use Rattle.zone_time.specs.declared.zone_fault.ZoneFault.{ZoneFault};
 ghost use Rattle.zone_time.specs.Moments.{moment_text, moment_of};
 ghost use Rattle.zone_time.specs.Locals.{label_text, local_text};
+ghost use Rattle.zone_time.specs.Worked.{new_york_to, hour_ahead};
+ghost use Rattle.zone_time.specs.ZoneFiles.{clock_minute, is_consistent};
+ghost use Rattle.zone_time.specs.Zones.{local_in, zone_of};
 
 /// Texts of moments: the first and the last that there are, the first of the count and the one
 /// before it, leap days and a century without one.
@@ -47,4 +53,29 @@ pub fn worked_locals()
     ensures half_hour_behind { label_text (Label.Minutes (negsuc 29)) ≡ codes "-00:30" }
     ensures far_behind { label_text (Label.Minutes (negsuc 1559)) ≡ codes "-26:00" }
     ensures first { local_text (record { minute = negsuc 1036120319; label = Label.Utc }) ≡ codes "0000-01-01 00:00 UTC" }
+{}
+
+/// The clock of New York by a table up to 1999 and a rule from then on: seconds of the mean time
+/// are cut off, a row counts from its own second on, and the rule from the last row on.
+pub fn worked_clocks()
+    ensures mean_time { clock_minute (new_york_to (pos 941954400)) (negsuc 63113759) ≡ negsuc 63114056 }
+    ensures last_of_mean_time { clock_minute (new_york_to (pos 941954400)) (negsuc 45294180) ≡ negsuc 45294477 }
+    ensures first_row { clock_minute (new_york_to (pos 941954400)) (negsuc 45294179) ≡ negsuc 45294479 }
+    ensures last_of_daylight { clock_minute (new_york_to (pos 941954400)) (pos 15699239) ≡ pos 15698999 }
+    ensures last_row { clock_minute (new_york_to (pos 941954400)) (pos 15699240) ≡ pos 15698940 }
+    ensures before_march { clock_minute (new_york_to (pos 941954400)) (pos 15880739) ≡ pos 15880439 }
+    ensures from_march { clock_minute (new_york_to (pos 941954400)) (pos 15880740) ≡ pos 15880500 }
+    ensures before_november { clock_minute (new_york_to (pos 941954400)) (pos 16223399) ≡ pos 16223159 }
+    ensures from_november { clock_minute (new_york_to (pos 941954400)) (pos 16223400) ≡ pos 16223100 }
+    ensures label { local_text (local_in (Zone.Fixed (negsuc 299)) (pos 15791400)) ≡ codes "2000-01-10 01:00 -05:00" }
+{}
+
+/// Files that give a zone, and some that don't: a rule that is at odds with the last row, which
+/// ends daylight saving time a week too early, and files that are cut short.
+pub fn worked_zone_files()
+    ensures consistent { is_consistent (new_york_to (pos 941954400)) ≡ true }
+    ensures inconsistent { is_consistent (new_york_to (pos 941349600)) ≡ false }
+    ensures hour_ahead { zone_of hour_ahead ≡ Ok (Zone.File (record { version = 0; first = record { seconds = pos 3600; dst = No; name = codes "CET" }; transitions = []; rule = None })) }
+    ensures cut_short { zone_of (take 53 hour_ahead) ≡ Err ZoneFault.BadZone }
+    ensures empty { zone_of [] ≡ Err ZoneFault.BadZone }
 {}

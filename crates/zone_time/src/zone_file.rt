@@ -1,0 +1,102 @@
+//! The clock of a zone file.
+
+ghost use Rattle.std.specs.Prelude.{◌≡◌, pos, ◌+ℤ◌, ◌-ℤ◌, ◌*ℤ◌};
+ghost use Rattle.std.specs.Int.{int_div_euclid};
+ghost use Rattle.jiff_core.specs.Calendar.{IsWithin};
+ghost use Rattle.jiff_core.specs.Timestamp.{nanos_of_seconds};
+ghost use Rattle.jiff_tz.specs.Tzif.{tzif_view};
+ghost use Rattle.zone_time.specs.Locals.{IsLocal};
+ghost use Rattle.zone_time.specs.Zones.{InZoneYears, local_at};
+
+use crate::local::{Label, Local};
+use jiff_core::Timestamp;
+use jiff_tz::Tzif;
+use std::marker::Model;
+
+/// What `jiff` made of a zone file: how far the clock was ahead of universal time from when on, and
+/// the rule that goes on from there. Contracts see it as what the file says.
+#[derive(Debug, Drop)]
+pub struct ZoneFile {
+    tzif: Tzif,
+}
+
+impl Model for ZoneFile {
+    ghost use Rattle.jiff_tz.specs.TzifReader.{TzifText};
+    ghost use Rattle.jiff_tz.specs.Tzif.{tzif_view};
+
+    ghost Value = { TzifText };
+
+    ghost view = { λ f. tzif_view f.tzif };
+}
+
+impl ZoneFile {
+    ghost use Rattle.zone_time.specs.ZoneFiles.{seconds_ahead, clock_minute};
+
+    pub(crate) fn new(tzif: Tzif) -> ZoneFile
+        ensures { result ≡ tzif_view tzif }
+    {
+        ZoneFile { tzif }
+    }
+
+    /// What the clock shows at a minute, with its seconds cut off.
+    #[tactic(auto, unfolding(crate::specs::ZoneFiles::clock_minute))]
+    pub(crate) fn local(&self, minute: i64) -> Local
+        requires { InZoneYears minute }
+        ensures exact { result ≡ local_at minute (clock_minute self.now minute) }
+        ensures written { IsLocal result }
+    {
+        local_showing(minute, minute_shown(minute, self.ahead(minute)))
+    }
+
+    // How many seconds the clock is ahead of universal time at a minute.
+    fn ahead(&self, minute: i64) -> i32
+        requires { InZoneYears minute }
+        ensures value { result ≡ seconds_ahead self.now (minute *ℤ pos 60) }
+        ensures within { IsWithin 93599 result }
+    {
+        let offset = self.tzif.to_offset(instant(minute));
+        offset.seconds
+    }
+}
+
+// The instant at which a minute begins.
+fn instant(minute: i64) -> Timestamp
+    requires { InZoneYears minute }
+    ensures { result.nanosecond ≡ nanos_of_seconds (minute *ℤ pos 60) }
+{
+    Timestamp {
+        nanosecond: i128::from(minute) * 60_000_000_000,
+    }
+}
+
+// The minute that a clock shows which is so many seconds ahead.
+fn minute_shown(minute: i64, ahead: i32) -> i64
+    requires minute { InZoneYears minute }
+    requires ahead { IsWithin 93599 ahead }
+    ensures value { result ≡ int_div_euclid ((minute *ℤ pos 60) +ℤ ahead) (pos 60) }
+    ensures near { IsWithin 1560 (result -ℤ minute) }
+{
+    let second = minute * 60 + i64::from(ahead);
+    second.div_euclid(60)
+}
+
+// The local time of a clock that shows another minute.
+fn local_showing(minute: i64, shown: i64) -> Local
+    requires minute { InZoneYears minute }
+    requires near { IsWithin 1560 (shown -ℤ minute) }
+    ensures exact { result ≡ local_at minute shown }
+    ensures written { IsLocal result }
+{
+    Local {
+        minute: shown,
+        label: Label::Minutes(minutes_ahead(minute, shown)),
+    }
+}
+
+fn minutes_ahead(minute: i64, shown: i64) -> i32
+    requires minute { InZoneYears minute }
+    requires near { IsWithin 1560 (shown -ℤ minute) }
+    ensures value { result ≡ shown -ℤ minute }
+{
+    (shown - minute) as i32
+}
