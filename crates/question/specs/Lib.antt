@@ -1,0 +1,9 @@
+pub mod Asked
+pub mod Commands
+pub mod Forms
+pub mod Keys
+pub mod Origins
+pub mod Questions
+pub mod Words
+pub mod Worked
+pub mod Workings

@@ -1,0 +1,39 @@
+-- Questions in short, for the worked rows: words with a space between (this project).
+use Rattle.std.specs.Prelude.{ℕ, ◌==◌, Bool, List, map, pos, Some, None, Result}
+use Rattle.std.specs.List.{slice_split}
+use Rattle.question.specs.declared.command.Command.{Command}
+use Rattle.question.specs.declared.fault.AskFault.{AskFault}
+use Rattle.question.specs.declared.origin.Origin.TheVariants.{Query}
+use Rattle.question.specs.declared.question.Layout.TheVariants.{Plain}
+use Rattle.question.specs.declared.question.Question.{Question}
+use Rattle.question.specs.declared.question.ZoneWord.TheVariants.{Utc}
+use Rattle.question.specs.Questions.{question_of}
+use Rattle.question.specs.Words.{item_of, pairs_of}
+
+abbrev pub is_space : ℕ → Bool
+is_space byte = byte == 32
+
+abbrev pub of_line : List ℕ → Result Question AskFault
+of_line words = question_of (pairs_of (slice_split is_space words))
+
+abbrev pub of_query : List ℕ → List (List ℕ) → Result Question AskFault
+of_query command words = question_of (record { origin = Query; command = Some command; items = map item_of words })
+
+-- a question that says nothing beside its command
+abbrev pub bare : Command → Question
+bare command = record {
+  command = command;
+  file = None;
+  offsets = None;
+  certificate = None;
+  station = None;
+  begin = None;
+  end = None;
+  mark = None;
+  step = pos 60;
+  zone = Utc;
+  layout = Plain;
+  seed = None;
+  port = 8080;
+  sheets = None;
+}

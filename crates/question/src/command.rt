@@ -1,0 +1,121 @@
+//! What a question asks for.
+
+ghost use Rattle.std.specs.Prelude.{◌≡◌};
+ghost use Rattle.question.specs.Commands.{command_named};
+
+use crate::origin::Origin;
+
+/// What a question asks for.
+#[derive(Clone, Copy, Debug, PartialEq, Eq)]
+pub enum Command {
+    /// The events of a station over a span.
+    Predict,
+    /// A certificate of these events.
+    Certify,
+    /// Whether a certificate holds.
+    Check,
+    /// Levels at even steps.
+    Heights,
+    /// The events day by day.
+    Calendar,
+    /// What is next at a station from now on.
+    Clock,
+    /// The stations of a file.
+    Stations,
+    /// A file made from a seed.
+    Sample,
+    /// A trial of the program on such a file.
+    Trial,
+    /// The web server.
+    Serve,
+    /// Several sheets of one list of events.
+    Report,
+    /// The highest water of a span.
+    Highest,
+    /// A certificate of it.
+    Peak,
+    /// Whether such a certificate holds.
+    PeakCheck,
+    /// What is known of a station.
+    About,
+}
+
+static COMMANDS: [Command; 15] = [
+    Command::Predict,
+    Command::Certify,
+    Command::Check,
+    Command::Heights,
+    Command::Calendar,
+    Command::Clock,
+    Command::Stations,
+    Command::Sample,
+    Command::Trial,
+    Command::Serve,
+    Command::Report,
+    Command::Highest,
+    Command::Peak,
+    Command::PeakCheck,
+    Command::About,
+];
+
+impl Command {
+    ghost use Rattle.std.specs.Str.{bytes_eq};
+    ghost use Rattle.question.specs.Commands.{word_of, is_asked_in};
+
+    /// The command's word. It takes no memory.
+    pub fn text(self) -> &'static str
+        ensures { result.now ≡ word_of self }
+    {
+        match self {
+            Command::Predict => "predict",
+            Command::Certify => "certify",
+            Command::Check => "check",
+            Command::Heights => "heights",
+            Command::Calendar => "calendar",
+            Command::Clock => "clock",
+            Command::Stations => "stations",
+            Command::Sample => "sample",
+            Command::Trial => "trial",
+            Command::Serve => "serve",
+            Command::Report => "report",
+            Command::Highest => "highest",
+            Command::Peak => "peak",
+            Command::PeakCheck => "peakcheck",
+            Command::About => "about",
+        }
+    }
+
+    /// Whether it is the other command.
+    pub fn is(self, other: Command) -> bool
+        ensures { result ≡ bytes_eq (word_of self) (word_of other) }
+    {
+        self == other
+    }
+
+    /// Whether a question of this origin can ask for it. A query can't ask for what the web server
+    /// has no path for.
+    fn is_asked_in(self, origin: Origin) -> bool
+        ensures { result ≡ is_asked_in origin self }
+    {
+        match origin {
+            Origin::Line => true,
+            Origin::Query => matches!(
+                self,
+                Command::Predict
+                    | Command::Certify
+                    | Command::Check
+                    | Command::Heights
+                    | Command::Calendar
+                    | Command::Clock
+                    | Command::Stations
+            ),
+        }
+    }
+}
+
+/// The command that a word names in a question of this origin.
+pub fn command_named(origin: Origin, word: &str) -> Option<Command>
+    ensures { result ≡ command_named origin word.now }
+{
+    COMMANDS.iter().copied().find(|command| command.text() == word && command.is_asked_in(origin))
+}

@@ -1,0 +1,36 @@
+//! What the words of a command line, or the pairs of a web query, ask for.
+//!
+//! [`pairs_of_words`] cuts words at their first `=`, and [`read_question`] makes a [`Question`] of
+//! such pairs or tells the first thing that is wrong with them. The table of keys that both go by
+//! is in `specs/Keys.antt`; what is known of each question that was read, in `specs/Asked.antt`.
+#![tactic(auto)]
+
+mod command;
+mod draft;
+mod fault;
+mod key;
+mod origin;
+mod pairs;
+mod question;
+mod reading;
+mod sheets;
+mod table;
+mod values;
+mod words;
+mod worked;
+mod zone_word;
+
+pub use command::Command;
+pub use fault::AskFault;
+pub use key::Key;
+pub use origin::Origin;
+pub use pairs::{Item, Items, Pairs};
+pub use question::{Layout, Question, ZoneWord};
+pub use reading::read_question;
+pub use words::pairs_of_words;
+pub use worked::{
+    worked_faults, worked_query_faults, worked_questions, worked_values, worked_words,
+};
+
+#[cfg(test)]
+mod tests;

@@ -1,0 +1,54 @@
+//! A command and its pairs, before they are read.
+
+ghost use Rattle.std.specs.Prelude.{◌≡◌};
+
+use crate::origin::Origin;
+use decimal_text::Text;
+use std::marker::Model;
+
+/// A key and its value.
+#[derive(Debug, Drop)]
+pub struct Item {
+    pub key: Text,
+    /// None for a word without `=`.
+    pub value: Option<Text>,
+}
+
+/// A list of items. Contracts see it as the list of them.
+#[derive(Debug, Drop)]
+pub struct Items {
+    items: Vec<Item>,
+}
+
+impl Model for Items {
+    ghost use Rattle.std.specs.Prelude.{List};
+    ghost use Rattle.question.specs.declared.pairs.Item.{Item};
+
+    ghost Value = { List Item };
+
+    ghost view = { λ l. l.items.items };
+}
+
+impl Items {
+    /// The list of a vector's items. It takes no memory.
+    pub fn from_vec(items: Vec<Item>) -> Items
+        ensures { result ≡ items.items }
+    {
+        Items { items }
+    }
+
+    /// The items, lent.
+    pub fn as_slice(&self) -> &[Item]
+        ensures { result.now ≡ self.now }
+    {
+        self.items.as_slice()
+    }
+}
+
+/// A command and its items, as they were given.
+#[derive(Debug, Drop)]
+pub struct Pairs {
+    pub origin: Origin,
+    pub command: Option<Text>,
+    pub items: Items,
+}

@@ -1,0 +1,64 @@
+//! The names of sheets.
+
+ghost use Rattle.std.specs.Prelude.{◌≡◌, [], IfOk, map};
+ghost use Rattle.std.specs.List.{list_all, slice_split};
+ghost use Rattle.std.specs.Char.{is_ascii_lowercase};
+ghost use Rattle.question.specs.Forms.{is_comma, is_sheet, are_sheets, sheets_of};
+
+use decimal_text::{Text, Words};
+use std::alloc::{AllocError, Global};
+use std::collections::BTreeSet;
+
+fn parts(alloc: Global, text: &str) -> Result<Vec<&str>, AllocError>
+    ensures { IfOk result (λ v. map (λ part. part.now) v.items ≡ slice_split is_comma text.now) }
+{
+    text.split(',').collect(alloc)
+}
+
+fn are_letters(text: &[u8]) -> bool
+    ensures { result ≡ list_all is_ascii_lowercase text.now }
+{
+    text.iter().all(|byte| byte.is_ascii_lowercase())
+}
+
+/// Whether a word is from 1 to 16 letters.
+fn is_sheet(word: &str) -> bool
+    ensures { result ≡ is_sheet word.now }
+{
+    !word.is_empty() && word.len() <= 16 && are_letters(word.as_bytes())
+}
+
+/// Whether each word is the name of a sheet, and none stands twice.
+fn are_sheets(alloc: Global, words: &[&str]) -> Result<bool, AllocError>
+    ensures { IfOk result (λ b. b ≡ are_sheets [] (map (λ word. word.now) words.now)) }
+{
+    let mut earlier = BTreeSet::new(alloc);
+    for word in words {
+        if !is_sheet(word) || !earlier.insert(*word)? {
+            return Ok(false);
+        }
+    }
+    Ok(true)
+}
+
+fn texts(alloc: Global, words: &[&str]) -> Result<Vec<Text>, AllocError>
+    ensures { IfOk result (λ v. v.items ≡ map (λ word. word.now) words.now) }
+{
+    let mut texts = Vec::new(alloc);
+    for word in words {
+        texts.push(Text::from_str(alloc, word)?)?;
+    }
+    Ok(texts)
+}
+
+/// Words with single commas between them, if each is the name of a sheet and none stands twice.
+#[tactic(auto, unfolding(crate::specs::Forms::sheets_of))]
+pub fn sheets(alloc: Global, text: &str) -> Result<Option<Words>, AllocError>
+    ensures { IfOk result (λ words. words ≡ sheets_of text.now) }
+{
+    let words = parts(alloc, text)?;
+    if !are_sheets(alloc, &words)? {
+        return Ok(None);
+    }
+    Ok(Some(Words::from_vec(texts(alloc, &words)?)))
+}

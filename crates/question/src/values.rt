@@ -1,0 +1,110 @@
+//! The values of keys, one form a function.
+
+ghost use Rattle.std.specs.Prelude.{◌≡◌, ◌<◌, ◌≤◌, ◌^◌, nat_lt, true, if◌then◌else◌, length, IfOk, Some, None};
+ghost use Rattle.std.specs.Option.{ForSome};
+ghost use Rattle.std.specs.List.{list_all};
+ghost use Rattle.std.specs.Char.{is_ascii_digit};
+ghost use Rattle.std.specs.Str.Parse.{digits_value};
+ghost use Rattle.question.specs.Forms.{some_text, number_of, seed_of, port_of, step_of, mark_of, layout_of};
+
+use crate::question::Layout;
+use decimal_text::{Text, read};
+use std::alloc::{AllocError, Global};
+
+/// The places of a mark's decimals.
+const MARK_PLACES: u32 = 6;
+
+/// The size of the greatest mark, in millionths.
+const GREATEST_MARK: u128 = 10_000_000_000;
+
+/// A text that isn't empty.
+#[tactic(auto, unfolding(crate::specs::Forms::some_text))]
+pub fn some_text(alloc: Global, text: &str) -> Result<Option<Text>, AllocError>
+    ensures { IfOk result (λ value. value ≡ some_text text.now) }
+{
+    if text.is_empty() {
+        return Ok(None);
+    }
+    Ok(Some(Text::from_str(alloc, text)?))
+}
+
+fn are_digits(text: &[u8]) -> bool
+    ensures { result ≡ list_all is_ascii_digit text.now }
+{
+    text.iter().all(|byte| byte.is_ascii_digit())
+}
+
+/// The number that digits write, if it has 64 bits.
+fn value(digits: &str) -> Option<u64>
+    requires some { 0 < length digits.now }
+    requires digits { list_all is_ascii_digit digits.now ≡ true }
+    ensures { result ≡ (if nat_lt (digits_value 10 digits.now) (2 ^ 64) then Some (digits_value 10 digits.now) else None) }
+{
+    digits.parse().ok()
+}
+
+/// The number that one digit or more write, if they are no more than `digits` and the number lies
+/// from `least` to `most`.
+#[tactic(auto, unfolding(crate::specs::Forms::number_of))]
+pub fn number(text: &str, digits: usize, least: u64, most: u64) -> Option<u64>
+    ensures value { result ≡ number_of digits least most text.now }
+    ensures range { ForSome result (λ n. n ≤ most) }
+{
+    if text.is_empty() || text.len() > digits || !are_digits(text.as_bytes()) {
+        return None;
+    }
+    let number = value(text)?;
+    if least <= number && number <= most {
+        Some(number)
+    } else {
+        None
+    }
+}
+
+/// A generator's seed.
+pub fn seed(text: &str) -> Option<u64>
+    ensures { result ≡ seed_of text.now }
+{
+    number(text, 20, 0, u64::MAX)
+}
+
+/// A port of the web server.
+pub fn port(text: &str) -> Option<u16>
+    ensures { result ≡ port_of text.now }
+{
+    let number = number(text, 5, 1, 65535)?;
+    Some(number as u16)
+}
+
+/// The minutes from one height to the next.
+pub fn step(text: &str) -> Option<i64>
+    ensures { result ≡ step_of text.now }
+{
+    let number = number(text, 6, 1, 44640)?;
+    Some(number as i64)
+}
+
+/// A level to mark, in millionths.
+#[tactic(auto, unfolding(crate::specs::Forms::mark_of))]
+pub fn mark(text: &str) -> Option<i64>
+    ensures { result ≡ mark_of text.now }
+{
+    match read(text.as_bytes(), MARK_PLACES) {
+        Ok(millionths) if millionths.unsigned_abs() <= GREATEST_MARK => Some(millionths as i64),
+        _ => None,
+    }
+}
+
+/// How a listing is laid out.
+#[tactic(auto, unfolding(crate::specs::Forms::layout_of))]
+pub fn layout(text: &str) -> Option<Layout>
+    ensures { result ≡ layout_of text.now }
+{
+    if text == "plain" {
+        return Some(Layout::Plain);
+    }
+    if text == "csv" {
+        return Some(Layout::Csv);
+    }
+    None
+}

@@ -1,0 +1,53 @@
+//! The words of a command line as pairs.
+
+ghost use Rattle.std.specs.Prelude.{◌≡◌, IfOk, map};
+ghost use Rattle.question.specs.Words.{item_of, pairs_of};
+
+use crate::origin::Origin;
+use crate::pairs::{Item, Items, Pairs};
+use decimal_text::{Text, Words};
+use std::alloc::{AllocError, Global};
+
+/// The words of a command line as pairs: the first word is the command, and each other one is cut
+/// at its first `=`. A word without `=` is a key with no value.
+pub fn pairs_of_words(alloc: Global, words: &Words) -> Result<Pairs, AllocError>
+    ensures { IfOk result (λ pairs. pairs ≡ pairs_of words.now) }
+{
+    let Some((command, rest)) = words.as_slice().split_first() else {
+        return Ok(Pairs {
+            origin: Origin::Line,
+            command: None,
+            items: Items::from_vec(Vec::new(alloc)),
+        });
+    };
+    Ok(Pairs {
+        origin: Origin::Line,
+        command: Some(command.copy()?),
+        items: Items::from_vec(items(alloc, rest)?),
+    })
+}
+
+fn items(alloc: Global, words: &[Text]) -> Result<Vec<Item>, AllocError>
+    ensures { IfOk result (λ v. v.items ≡ map item_of words.now) }
+{
+    let mut items = Vec::new(alloc);
+    for word in words {
+        items.push(item(alloc, word)?)?;
+    }
+    Ok(items)
+}
+
+fn item(alloc: Global, word: &Text) -> Result<Item, AllocError>
+    ensures { IfOk result (λ item. item ≡ item_of word.now) }
+{
+    match word.as_str().split_once('=') {
+        Some((key, value)) => Ok(Item {
+            key: Text::from_str(alloc, key)?,
+            value: Some(Text::from_str(alloc, value)?),
+        }),
+        None => Ok(Item {
+            key: word.copy()?,
+            value: None,
+        }),
+    }
+}
