@@ -1,0 +1,143 @@
+-- How long the text of a certificate is.
+use Rattle.std.proofs.Common.{◌≡◌, ℕ, ◌+◌, ◌*◌, ◌<◌, ◌≤◌, List, [], ◌∷◌, ◌++◌, codes, map, length, Option, Some, None, ℤ, pos, ◌⊎◌, inl, inr, refl, sym, ap, ◌∙◌, append_assoc, length-append, arith}
+use Rattle.std.specs.Prelude.{unsigned_abs, unwrap_or, decimal, All, IfSome}
+use Rattle.std.specs.Fmt.{signed_decimal}
+use Rattle.std.specs.List.{AllByRecursion}
+use Rattle.std.proofs.lemmas.List.Concat.{flat_map-append}
+use Rattle.std.proofs.lemmas.List.Elements.{recursion_from_All}
+use Rattle.curve_law.specs.declared.cell.Cell.{Cell}
+use Rattle.curve_law.specs.declared.cell.Cell.TheVariants as cells
+use Rattle.curve_law.specs.declared.kind.Kind.{Kind}
+use Rattle.curve_law.specs.declared.kind.Kind.TheVariants.{High, Low, FloodBegins, EbbBegins, MarkRising, MarkFalling}
+use Rattle.zone_time.specs.Moments.{moment_text}
+use Rattle.cert_text.specs.declared.certificate.Certificate.{Certificate}
+use Rattle.cert_text.specs.declared.track_name.TrackName.{TrackName}
+use Rattle.cert_text.specs.declared.track_name.TrackName.TheVariants.{Turn, Slack, Mark}
+use Rattle.cert_text.specs.Tracks.{track_word, kind_word}
+use Rattle.cert_text.specs.Certificates.{IsMark, IsCell, IsCellOf, IsCertificate, cell_count}
+use Rattle.cert_text.specs.Lines.{title_of, station_line_of, begin_line_of, end_line_of, mark_line_of, heading_of, front_of, cell_line_of, last_line, head_lines_of, track_lines_of, lines_if_there, body_lines_of, lines_of, ended, joined, certificate_text}
+use Rattle.cert_text.proofs.NumberLemmas.{length-signed}
+use Rattle.cert_text.proofs.TextLemmas.{length-moment_text}
+
+-- ---- parts
+
+pub joined-parts : (c : Certificate) → certificate_text c ≡ joined (head_lines_of c) ++ joined (track_lines_of Turn c.tracks.turn) ++ joined (lines_if_there Slack c.tracks.slack) ++ joined (lines_if_there Mark c.tracks.mark) ++ ended last_line
+unfolding certificate_text last_line
+joined-parts c =
+    let turn = track_lines_of Turn c.tracks.turn in let slack = lines_if_there Slack c.tracks.slack in let crossings = lines_if_there Mark c.tracks.mark in
+    flat_map-append ended (head_lines_of c) (turn ++ (slack ++ (crossings ++ last_line ∷ [])))
+    ∙ ap (λ bs. joined (head_lines_of c) ++ bs) (flat_map-append ended turn (slack ++ (crossings ++ last_line ∷ []))
+    ∙ ap (λ bs. joined turn ++ bs) (flat_map-append ended slack (crossings ++ last_line ∷ [])
+    ∙ ap (λ bs. joined slack ++ bs) (flat_map-append ended crossings (last_line ∷ []))))
+    ∙ sym (append_assoc (joined (head_lines_of c)) (joined turn) (joined slack ++ (joined crossings ++ ended last_line)))
+    ∙ sym (append_assoc (joined (head_lines_of c) ++ joined turn) (joined slack) (joined crossings ++ ended last_line))
+    ∙ sym (append_assoc (joined (head_lines_of c) ++ joined turn ++ joined slack) (joined crossings) (ended last_line))
+
+-- ---- lengths of lines
+
+length-ended : (line : List ℕ) → length (ended line) ≡ length line + 1
+length-ended line = length-append line (10 ∷ [])
+
+title_short : (v : ℕ) → (v ≡ 1) ⊎ (v ≡ 2) → length (title_of v) ≡ 18
+unfolding title_of
+title_short v (inl one) = rw one refl
+title_short v (inr two) = rw two refl
+
+station_short : (name : List ℕ) → length name ≤ 400 → length (station_line_of name) ≤ 408
+unfolding station_line_of
+station_short name h = omega (arith, length-append (codes "station ") name, h)
+
+begin_short : (m : ℤ) → length (begin_line_of m) ≡ 23
+unfolding begin_line_of
+begin_short m = omega (arith, length-append (codes "begin ") (moment_text m), length-moment_text m)
+
+end_short : (m : ℤ) → length (end_line_of m) ≡ 21
+unfolding end_line_of
+end_short m = omega (arith, length-append (codes "end ") (moment_text m), length-moment_text m)
+
+mark_short : (mark : Option ℤ) → IfSome mark IsMark → length (mark_line_of mark) ≤ 20
+unfolding mark_line_of
+mark_short None h = omega arith
+mark_short (Some z) h = omega (arith, length-append (codes "mark ") (signed_decimal z), length-signed z (omega (arith, h)))
+
+heading_short : (track : TrackName) → length (heading_of track) ≤ 11
+unfolding heading_of track_word
+heading_short Turn = omega arith
+heading_short Slack = omega arith
+heading_short Mark = omega arith
+
+front_short : (kind : Kind) → length (front_of kind) ≤ 8
+unfolding kind_word
+front_short High = omega arith
+front_short Low = omega arith
+front_short FloodBegins = omega arith
+front_short EbbBegins = omega arith
+front_short MarkRising = omega arith
+front_short MarkFalling = omega arith
+
+pub cell_short : (c : Cell) → IsCell c → length (ended (cell_line_of c)) ≤ 24
+unfolding cell_line_of
+cell_short (cells.Quiet n) h = omega (arith, length-ended (codes "q " ++ decimal n), length-append (codes "q ") (decimal n), length-signed (pos n) (omega (arith, h.1)))
+cell_short cells.Still h = omega arith
+cell_short (cells.Turn kind level) h = omega (arith, length-ended (front_of kind ++ signed_decimal level), length-append (front_of kind) (signed_decimal level), front_short kind, length-signed level h)
+
+-- ---- and of texts
+
+joined-cons : (line : List ℕ) (lines : List (List ℕ)) → length (joined (line ∷ lines)) ≡ length line + 1 + length (joined lines)
+joined-cons line lines = omega (arith, length-append (ended line) (joined lines), length-ended line)
+
+cell_of_track : (track : TrackName) (c : Cell) → IsCellOf track c → IsCell c
+cell_of_track track (cells.Quiet n) h = h
+cell_of_track track cells.Still h = h
+cell_of_track track (cells.Turn kind level) h = h.1
+
+cells_short : (track : TrackName) (cs : List Cell) → AllByRecursion (IsCellOf track) cs → length (joined (map cell_line_of cs)) ≤ 24 * length cs
+cells_short track [] h = omega arith
+cells_short track (c ∷ cs) h =
+    omega (arith, joined-cons (cell_line_of c) (map cell_line_of cs), length-ended (cell_line_of c), cell_short c (cell_of_track track c h.0), cells_short track cs h.1)
+
+track_short : (track : TrackName) (cs : List Cell) → All (IsCellOf track) cs → length (joined (track_lines_of track cs)) ≤ 12 + 24 * length cs
+track_short track cs h =
+    omega (arith, joined-cons (heading_of track) (map cell_line_of cs), heading_short track, cells_short track cs (recursion_from_All (IsCellOf track) cs h))
+
+there_short : (track : TrackName) (o : Option (List Cell)) → IfSome o (All (IsCellOf track)) → length (joined (lines_if_there track o)) ≤ 12 + 24 * length (unwrap_or o [])
+there_short track None h = omega arith
+there_short track (Some cs) h = track_short track cs h
+
+head_short : (c : Certificate) → IsCertificate c → length (joined (head_lines_of c)) ≤ 495
+head_short c h =
+    omega (
+      arith,
+      joined-cons (title_of c.version) (station_line_of c.station ∷ begin_line_of c.begin ∷ end_line_of c.end ∷ mark_line_of c.mark ∷ []),
+      joined-cons (station_line_of c.station) (begin_line_of c.begin ∷ end_line_of c.end ∷ mark_line_of c.mark ∷ []),
+      joined-cons (begin_line_of c.begin) (end_line_of c.end ∷ mark_line_of c.mark ∷ []),
+      joined-cons (end_line_of c.end) (mark_line_of c.mark ∷ []),
+      joined-cons (mark_line_of c.mark) [],
+      title_short c.version h.version,
+      station_short c.station h.station.short,
+      begin_short c.begin,
+      end_short c.end,
+      mark_short c.mark h.mark,
+    )
+
+last_short : length (ended last_line) ≡ 5
+unfolding last_line
+last_short = refl
+
+pub text_short : (c : Certificate) → IsCertificate c → length (certificate_text c) ≤ 536 + 24 * cell_count c
+text_short c h =
+    let head = joined (head_lines_of c) in let turn = joined (track_lines_of Turn c.tracks.turn) in
+    let slack = joined (lines_if_there Slack c.tracks.slack) in let crossings = joined (lines_if_there Mark c.tracks.mark) in
+    omega (
+      arith,
+      ap length (joined-parts c),
+      length-append (head ++ turn ++ slack ++ crossings) (ended last_line),
+      length-append (head ++ turn ++ slack) crossings,
+      length-append (head ++ turn) slack,
+      length-append head turn,
+      head_short c h,
+      track_short Turn c.tracks.turn h.turn,
+      there_short Slack c.tracks.slack h.slack,
+      there_short Mark c.tracks.mark h.crossings,
+      last_short,
+    )

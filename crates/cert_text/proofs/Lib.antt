@@ -1,0 +1,10 @@
+mod OptionLemmas
+mod NumberLemmas
+mod LineLemmas
+mod TextLemmas
+mod LengthLemmas
+mod DraftLemmas
+mod RunLemmas
+mod CutLemmas
+mod GrammarLemmas
+mod ReadingLemmas

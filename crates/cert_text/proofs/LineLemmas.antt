@@ -1,0 +1,298 @@
+-- What is read of a line is what the line says, and no other line says it.
+use Rattle.std.proofs.Common.{◌≡◌, ◌≢◌, ℕ, zero, suc, ◌+◌, ◌<◌, ◌≤◌, Bool, true, false, cond, eqb, List, [], ◌∷◌, ◌++◌, codes, length, get_or, take, drop, Option, Some, None, ℤ, pos, negsuc, ◌⊎◌, inl, inr, refl, sym, ap, ◌∙◌, subst, take-append-drop, arith}
+use Rattle.std.specs.Prelude.{unsigned_abs, decimal, not, ◌&&◌, All, IfSome, option_and_then}
+use Rattle.std.specs.Fmt.{signed_decimal}
+use Rattle.std.specs.List.{list_all}
+use Rattle.std.specs.Option.{option_map, option_or}
+use Rattle.std.specs.Str.{IsUtf8, is_utf8, bytes_eq}
+use Rattle.std.proofs.lemmas.Bool.{ltb-true, leb-true, lt-ltb, le-leb, and_parts, and_from, eqb-true, eqb-false, ne_eqb, not-true, not_from_false}
+use Rattle.std.proofs.lemmas.List.{take_at, drop_at}
+use Rattle.std.proofs.lemmas.List.Sums.{AllPass-from_list_all, list_all-from_AllPass}
+use Rattle.std.proofs.lemmas.Option.{cond_some, same_Some, option_and_then_some}
+use Rattle.std.proofs.lemmas.Slice.Eq.{bytes_eq-Decides}
+use Rattle.std.proofs.lemmas.Str.{IsUtf8-from_is_utf8, is_utf8-from_IsUtf8}
+use Rattle.curve_law.specs.declared.cell.Cell.{Cell}
+use Rattle.curve_law.specs.declared.cell.Cell.TheVariants as cells
+use Rattle.curve_law.specs.declared.kind.Kind.{Kind}
+use Rattle.curve_law.specs.declared.kind.Kind.TheVariants.{High, Low, FloodBegins, EbbBegins, MarkRising, MarkFalling}
+use Rattle.zone_time.specs.Moments.{IsMoment, moment_text, moment_of}
+use Rattle.zone_time.proofs.MomentLemmas.{moment_of-moment_text}
+use Rattle.zone_time.proofs.ReadingLemmas.{moment_text-moment_of}
+use Rattle.cert_text.specs.declared.track_name.TrackName.{TrackName}
+use Rattle.cert_text.specs.declared.track_name.TrackName.TheVariants.{Turn, Slack, Mark}
+use Rattle.cert_text.specs.Tracks.{track_of, track_word, kind_word}
+use Rattle.cert_text.specs.Certificates.{IsStationName, IsMark, IsLevel, IsCellOf}
+use Rattle.cert_text.specs.Lines.{title_of, station_line_of, begin_line_of, end_line_of, mark_line_of, heading_of, front_of, cell_line_of, last_line}
+use Rattle.cert_text.specs.Workings.LineReading.{after, size_of, number_of, version_of, is_name_byte, named, station_of, moment_after, mark_within, mark_of, quiet_for, quiet_of, turn_of, first_kind, second_kind, cell_of}
+use Rattle.cert_text.proofs.OptionLemmas.{option_map_some, option_or_some}
+use Rattle.cert_text.proofs.NumberLemmas.{size_is, size_of-decimal, number_is, number_of-signed, first_digit}
+
+-- ---- words
+
+pub same_bytes : (xs ys : List ℕ) → bytes_eq xs ys ≡ true → xs ≡ ys
+same_bytes xs ys e = (bytes_eq-Decides xs ys).0 e
+
+bytes_eq-same : (xs : List ℕ) → bytes_eq xs xs ≡ true
+bytes_eq-same xs = (bytes_eq-Decides xs xs).1 refl
+
+after_is : (word line rest : List ℕ) → after word line ≡ Some rest → word ++ rest ≡ line
+unfolding after
+after_is word line rest e =
+    let got = cond_some (bytes_eq (take (length word) line) word) (drop (length word) line) rest e in
+    let front : take (length word) line ≡ word = same_bytes _ _ got.0 in
+    ap (λ w. w ++ rest) (sym front) ∙ ap (λ r. take (length word) line ++ r) (sym got.1) ∙ take-append-drop (length word) line
+
+after-append : (word rest : List ℕ) → after word (word ++ rest) ≡ Some rest
+unfolding after
+after-append word rest =
+    rw (take_at word rest (length word) refl, bytes_eq-same word, drop_at word rest (length word) refl) refl
+
+-- a text is one of two words, or neither
+one_of_two : {A P : Type 0} (line first second : List ℕ) (x y z : A) → cond (bytes_eq line first) (Some x) (cond (bytes_eq line second) (Some y) None) ≡ Some z → (line ≡ first → x ≡ z → P) → (line ≡ second → y ≡ z → P) → P
+one_of_two {A} {P} line first second x y z e is_first is_second =
+    elim (bytes_eq line first) as (λ v. bytes_eq line first ≡ v → cond v (Some x) (cond (bytes_eq line second) (Some y) None) ≡ Some z → P) [
+      | true ↦ λ b k. is_first (same_bytes line first b) (same_Some x z k)
+      | false ↦ λ b k. let got = cond_some (bytes_eq line second) y z k in is_second (same_bytes line second got.0) got.1
+    ] refl e
+
+-- ---- the title
+
+pub version_is : (line : List ℕ) (v : ℕ) → version_of line ≡ Some v → ((v ≡ 1) ⊎ (v ≡ 2)) × (title_of v ≡ line)
+unfolding version_of title_of
+version_is line v e =
+    one_of_two line (codes "tide certificate 1") (codes "tide certificate 2") 1 2 v e
+    (λ l n. let is : v ≡ 1 = sym n in (inl is, rw is (sym l)))
+    (λ l n. let is : v ≡ 2 = sym n in (inr is, rw is (sym l)))
+
+pub version_of-title : (v : ℕ) → (v ≡ 1) ⊎ (v ≡ 2) → version_of (title_of v) ≡ Some v
+unfolding version_of title_of
+version_of-title v (inl one) = rw one refl
+version_of-title v (inr two) = rw two refl
+
+-- ---- the station's name
+
+pub named_yes : (bytes : List ℕ) → 0 < length bytes → length bytes ≤ 400 → list_all is_name_byte bytes ≡ true → IsUtf8 bytes → named bytes ≡ Some bytes
+named_yes bytes some few printed text =
+    rw (lt-ltb 0 (length bytes) some, le-leb (length bytes) 400 few, printed, is_utf8-from_IsUtf8 bytes text) refl
+
+and_false : (t : Bool) → (t && false) ≡ false
+and_false true = refl
+and_false false = refl
+
+not_utf8 : (bytes : List ℕ) → ¬ (IsUtf8 bytes) → is_utf8 bytes ≡ false
+not_utf8 bytes bad =
+    elim (is_utf8 bytes) as (λ v. is_utf8 bytes ≡ v → v ≡ false) [ true ↦ λ e. absurd (bad (IsUtf8-from_is_utf8 bytes e)) | false ↦ λ e. refl ] refl
+
+pub named_no : (bytes : List ℕ) → ¬ (IsUtf8 bytes) → named bytes ≡ None
+named_no bytes bad = rw (not_utf8 bytes bad, and_false) refl
+
+name_byte_is : (b : ℕ) → is_name_byte b ≡ true → (32 ≤ b) × (b ≢ 127)
+name_byte_is b e =
+    let both = and_parts _ _ e in
+    (leb-true 32 b both.0, eqb-false b 127 (not-true _ both.1))
+
+name_byte-from : (b : ℕ) → (32 ≤ b) × (b ≢ 127) → is_name_byte b ≡ true
+name_byte-from b h = and_from _ _ (le-leb 32 b h.0) (not_from_false _ (ne_eqb b 127 h.1))
+
+named_is : (bytes name : List ℕ) → named bytes ≡ Some name → IsStationName name × (bytes ≡ name)
+named_is bytes name e =
+    let got = cond_some _ bytes name e in
+    let all = and_parts _ _ got.0 in let front = and_parts _ _ all.0 in let counts = and_parts _ _ front.0 in
+    let is : IsStationName bytes = record {
+      text = IsUtf8-from_is_utf8 bytes all.1;
+      some = ltb-true _ _ counts.0;
+      short = leb-true _ _ counts.1;
+      printed = λ k d lt. name_byte_is _ (AllPass-from_list_all is_name_byte bytes front.1 k d lt);
+    } in
+    (subst IsStationName got.1 is, got.1)
+
+pub station_is : (line name : List ℕ) → station_of line ≡ Some name → IsStationName name × (station_line_of name ≡ line)
+unfolding station_of station_line_of
+station_is line name e =
+    option_and_then_some named (after (codes "station ") line) name e (λ bytes found is.
+    let got = named_is bytes name is in
+    (got.0, rw (← got.1) (after_is (codes "station ") line bytes found)))
+
+pub station_of-line : (name : List ℕ) → IsStationName name → station_of (station_line_of name) ≡ Some name
+unfolding station_of station_line_of
+station_of-line name h =
+    let printed : list_all is_name_byte name ≡ true = list_all-from_AllPass is_name_byte name (λ k d lt. name_byte-from _ (h.printed k d lt)) in
+    rw (after-append (codes "station ") name) (named_yes name h.some h.short printed h.text)
+
+-- ---- moments
+
+pub moment_is : (word line : List ℕ) (m : ℤ) → moment_after word line ≡ Some m → IsMoment m × (word ++ moment_text m ≡ line)
+unfolding moment_after
+moment_is word line m e =
+    option_and_then_some moment_of (after word line) m e (λ text found is.
+    let got = moment_text-moment_of text m is in
+    (got.0, rw got.1 (after_is word line text found)))
+
+pub moment_after-text : (word : List ℕ) (m : ℤ) → IsMoment m → moment_after word (word ++ moment_text m) ≡ Some m
+unfolding moment_after
+moment_after-text word m h = rw (after-append word (moment_text m)) (moment_of-moment_text m h)
+
+-- ---- the mark
+
+mark_within_is : (z : ℤ) (mark : Option ℤ) → mark_within z ≡ Some mark → IsMark z × (Some z ≡ mark)
+mark_within_is z mark e =
+    let got = cond_some _ (Some z) mark e in
+    (leb-true _ _ got.0, got.1)
+
+mark_read : (line : List ℕ) (mark : Option ℤ) → option_and_then mark_within (option_and_then number_of (after (codes "mark ") line)) ≡ Some mark → IfSome mark IsMark × (mark_line_of mark ≡ line)
+unfolding mark_line_of
+mark_read line mark e =
+    option_and_then_some mark_within (option_and_then number_of (after (codes "mark ") line)) mark e (λ z found is.
+    option_and_then_some number_of (after (codes "mark ") line) z found (λ text front number.
+    let within = mark_within_is z mark is in
+    let written = number_is text z number in
+    let line_is : codes "mark " ++ signed_decimal z ≡ line = rw written.1 (after_is (codes "mark ") line text front) in
+    subst (λ mark. IfSome mark IsMark × (mark_line_of mark ≡ line)) within.1 (within.0, line_is)))
+
+pub mark_is : (line : List ℕ) (mark : Option ℤ) → mark_of line ≡ Some mark → IfSome mark IsMark × (mark_line_of mark ≡ line)
+unfolding mark_of mark_line_of
+mark_is line mark e =
+    elim (bytes_eq line (codes "mark none")) as (λ v. bytes_eq line (codes "mark none") ≡ v → cond v (Some None) (option_and_then mark_within (option_and_then number_of (after (codes "mark ") line))) ≡ Some mark → IfSome mark IsMark × (mark_line_of mark ≡ line)) [
+      | true ↦ λ b k. subst (λ mark. IfSome mark IsMark × (mark_line_of mark ≡ line)) (same_Some None mark k) (tt, sym (same_bytes _ _ b))
+      | false ↦ λ b k. mark_read line mark k
+    ] refl e
+
+no_word : (text : List ℕ) → get_or text 0 0 < 58 → bytes_eq (codes "mark " ++ text) (codes "mark none") ≡ false
+no_word [] h = refl
+no_word (b ∷ rest) h = rw (ne_eqb b 110 (λ e. omega (arith, h, e))) refl
+
+signed_front : (z : ℤ) → unsigned_abs z ≤ 99999999999999 → get_or (signed_decimal z) 0 0 < 58
+signed_front (pos n) h = omega (arith, first_digit n h)
+signed_front (negsuc n) h = omega arith
+
+pub mark_of-line : (mark : Option ℤ) → IfSome mark IsMark → mark_of (mark_line_of mark) ≡ Some mark
+unfolding mark_of mark_line_of
+mark_of-line None h = refl
+mark_of-line (Some z) h =
+    let small : unsigned_abs z ≤ 99999999999999 = omega (arith, h) in
+    rw (no_word (signed_decimal z) (signed_front z small), after-append (codes "mark ") (signed_decimal z), number_of-signed z small, le-leb (unsigned_abs z) 10000000000 h) refl
+
+-- ---- cells
+
+quiet_for_is : (track : TrackName) (n : ℕ) (cell : Cell) → quiet_for n ≡ Some cell → IsCellOf track cell × (cell_line_of cell ≡ codes "q " ++ decimal n)
+unfolding cell_line_of
+quiet_for_is track n cell e =
+    let got = cond_some _ (cells.Quiet n) cell e in
+    let both = and_parts _ _ got.0 in
+    subst (λ cell. IsCellOf track cell × (cell_line_of cell ≡ codes "q " ++ decimal n)) got.1 ((leb-true 2 n both.0, leb-true n 1024 both.1), refl)
+
+quiet_is : (track : TrackName) (line : List ℕ) (cell : Cell) → quiet_of line ≡ Some cell → IsCellOf track cell × (cell_line_of cell ≡ line)
+unfolding quiet_of
+quiet_is track line cell e =
+    option_and_then_some quiet_for (option_and_then size_of (after (codes "q ") line)) cell e (λ n found is.
+    option_and_then_some size_of (after (codes "q ") line) n found (λ text front size.
+    let quiet = quiet_for_is track n cell is in
+    let written = size_is text n size in
+    (quiet.0, quiet.1 ∙ rw written.1 (after_is (codes "q ") line text front))))
+
+turn_is : (track : TrackName) (kind : Kind) (line : List ℕ) (cell : Cell) → track_of kind ≡ track → turn_of kind line ≡ Some cell → IsCellOf track cell × (cell_line_of cell ≡ line)
+unfolding turn_of cell_line_of
+turn_is track kind line cell of_track e =
+    option_map_some (λ level. cells.Turn kind level) (option_and_then number_of (after (front_of kind) line)) cell e (λ z found is.
+    option_and_then_some number_of (after (front_of kind) line) z found (λ text front number.
+    let written = number_is text z number in
+    let line_is : front_of kind ++ signed_decimal z ≡ line = rw written.1 (after_is (front_of kind) line text front) in
+    subst (λ cell. IsCellOf track cell × (cell_line_of cell ≡ line)) is ((of_track, written.0), line_is)))
+
+first_of : (track : TrackName) → track_of (first_kind track) ≡ track
+first_of Turn = refl
+first_of Slack = refl
+first_of Mark = refl
+
+second_of : (track : TrackName) → track_of (second_kind track) ≡ track
+second_of Turn = refl
+second_of Slack = refl
+second_of Mark = refl
+
+pub cell_is : (track : TrackName) (line : List ℕ) (cell : Cell) → cell_of track line ≡ Some cell → IsCellOf track cell × (cell_line_of cell ≡ line)
+unfolding cell_of cell_line_of
+cell_is track line cell e =
+    elim (bytes_eq line (codes "s")) as (λ v. bytes_eq line (codes "s") ≡ v → cond v (Some cells.Still) (option_or (quiet_of line) (option_or (turn_of (first_kind track) line) (turn_of (second_kind track) line))) ≡ Some cell → IsCellOf track cell × (cell_line_of cell ≡ line)) [
+      | true ↦ λ b k. subst (λ cell. IsCellOf track cell × (cell_line_of cell ≡ line)) (same_Some cells.Still cell k) (tt, sym (same_bytes _ _ b))
+      | false ↦ λ b k. option_or_some (quiet_of line) _ cell k (λ quiet. quiet_is track line cell quiet)
+          (λ other. option_or_some (turn_of (first_kind track) line) (turn_of (second_kind track) line) cell other
+          (λ turn. turn_is track (first_kind track) line cell (first_of track) turn)
+          (λ turn. turn_is track (second_kind track) line cell (second_of track) turn))
+    ] refl e
+
+turn_read : (kind : Kind) (level : ℤ) → IsLevel level → turn_of kind (front_of kind ++ signed_decimal level) ≡ Some (cells.Turn kind level)
+unfolding turn_of
+turn_read kind level h = rw (after-append (front_of kind) (signed_decimal level), number_of-signed level h) refl
+
+-- no event is quiet or still, and the second kind of a track isn't its first
+not_before : (kind : Kind) (text : List ℕ) → (bytes_eq (front_of kind ++ text) (codes "s") ≡ false) × (quiet_of (front_of kind ++ text) ≡ None)
+unfolding quiet_of after kind_word
+not_before High text = (refl, refl)
+not_before Low text = (refl, refl)
+not_before FloodBegins text = (refl, refl)
+not_before EbbBegins text = (refl, refl)
+not_before MarkRising text = (refl, refl)
+not_before MarkFalling text = (refl, refl)
+
+not_first : (track : TrackName) (text : List ℕ) → turn_of (first_kind track) (front_of (second_kind track) ++ text) ≡ None
+unfolding turn_of after kind_word
+not_first Turn text = refl
+not_first Slack text = refl
+not_first Mark text = refl
+
+first_chosen : (track : TrackName) (line : List ℕ) (cell : Cell) → bytes_eq line (codes "s") ≡ false → quiet_of line ≡ None → turn_of (first_kind track) line ≡ Some cell → cell_of track line ≡ Some cell
+unfolding cell_of
+first_chosen track line cell still quiet turn = rw (still, quiet, turn) refl
+
+second_chosen : (track : TrackName) (line : List ℕ) (cell : Cell) → bytes_eq line (codes "s") ≡ false → quiet_of line ≡ None → turn_of (first_kind track) line ≡ None → turn_of (second_kind track) line ≡ Some cell → cell_of track line ≡ Some cell
+unfolding cell_of
+second_chosen track line cell still quiet first turn = rw (still, quiet, first, turn) refl
+
+first_read : (track : TrackName) (level : ℤ) → IsLevel level → cell_of track (front_of (first_kind track) ++ signed_decimal level) ≡ Some (cells.Turn (first_kind track) level)
+first_read track level h =
+    let no = not_before (first_kind track) (signed_decimal level) in
+    first_chosen track _ _ no.0 no.1 (turn_read (first_kind track) level h)
+
+second_read : (track : TrackName) (level : ℤ) → IsLevel level → cell_of track (front_of (second_kind track) ++ signed_decimal level) ≡ Some (cells.Turn (second_kind track) level)
+second_read track level h =
+    let no = not_before (second_kind track) (signed_decimal level) in
+    second_chosen track _ _ no.0 no.1 (not_first track (signed_decimal level)) (turn_read (second_kind track) level h)
+
+event_read : (kind : Kind) (level : ℤ) → IsLevel level → cell_of (track_of kind) (front_of kind ++ signed_decimal level) ≡ Some (cells.Turn kind level)
+event_read High level h = first_read Turn level h
+event_read Low level h = second_read Turn level h
+event_read FloodBegins level h = first_read Slack level h
+event_read EbbBegins level h = second_read Slack level h
+event_read MarkRising level h = first_read Mark level h
+event_read MarkFalling level h = second_read Mark level h
+
+quiet_read : (n : ℕ) → 2 ≤ n → n ≤ 1024 → quiet_of (codes "q " ++ decimal n) ≡ Some (cells.Quiet n)
+unfolding quiet_of
+quiet_read n low high =
+    rw (after-append (codes "q ") (decimal n), size_of-decimal n (omega arith), le-leb 2 n low, le-leb n 1024 high) refl
+
+pub cell_of-line : (track : TrackName) (cell : Cell) → IsCellOf track cell → cell_of track (cell_line_of cell) ≡ Some cell
+unfolding cell_of cell_line_of
+cell_of-line track (cells.Quiet n) h = rw (quiet_read n h.0 h.1) refl
+cell_of-line track cells.Still h = refl
+cell_of-line track (cells.Turn kind level) h = rw (← h.0) (event_read kind level h.1)
+
+-- ---- headings
+
+pub heading_no_cell : (track other : TrackName) → cell_of track (heading_of other) ≡ None
+unfolding cell_of quiet_of turn_of after kind_word heading_of track_word
+heading_no_cell Turn Turn = refl
+heading_no_cell Turn Slack = refl
+heading_no_cell Turn Mark = refl
+heading_no_cell Slack Turn = refl
+heading_no_cell Slack Slack = refl
+heading_no_cell Slack Mark = refl
+heading_no_cell Mark Turn = refl
+heading_no_cell Mark Slack = refl
+heading_no_cell Mark Mark = refl
+
+pub last_no_cell : (track : TrackName) → cell_of track last_line ≡ None
+unfolding cell_of quiet_of turn_of after kind_word last_line
+last_no_cell Turn = refl
+last_no_cell Slack = refl
+last_no_cell Mark = refl

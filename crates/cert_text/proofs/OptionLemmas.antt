@@ -1,0 +1,13 @@
+-- What a step over an option came from.
+use Rattle.std.proofs.Common.{◌≡◌, Option, Some, None, refl}
+use Rattle.std.specs.Option.{option_map, option_or}
+use Rattle.std.proofs.lemmas.Option.{same_Some}
+
+pub option_map_some : {A B P : Type 0} (f : A → B) (o : Option A) (y : B) → option_map f o ≡ Some y → ((x : A) → o ≡ Some x → f x ≡ y → P) → P
+option_map_some f None y e k = absurd cc
+option_map_some f (Some x) y e k = k x refl (same_Some _ _ e)
+
+-- one of two options, and the first that is there
+pub option_or_some : {A P : Type 0} (o p : Option A) (y : A) → option_or o p ≡ Some y → (o ≡ Some y → P) → (p ≡ Some y → P) → P
+option_or_some None p y e first second = second e
+option_or_some (Some x) p y e first second = first e

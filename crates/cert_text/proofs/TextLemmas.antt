@@ -1,0 +1,35 @@
+-- Lines cut from bytes, and how long a moment's text is.
+use Rattle.std.proofs.Common.{◌≡◌, ℕ, ◌+◌, ◌<◌, ◌≤◌, true, false, cond, ltb, List, [], ◌∷◌, length, take, drop, Option, Some, None, ℤ, refl, arith}
+use Rattle.std.specs.Prelude.{position}
+use Rattle.std.specs.List.{position_or_len, before_first, after_first}
+use Rattle.std.proofs.lemmas.Bool.{ltb-true, ltb-false}
+use Rattle.std.proofs.lemmas.List.{drop-drop}
+use Rattle.std.proofs.lemmas.List.Splits.{slice_split_first, slice_split_none}
+use Rattle.std.proofs.lemmas.List.Sums.{fails_before_first}
+use Rattle.zone_time.specs.Dates.{two_digits, date_text, clock_text}
+use Rattle.zone_time.specs.Moments.{moment_text}
+use Rattle.cert_text.specs.Workings.Drafts.{is_lf, pieces}
+
+pub length-moment_text : (m : ℤ) → length (moment_text m) ≡ 17
+unfolding moment_text date_text clock_text two_digits
+length-moment_text m = refl
+
+-- ---- the first line
+
+chosen : (t : Rattle.std.proofs.Common.Bool) (n k : ℕ) → cond t (Some n) None ≡ Some k → (t ≡ true) × (n ≡ k)
+chosen true n k e = (refl, cc)
+chosen false n k e = absurd cc
+
+unchosen : (t : Rattle.std.proofs.Common.Bool) (n : ℕ) → cond t (Some n) None ≡ None → t ≡ false
+unchosen true n e = absurd cc
+unchosen false n e = refl
+
+pub pieces_none : (bytes : List ℕ) → position is_lf bytes ≡ None → pieces bytes ≡ bytes ∷ []
+pieces_none bytes e =
+    let all = ltb-false _ _ (unchosen (ltb (position_or_len is_lf bytes) (length bytes)) (position_or_len is_lf bytes) e) in
+    slice_split_none is_lf bytes (λ k d lt. fails_before_first is_lf bytes k d (omega (arith, all, lt)))
+
+pub pieces_some : (bytes line rest after : List ℕ) (k : ℕ) → position is_lf bytes ≡ Some k → line ≡ take k bytes → rest ≡ drop k bytes → after ≡ drop 1 rest → pieces bytes ≡ line ∷ pieces after
+pieces_some bytes line rest after k e l r a =
+    let c = chosen (ltb (position_or_len is_lf bytes) (length bytes)) (position_or_len is_lf bytes) k e in
+    rw (l, a, r, ← c.1, drop-drop) (slice_split_first is_lf bytes 0 (ltb-true _ _ c.0))

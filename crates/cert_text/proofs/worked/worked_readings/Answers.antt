@@ -1,0 +1,72 @@
+use lib.Utf8.{encode}
+use Rattle.std.proofs.Common.{◌≡◌, ◌≢◌, ℕ, ◌≤◌, true, codes, inl, refl, sym, ap, ◌∙◌, lit≤, arith}
+use Rattle.std.specs.Fmt.{digits}
+use Rattle.std.specs.Str.{chars, is_utf8}
+use Rattle.std.proofs.lemmas.Int.{ints}
+use Rattle.std.proofs.lemmas.List.Elements.{All-from_recursion}
+use Rattle.std.proofs.lemmas.Str.{IsUtf8-from_is_utf8}
+use Rattle.zone_time.specs.Dates.{two_digits, date_text, clock_text, date_of, date_from_year, date_from_month}
+use Rattle.zone_time.specs.Moments.{moment_of, moment_text, has_form}
+use Rattle.cert_text.specs.declared.track_name.TrackName.TheVariants.{Turn}
+use Rattle.cert_text.specs.Certificates.{IsStationName, IsCellOf, IsCertificate}
+use Rattle.cert_text.specs.Lines.{title_of, station_line_of, begin_line_of, end_line_of, mark_line_of, heading_of, cell_line_of, last_line, joined, certificate_text}
+use Rattle.cert_text.specs.Tracks.{track_word, kind_word}
+use Rattle.cert_text.specs.Worked.{pier, pier_lines}
+use Rattle.cert_text.proofs.ReadingLemmas.{certificate_of-text}
+use Rattle.cert_text.specs.Workings.LineReading.{after, size_of, number_of, version_of, station_of, moment_after, mark_of, quiet_of, turn_of, cell_of}
+use Rattle.cert_text.specs.Workings.Drafts.{next, read_from}
+use Rattle.cert_text.specs.Readings.{certificate_of}
+use Rattle.cert_text.proofs.worked.worked_readings.Goals as goal
+
+ascii_name : is_utf8 (codes "Pier") ≡ true
+unfolding encode chars is_utf8
+ascii_name = refl
+
+pier_name : IsStationName (codes "Pier")
+pier_name = record {
+  text = IsUtf8-from_is_utf8 (codes "Pier") ascii_name;
+  some = lit≤ tt;
+  short = lit≤ tt;
+  printed = All-from_recursion (λ (b : ℕ). (32 ≤ b) × (b ≢ 127)) (codes "Pier")
+      ((lit≤ tt, λ e. absurd (omega (arith, e))), ((lit≤ tt, λ e. absurd (omega (arith, e))), ((lit≤ tt, λ e. absurd (omega (arith, e))), ((lit≤ tt, λ e. absurd (omega (arith, e))), tt))));
+}
+
+pier_is : IsCertificate pier
+pier_is = record {
+  version = inl refl;
+  station = pier_name;
+  begin = record { first = omega (arith, ints); last = omega (arith, ints) };
+  end = record { first = omega (arith, ints); last = omega (arith, ints) };
+  mark = tt;
+  turn = All-from_recursion (IsCellOf Turn) pier.tracks.turn (tt, (tt, ((lit≤ tt, lit≤ tt), ((lit≤ tt, lit≤ tt), tt))));
+  slack = tt;
+  crossings = tt;
+  marked = refl;
+}
+
+pier_text : certificate_text pier ≡ joined pier_lines
+unfolding digits two_digits date_text clock_text date_of date_from_year date_from_month moment_text track_word title_of station_line_of begin_line_of end_line_of mark_line_of heading_of cell_line_of last_line certificate_text
+pier_text = refl
+
+pub returns-clause-pier : goal.returns-clause-pier
+returns-clause-pier c = sym (ap certificate_of pier_text) ∙ certificate_of-text pier pier_is
+
+pub returns-clause-changed : goal.returns-clause-changed
+unfolding encode chars is_utf8 moment_of has_form kind_word after size_of number_of version_of station_of moment_after mark_of quiet_of turn_of cell_of next read_from certificate_of
+returns-clause-changed c = refl
+
+pub returns-clause-empty : goal.returns-clause-empty
+unfolding encode chars is_utf8 moment_of has_form kind_word after size_of number_of version_of station_of moment_after mark_of quiet_of turn_of cell_of next read_from certificate_of
+returns-clause-empty c = refl
+
+pub returns-clause-not_done : goal.returns-clause-not_done
+unfolding encode chars is_utf8 moment_of has_form kind_word after size_of number_of version_of station_of moment_after mark_of quiet_of turn_of cell_of next read_from certificate_of
+returns-clause-not_done c = refl
+
+pub returns-clause-no_lf : goal.returns-clause-no_lf
+unfolding encode chars is_utf8 moment_of has_form kind_word after size_of number_of version_of station_of moment_after mark_of quiet_of turn_of cell_of next read_from certificate_of
+returns-clause-no_lf c = refl
+
+pub returns-clause-more : goal.returns-clause-more
+unfolding encode chars is_utf8 moment_of has_form kind_word after size_of number_of version_of station_of moment_after mark_of quiet_of turn_of cell_of next read_from certificate_of
+returns-clause-more c = refl

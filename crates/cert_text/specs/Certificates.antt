@@ -1,0 +1,53 @@
+-- What a certificate may hold: the ranges of its parts, and whose events a track may have (this project).
+use Rattle.std.specs.Prelude.{◌≡◌, ◌≢◌, ℕ, ◌+◌, ◌≤◌, ℤ, unsigned_abs, ◌⊎◌, List, [], length, All, IfSome, is_some, unwrap_or}
+use Rattle.std.specs.Str.{IsUtf8}
+use Rattle.curve_law.specs.declared.cell.Cell.{Cell}
+use Rattle.curve_law.specs.declared.cell.Cell.TheVariants as cells
+use Rattle.zone_time.specs.Moments.{IsMoment}
+use Rattle.cert_text.specs.declared.certificate.Certificate.{Certificate}
+use Rattle.cert_text.specs.declared.track_name.TrackName.{TrackName}
+use Rattle.cert_text.specs.declared.track_name.TrackName.TheVariants.{Turn, Slack, Mark}
+use Rattle.cert_text.specs.Tracks.{track_of}
+
+-- UTF-8 of 1 to 400 bytes, none of them below 32 and none 127
+pub record IsStationName (name : List ℕ) : Type 0 where
+  pub text : IsUtf8 name
+  pub some : 1 ≤ length name
+  pub short : length name ≤ 400
+  pub printed : All (λ b. (32 ≤ b) × (b ≢ 127)) name
+
+-- a level that is passed, in millionths
+abbrev pub IsMark : ℤ → Type 0
+IsMark mark = unsigned_abs mark ≤ 10000000000
+
+-- the level of an event, in millionths
+abbrev pub IsLevel : ℤ → Type 0
+IsLevel level = unsigned_abs level ≤ 99999999999999
+
+-- a cell that has a line
+abbrev pub IsCell : Cell → Type 0
+IsCell (cells.Quiet n) = (2 ≤ n) × (n ≤ 1024)
+IsCell cells.Still = Unit {0}
+IsCell (cells.Turn kind level) = IsLevel level
+
+-- a cell that may stand in a track: its event, if it has one, is of the track
+abbrev pub IsCellOf : TrackName → Cell → Type 0
+IsCellOf track (cells.Quiet n) = (2 ≤ n) × (n ≤ 1024)
+IsCellOf track cells.Still = Unit {0}
+IsCellOf track (cells.Turn kind level) = (track_of kind ≡ track) × IsLevel level
+
+-- a certificate that has a text; the mark's track is there exactly where there is a mark
+pub record IsCertificate (c : Certificate) : Type 0 where
+  pub version : (c.version ≡ 1) ⊎ (c.version ≡ 2)
+  pub station : IsStationName c.station
+  pub begin : IsMoment c.begin
+  pub end : IsMoment c.end
+  pub mark : IfSome c.mark IsMark
+  pub turn : All (IsCellOf Turn) c.tracks.turn
+  pub slack : IfSome c.tracks.slack (All (IsCellOf Slack))
+  pub crossings : IfSome c.tracks.mark (All (IsCellOf Mark))
+  pub marked : is_some c.tracks.mark ≡ is_some c.mark
+
+-- how many cells its tracks have
+abbrev pub cell_count : Certificate → ℕ
+cell_count c = length c.tracks.turn + length (unwrap_or c.tracks.slack []) + length (unwrap_or c.tracks.mark [])

@@ -1,0 +1,111 @@
+-- The grammar of certificates: which lines spell which certificate, and where bytes stop being one (this project).
+use Rattle.std.specs.Prelude.{◌≡◌, ℕ, ◌<◌, ◌≤◌, ℤ, ◌⊎◌, List, [], ◌∷◌, ◌++◌, length, Option, Some, None, Result, Ok, Err, codes, decimal}
+use Rattle.std.specs.List.{AllZip}
+use Rattle.std.specs.Fmt.{signed_decimal}
+use Rattle.curve_law.specs.declared.cell.Cell.{Cell}
+use Rattle.curve_law.specs.declared.cell.Cell.TheVariants as cells
+use Rattle.curve_law.specs.declared.tracks.Tracks.{Tracks}
+use Rattle.zone_time.specs.Moments.{IsMoment, moment_text}
+use Rattle.cert_text.specs.declared.certificate.Certificate.{Certificate}
+use Rattle.cert_text.specs.declared.fault.CertFault.{CertFault}
+use Rattle.cert_text.specs.declared.fault.CertFault.TheVariants.{NoMemory, NotACertificate}
+use Rattle.cert_text.specs.declared.track_name.TrackName.{TrackName}
+use Rattle.cert_text.specs.declared.track_name.TrackName.TheVariants.{Turn, Slack, Mark}
+use Rattle.cert_text.specs.Tracks.{track_of, track_word, kind_word}
+use Rattle.cert_text.specs.Certificates.{IsStationName, IsMark, IsLevel}
+use Rattle.cert_text.specs.Lines.{joined}
+
+-- ---- the lines of a certificate
+
+abbrev pub SpellsVersion : ℕ → List ℕ → Type 0
+SpellsVersion version line = ((version ≡ 1) × (line ≡ codes "tide certificate 1")) ⊎ ((version ≡ 2) × (line ≡ codes "tide certificate 2"))
+
+abbrev pub SpellsStation : List ℕ → List ℕ → Type 0
+SpellsStation name line = IsStationName name × (line ≡ codes "station " ++ name)
+
+-- a moment after a word
+abbrev pub SpellsMoment : List ℕ → ℤ → List ℕ → Type 0
+SpellsMoment word m line = IsMoment m × (line ≡ word ++ moment_text m)
+
+abbrev pub SpellsMark : Option ℤ → List ℕ → Type 0
+SpellsMark None line = line ≡ codes "mark none"
+SpellsMark (Some mark) line = IsMark mark × (line ≡ codes "mark " ++ signed_decimal mark)
+
+-- a cell of a track; no event of another track stands there
+abbrev pub SpellsCell : TrackName → Cell → List ℕ → Type 0
+SpellsCell track (cells.Quiet n) line = (2 ≤ n) × (n ≤ 1024) × (line ≡ codes "q " ++ decimal n)
+SpellsCell track cells.Still line = line ≡ codes "s"
+SpellsCell track (cells.Turn kind level) line =
+    (track_of kind ≡ track) × IsLevel level × (line ≡ codes "t " ++ kind_word kind ++ codes " " ++ signed_decimal level)
+
+-- the track's name, and then a line for each cell
+abbrev pub SpellsTrack : TrackName → List Cell → List (List ℕ) → Type 0
+SpellsTrack track cells [] = ⊥
+SpellsTrack track cells (line ∷ lines) = (line ≡ codes "track " ++ track_word track) × AllZip (SpellsCell track) cells lines
+
+-- the slack track may be left out
+abbrev pub SpellsSlack : Option (List Cell) → List (List ℕ) → Type 0
+SpellsSlack None lines = lines ≡ []
+SpellsSlack (Some cells) lines = SpellsTrack Slack cells lines
+
+-- the mark's track is there exactly where there is a mark
+abbrev pub SpellsCrossings : Option ℤ → Option (List Cell) → List (List ℕ) → Type 0
+SpellsCrossings None None lines = lines ≡ []
+SpellsCrossings (Some mark) (Some cells) lines = SpellsTrack Mark cells lines
+SpellsCrossings None (Some cells) lines = ⊥
+SpellsCrossings (Some mark) None lines = ⊥
+
+-- the tracks one after the other, and the last line
+pub record SpellsTracks (mark : Option ℤ) (tracks : Tracks) (lines : List (List ℕ)) : Type 0 where
+  pub turn : List (List ℕ)
+  pub slack : List (List ℕ)
+  pub crossings : List (List ℕ)
+  pub turn_spelled : SpellsTrack Turn tracks.turn turn
+  pub slack_spelled : SpellsSlack tracks.slack slack
+  pub crossings_spelled : SpellsCrossings mark tracks.mark crossings
+  pub all : lines ≡ turn ++ (slack ++ (crossings ++ codes "done" ∷ []))
+
+-- the lines, without their LF, spell the certificate
+abbrev pub Spells : Certificate → List (List ℕ) → Type 0
+Spells c (version ∷ station ∷ begin ∷ end ∷ mark ∷ tracks) =
+    SpellsVersion c.version version × SpellsStation c.station station
+    × SpellsMoment (codes "begin ") c.begin begin × SpellsMoment (codes "end ") c.end end
+    × SpellsMark c.mark mark × SpellsTracks c.mark c.tracks tracks
+Spells c (version ∷ station ∷ begin ∷ end ∷ []) = ⊥
+Spells c (version ∷ station ∷ begin ∷ []) = ⊥
+Spells c (version ∷ station ∷ []) = ⊥
+Spells c (version ∷ []) = ⊥
+Spells c [] = ⊥
+
+-- the bytes are the lines of the certificate, each with its LF, and nothing more
+abbrev pub IsTextOf : Certificate → List ℕ → Type 0
+IsTextOf c bytes = (lines : List (List ℕ)) × Spells c lines × (bytes ≡ joined lines)
+
+-- ---- where bytes are no certificate
+
+-- the bytes begin with that many lines, each with its LF, with which some certificate begins
+pub record BeginsFor (bytes : List ℕ) (count : ℕ) : Type 0 where
+  pub certificate : Certificate
+  pub lines : List (List ℕ)
+  pub more : List (List ℕ)
+  pub spelled : Spells certificate (lines ++ more)
+  pub counted : length lines ≡ count
+  pub rest : List ℕ
+  pub front : bytes ≡ joined lines ++ rest
+
+-- the first line with which, after those before it, no certificate begins; a last piece without LF is no line of one, and
+-- where the bytes end too early it is the line that is missing
+pub record IsFaultLine (bytes : List ℕ) (line : ℕ) : Type 0 where
+  pub none : ¬ (BeginsFor bytes line)
+  pub least : (count : ℕ) → count < line → BeginsFor bytes count
+
+-- ---- what reading says
+
+abbrev pub Refuses : List ℕ → CertFault → Type 0
+Refuses bytes NoMemory = Unit {0}
+Refuses bytes (NotACertificate line) = ((c : Certificate) → ¬ (IsTextOf c bytes)) × IsFaultLine bytes line
+
+-- a certificate is the one whose text the bytes are; a fault says that they are none, and where; want of memory says nothing
+abbrev pub Reads : List ℕ → Result Certificate CertFault → Type 0
+Reads bytes (Ok c) = IsTextOf c bytes
+Reads bytes (Err fault) = Refuses bytes fault

@@ -1,0 +1,28 @@
+-- The tracks of a certificate, the kinds of their events, and the words for both (this project).
+use Rattle.std.specs.Prelude.{ℕ, List, codes}
+use Rattle.curve_law.specs.declared.kind.Kind.{Kind}
+use Rattle.curve_law.specs.declared.kind.Kind.TheVariants.{High, Low, FloodBegins, EbbBegins, MarkRising, MarkFalling}
+use Rattle.cert_text.specs.declared.track_name.TrackName.{TrackName}
+use Rattle.cert_text.specs.declared.track_name.TrackName.TheVariants.{Turn, Slack, Mark}
+
+unfoldable pub track_word : TrackName → List ℕ
+track_word Turn = codes "turn"
+track_word Slack = codes "slack"
+track_word Mark = codes "mark"
+
+unfoldable pub kind_word : Kind → List ℕ
+kind_word High = codes "high"
+kind_word Low = codes "low"
+kind_word FloodBegins = codes "flood"
+kind_word EbbBegins = codes "ebb"
+kind_word MarkRising = codes "rise"
+kind_word MarkFalling = codes "fall"
+
+-- the track that an event of the kind stands in
+abbrev pub track_of : Kind → TrackName
+track_of High = Turn
+track_of Low = Turn
+track_of FloodBegins = Slack
+track_of EbbBegins = Slack
+track_of MarkRising = Mark
+track_of MarkFalling = Mark

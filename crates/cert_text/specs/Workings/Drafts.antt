@@ -1,0 +1,160 @@
+-- The inner account of reading line by line: what a draft knows, and the draft after one more line (this project).
+use Rattle.std.specs.Prelude.{◌≡◌, ℕ, ◌+◌, ◌==◌, ℤ, pos, Bool, true, false, ◌&&◌, if◌then◌else◌, List, [], ◌∷◌, ◌++◌, length, Option, Some, None, is_some, Result, Ok, Err, codes}
+use Rattle.std.specs.List.{slice_split}
+use Rattle.std.specs.Option.{option_map, ok_or}
+use Rattle.std.specs.Str.{bytes_eq}
+use Rattle.decimal_text.specs.Expected.{◌>>=◌}
+use Rattle.curve_law.specs.declared.cell.Cell.{Cell}
+use Rattle.cert_text.specs.declared.certificate.Certificate.{Certificate}
+use Rattle.cert_text.specs.declared.fault.CertFault.{CertFault}
+use Rattle.cert_text.specs.declared.fault.CertFault.TheVariants.{NoMemory, NotACertificate}
+use Rattle.cert_text.specs.declared.fault.LineFault.{LineFault}
+use Rattle.cert_text.specs.declared.fault.LineFault.TheVariants as lines
+use Rattle.cert_text.specs.declared.track_name.TrackName.{TrackName}
+use Rattle.cert_text.specs.declared.track_name.TrackName.TheVariants as tracks
+use Rattle.cert_text.specs.declared.part.Part.{Part}
+use Rattle.cert_text.specs.declared.part.Part.TheVariants.{Title, Station, Begin, End, Mark, Heading, Turn, Slack, Crossings, Done}
+use Rattle.cert_text.specs.declared.draft.Draft.{Draft}
+use Rattle.cert_text.specs.Workings.LineReading.{version_of, station_of, moment_after, mark_of, cell_of}
+
+-- ---- lines
+
+abbrev pub is_lf : ℕ → Bool
+is_lf b = b == 10
+
+-- the lines that LF ends, and then what follows the last LF
+abbrev pub pieces : List ℕ → List (List ℕ)
+pieces bytes = slice_split is_lf bytes
+
+-- ---- the draft after one more line
+
+-- before the first line
+abbrev pub start : Draft
+start = record {
+  part = Title;
+  version = 1;
+  station = [];
+  begin = pos 0;
+  end = pos 0;
+  mark = None;
+  turn = [];
+  has_slack = false;
+  slack = [];
+  crossings = [];
+}
+
+abbrev pub with_version : Draft → ℕ → Draft
+with_version d version = record d { part = Station; version = version }
+
+abbrev pub with_station : Draft → List ℕ → Draft
+with_station d name = record d { part = Begin; station = name }
+
+abbrev pub with_begin : Draft → ℤ → Draft
+with_begin d begin = record d { part = End; begin = begin }
+
+abbrev pub with_end : Draft → ℤ → Draft
+with_end d end = record d { part = Mark; end = end }
+
+abbrev pub with_mark : Draft → Option ℤ → Draft
+with_mark d mark = record d { part = Heading; mark = mark }
+
+abbrev pub after_heading : Draft → List ℕ → Option Draft
+after_heading d line = if bytes_eq line (codes "track turn") then Some (record d { part = Turn }) else None
+
+abbrev pub after_last : Draft → List ℕ → Option Draft
+after_last d line = if bytes_eq line (codes "done") then Some (record d { part = Done }) else None
+
+-- where there is a mark its track comes next, and else the end
+abbrev pub after_slack : Draft → List ℕ → Option Draft
+after_slack d line =
+    if is_some d.mark
+    then (if bytes_eq line (codes "track mark") then Some (record d { part = Crossings }) else None)
+    else after_last d line
+
+abbrev pub after_turn : Draft → List ℕ → Option Draft
+after_turn d line =
+    if bytes_eq line (codes "track slack") then Some (record d { part = Slack; has_slack = true })
+    else after_slack d line
+
+-- one more cell, or the line after the track's last
+abbrev pub with_turn : Draft → List ℕ → Option Cell → Option Draft
+with_turn d line (Some cell) = Some (record d { turn = d.turn ++ cell ∷ [] })
+with_turn d line None = after_turn d line
+
+abbrev pub with_slack : Draft → List ℕ → Option Cell → Option Draft
+with_slack d line (Some cell) = Some (record d { slack = d.slack ++ cell ∷ [] })
+with_slack d line None = after_slack d line
+
+abbrev pub with_crossing : Draft → List ℕ → Option Cell → Option Draft
+with_crossing d line (Some cell) = Some (record d { crossings = d.crossings ++ cell ∷ [] })
+with_crossing d line None = after_last d line
+
+abbrev pub next_at : Part → Draft → List ℕ → Option Draft
+next_at Title d line = option_map (with_version d) (version_of line)
+next_at Station d line = option_map (with_station d) (station_of line)
+next_at Begin d line = option_map (with_begin d) (moment_after (codes "begin ") line)
+next_at End d line = option_map (with_end d) (moment_after (codes "end ") line)
+next_at Mark d line = option_map (with_mark d) (mark_of line)
+next_at Heading d line = after_heading d line
+next_at Turn d line = with_turn d line (cell_of tracks.Turn line)
+next_at Slack d line = with_slack d line (cell_of tracks.Slack line)
+next_at Crossings d line = with_crossing d line (cell_of tracks.Mark line)
+next_at Done d line = None
+
+-- none where no certificate has the line there
+unfoldable pub next : Draft → List ℕ → Option Draft
+next d line = next_at d.part d line
+
+-- what a call that takes a line says: the draft after it, or that there is none; want of memory says nothing
+abbrev pub TakesFault : Option Draft → LineFault → Type 0
+TakesFault expected lines.NoMemory = Unit {0}
+TakesFault expected lines.Bad = expected ≡ None
+
+abbrev pub Takes : Option Draft → Draft → Result (Unit {0}) LineFault → Type 0
+Takes expected new (Ok _) = expected ≡ Some new
+Takes expected new (Err fault) = TakesFault expected fault
+
+-- a line's fault as a certificate's
+abbrev pub placed : ℕ → LineFault → CertFault
+placed line lines.NoMemory = NoMemory
+placed line lines.Bad = NotACertificate line
+
+-- ---- to the end
+
+abbrev pub if_there : Bool → List Cell → Option (List Cell)
+if_there true cells = Some cells
+if_there false cells = None
+
+-- the certificate of what is read
+abbrev pub certificate_in : Draft → Certificate
+certificate_in d = record {
+  version = d.version;
+  station = d.station;
+  begin = d.begin;
+  end = d.end;
+  mark = d.mark;
+  tracks = record { turn = d.turn; slack = if_there d.has_slack d.slack; mark = if_there (is_some d.mark) d.crossings };
+}
+
+abbrev pub is_done : Part → Bool
+is_done Title = false
+is_done Station = false
+is_done Begin = false
+is_done End = false
+is_done Mark = false
+is_done Heading = false
+is_done Turn = false
+is_done Slack = false
+is_done Crossings = false
+is_done Done = true
+
+abbrev pub finished : Draft → ℕ → List ℕ → Result Certificate CertFault
+finished d number rest =
+    if is_done d.part && (length rest == 0) then Ok (certificate_in d) else Err (NotACertificate number)
+
+-- what comes of a draft before a line of that number, and the lines from there on; the last of them is what no LF ends
+unfoldable pub read_from : Draft → ℕ → List (List ℕ) → Result Certificate CertFault
+read_from d number [] = Err (NotACertificate number)
+read_from d number (rest ∷ []) = finished d number rest
+read_from d number (line ∷ more ∷ lines) =
+    ok_or (next d line) (NotACertificate number) >>= λ e. read_from e (number + 1) (more ∷ lines)

@@ -1,0 +1,95 @@
+-- What a line says, read from its bytes: the other direction of the lines' text (this project).
+use Rattle.std.specs.Prelude.{ℕ, zero, suc, ℤ, pos, negsuc, unsigned_abs, ◌==◌, nat_lt, nat_le, Bool, not, ◌&&◌, ◌||◌, if◌then◌else◌, List, [], ◌∷◌, length, take, drop, Option, Some, None, option_and_then, codes, slice_index}
+use Rattle.std.specs.List.{list_all}
+use Rattle.std.specs.Option.{option_map, option_or}
+use Rattle.std.specs.Char.{is_ascii_digit}
+use Rattle.std.specs.Str.{bytes_eq, is_utf8}
+use Rattle.std.specs.Str.Parse.{digits_value}
+use Rattle.curve_law.specs.declared.cell.Cell.{Cell}
+use Rattle.curve_law.specs.declared.cell.Cell.TheVariants as cells
+use Rattle.curve_law.specs.declared.kind.Kind.{Kind}
+use Rattle.curve_law.specs.declared.kind.Kind.TheVariants.{High, Low, FloodBegins, EbbBegins, MarkRising, MarkFalling}
+use Rattle.zone_time.specs.Moments.{moment_of}
+use Rattle.cert_text.specs.declared.track_name.TrackName.{TrackName}
+use Rattle.cert_text.specs.declared.track_name.TrackName.TheVariants.{Turn, Slack, Mark}
+use Rattle.cert_text.specs.Lines.{front_of}
+
+-- what follows a word at the front
+unfoldable pub after : List ℕ → List ℕ → Option (List ℕ)
+after word line = if bytes_eq (take (length word) line) word then Some (drop (length word) line) else None
+
+-- one to fourteen digits, and no 0 before others
+abbrev pub is_numeral : List ℕ → Bool
+is_numeral text =
+    (nat_lt 0 (length text) && nat_le (length text) 14) && list_all is_ascii_digit text
+    && (not (slice_index text 0 == 48) || (length text == 1))
+
+unfoldable pub size_of : List ℕ → Option ℕ
+size_of text = if is_numeral text then Some (digits_value 10 text) else None
+
+abbrev pub negative : ℕ → Option ℤ
+negative zero = None
+negative (suc n) = Some (negsuc n)
+
+-- the number of a text, and of what follows a minus, if one stands first
+abbrev pub number_from : Option (List ℕ) → List ℕ → Option ℤ
+number_from None text = option_map pos (size_of text)
+number_from (Some digits) text = option_and_then negative (size_of digits)
+
+unfoldable pub number_of : List ℕ → Option ℤ
+number_of text = number_from (after (codes "-") text) text
+
+unfoldable pub version_of : List ℕ → Option ℕ
+version_of line =
+    if bytes_eq line (codes "tide certificate 1") then Some 1
+    else if bytes_eq line (codes "tide certificate 2") then Some 2
+    else None
+
+abbrev pub is_name_byte : ℕ → Bool
+is_name_byte b = nat_le 32 b && not (b == 127)
+
+abbrev pub is_station_name : List ℕ → Bool
+is_station_name name =
+    (nat_lt 0 (length name) && nat_le (length name) 400) && list_all is_name_byte name && is_utf8 name
+
+abbrev pub named : List ℕ → Option (List ℕ)
+named name = if is_station_name name then Some name else None
+
+unfoldable pub station_of : List ℕ → Option (List ℕ)
+station_of line = option_and_then named (after (codes "station ") line)
+
+unfoldable pub moment_after : List ℕ → List ℕ → Option ℤ
+moment_after word line = option_and_then moment_of (after word line)
+
+abbrev pub mark_within : ℤ → Option (Option ℤ)
+mark_within mark = if nat_le (unsigned_abs mark) 10000000000 then Some (Some mark) else None
+
+unfoldable pub mark_of : List ℕ → Option (Option ℤ)
+mark_of line =
+    if bytes_eq line (codes "mark none") then Some None
+    else option_and_then mark_within (option_and_then number_of (after (codes "mark ") line))
+
+abbrev pub quiet_for : ℕ → Option Cell
+quiet_for n = if nat_le 2 n && nat_le n 1024 then Some (cells.Quiet n) else None
+
+unfoldable pub quiet_of : List ℕ → Option Cell
+quiet_of line = option_and_then quiet_for (option_and_then size_of (after (codes "q ") line))
+
+unfoldable pub turn_of : Kind → List ℕ → Option Cell
+turn_of kind line = option_map (λ level. cells.Turn kind level) (option_and_then number_of (after (front_of kind) line))
+
+abbrev pub first_kind : TrackName → Kind
+first_kind Turn = High
+first_kind Slack = FloodBegins
+first_kind Mark = MarkRising
+
+abbrev pub second_kind : TrackName → Kind
+second_kind Turn = Low
+second_kind Slack = EbbBegins
+second_kind Mark = MarkFalling
+
+-- the cell of a line in a track
+unfoldable pub cell_of : TrackName → List ℕ → Option Cell
+cell_of track line =
+    if bytes_eq line (codes "s") then Some cells.Still
+    else option_or (quiet_of line) (option_or (turn_of (first_kind track) line) (turn_of (second_kind track) line))

@@ -1,0 +1,53 @@
+//! Cells, read from their lines.
+
+ghost use Rattle.std.specs.Prelude.{◌≡◌, ◌<◌, ◌^◌};
+ghost use Rattle.cert_text.specs.Workings.LineReading.{quiet_for, quiet_of, turn_of, cell_of};
+
+use crate::lines::after;
+use crate::numbers::{number_of, size_of};
+use crate::track_name::TrackName;
+use crate::words::{first_kind, front_of, second_kind};
+use curve_law::{Cell, Kind};
+
+fn quiet_for(minutes: u64) -> Option<Cell>
+    ensures { result ≡ quiet_for minutes }
+{
+    if 2 <= minutes && minutes <= 1024 {
+        Some(Cell::Quiet(minutes as u32))
+    } else {
+        None
+    }
+}
+
+#[tactic(auto, unfolding(crate::specs::Workings::LineReading::quiet_of))]
+fn quiet_of(line: &[u8]) -> Option<Cell>
+    ensures { result ≡ quiet_of line.now }
+{
+    let minutes = size_of(after(b"q ".as_slice(), line)?)?;
+    quiet_for(minutes)
+}
+
+#[tactic(auto, unfolding(crate::specs::Workings::LineReading::turn_of))]
+fn turn_of(kind: Kind, line: &[u8]) -> Option<Cell>
+    ensures { result ≡ turn_of kind line.now }
+{
+    let level = number_of(after(front_of(kind).as_bytes(), line)?)?;
+    Some(Cell::Turn(kind, level))
+}
+
+/// The cell of a line in a track.
+#[tactic(auto, unfolding(crate::specs::Workings::LineReading::cell_of))]
+pub fn cell_of(track: TrackName, line: &[u8]) -> Option<Cell>
+    ensures { result ≡ cell_of track line.now }
+{
+    if line == b"s".as_slice() {
+        return Some(Cell::Still);
+    }
+    if let Some(cell) = quiet_of(line) {
+        return Some(cell);
+    }
+    if let Some(cell) = turn_of(first_kind(track), line) {
+        return Some(cell);
+    }
+    turn_of(second_kind(track), line)
+}

@@ -1,0 +1,47 @@
+//! What follows of the grammar.
+
+ghost use Rattle.std.specs.Prelude.{◌≡◌, ◌≢◌, ℕ, ◌+◌, ◌*◌, ◌≤◌, List, ◌++◌, length, Ok, Err};
+ghost use Rattle.curve_law.specs.declared.cell.Cell.{Cell};
+ghost use Rattle.cert_text.specs.declared.certificate.Certificate.{Certificate};
+ghost use Rattle.cert_text.specs.declared.fault.CertFault.{CertFault};
+ghost use Rattle.cert_text.specs.declared.track_name.TrackName.{TrackName};
+ghost use Rattle.cert_text.specs.Certificates.{IsCell, IsCertificate, cell_count};
+ghost use Rattle.cert_text.specs.Lines.{cell_line_of, last_line, head_lines_of, track_lines_of, lines_if_there, lines_of, ended, joined, certificate_text};
+ghost use Rattle.cert_text.specs.Spelling.{Spells, IsTextOf, IsFaultLine, Reads};
+ghost use Rattle.cert_text.specs.Readings.{certificate_of};
+
+/// Each certificate whose parts lie within their ranges has exactly one text, no other has one, and
+/// each text has at most one certificate.
+pub fn certificates_have_one_text()
+    ensures lines { (c : Certificate) → IsCertificate c → Spells c (lines_of c) }
+    ensures only_lines { (c : Certificate) (lines : List (List ℕ)) →
+        Spells c lines → IsCertificate c × (lines ≡ lines_of c) }
+    ensures text { (c : Certificate) → IsCertificate c → IsTextOf c (certificate_text c) }
+    ensures only_text { (c : Certificate) (bytes : List ℕ) →
+        IsTextOf c bytes → IsCertificate c × (certificate_text c ≡ bytes) }
+    ensures one_certificate { (c d : Certificate) (bytes : List ℕ) →
+        IsTextOf c bytes → IsTextOf d bytes → c ≡ d }
+{}
+
+/// The text is the texts of its parts, one after the other. A cell has at most 24 bytes, and all the
+/// rest at most 536.
+pub fn texts_come_in_parts()
+    ensures parts { (c : Certificate) → certificate_text c
+        ≡ joined (head_lines_of c) ++ joined (track_lines_of TrackName.Turn c.tracks.turn)
+        ++ joined (lines_if_there TrackName.Slack c.tracks.slack)
+        ++ joined (lines_if_there TrackName.Mark c.tracks.mark) ++ ended last_line }
+    ensures cell { (cell : Cell) → IsCell cell → length (ended (cell_line_of cell)) ≤ 24 }
+    ensures short { (c : Certificate) → IsCertificate c →
+        length (certificate_text c) ≤ 536 + 24 * cell_count c }
+{}
+
+/// Reading by lines goes by the grammar for all bytes, and never tells of want of memory: it gives
+/// the certificate whose text they are, or the one line of the fault where they are none's. The text
+/// of a certificate reads as the certificate.
+pub fn readings_go_by_the_grammar()
+    ensures reads { (bytes : List ℕ) → Reads bytes (certificate_of bytes) }
+    ensures never_memory { (bytes : List ℕ) → certificate_of bytes ≢ Err CertFault.NoMemory }
+    ensures again { (c : Certificate) → IsCertificate c → certificate_of (certificate_text c) ≡ Ok c }
+    ensures one_line { (bytes : List ℕ) (m n : ℕ) →
+        IsFaultLine bytes m → IsFaultLine bytes n → m ≡ n }
+{}

@@ -1,0 +1,161 @@
+//! Lines written, each with its LF. None takes memory.
+
+ghost use Rattle.std.specs.Prelude.{◌≡◌, ◌≤◌, ◌+◌, ◌++◌, ◌⊎◌, [], length, IfSome, unsigned_abs};
+ghost use Rattle.std.specs.Fmt.{signed_decimal};
+ghost use Rattle.arrayvec.specs.ArrayString.{array_string_len};
+ghost use Rattle.zone_time.specs.Moments.{IsMoment, moment_text};
+ghost use Rattle.cert_text.specs.Certificates.{IsCell, IsMark};
+ghost use Rattle.cert_text.specs.Lines.{title_of, begin_line_of, end_line_of, mark_line_of, heading_of, cell_line_of, last_line, ended};
+
+use crate::track_name::TrackName;
+use crate::words::front_of;
+use arrayvec::ArrayString;
+use curve_law::Cell;
+use itoa::Buffer;
+use zone_time::write_moment;
+
+/// Appends a whole number below 10^14 in size.
+fn push_number(number: i64, out: &mut ArrayString<24>)
+    requires size { unsigned_abs number ≤ 99999999999999 }
+    requires room { array_string_len out.old + 15 ≤ 24 }
+    ensures bytes { out.new.bytes ≡ out.old.bytes ++ signed_decimal number }
+    ensures short { array_string_len out.new ≤ array_string_len out.old + 15 }
+{
+    let mut buffer = Buffer::new();
+    out.push_str(buffer.format(number));
+}
+
+/// Appends a moment as text.
+fn push_moment(m: i64, out: &mut ArrayString<24>)
+    requires moment { IsMoment m }
+    requires room { array_string_len out.old + 17 ≤ 24 }
+    ensures bytes { out.new.bytes ≡ out.old.bytes ++ moment_text m }
+    ensures len { array_string_len out.new ≡ array_string_len out.old + 17 }
+{
+    let mut text = ArrayString::new();
+    write_moment(m, &mut text);
+    out.push_str(text.as_str());
+}
+
+#[tactic(auto, unfolding(crate::specs::Lines::title_of))]
+fn title_of(version: u32) -> &'static str
+    ensures text { result.now ≡ title_of version }
+    ensures short { length result.now ≤ 18 }
+{
+    if version == 1 {
+        "tide certificate 1"
+    } else {
+        "tide certificate 2"
+    }
+}
+
+/// Writes the first line, as `tide certificate 2`. The version is 1 or 2.
+pub fn title_line(version: u32, out: &mut ArrayString<24>)
+    requires version { (version ≡ 1) ⊎ (version ≡ 2) }
+    requires empty { out.old.bytes ≡ [] }
+    ensures { out.new.bytes ≡ ended (title_of version) }
+{
+    out.push_str(title_of(version));
+    out.push('\n');
+}
+
+/// Writes the line of the span's begin, as `begin 2000-01-10T00:00Z`.
+#[tactic(auto, unfolding(crate::specs::Lines::begin_line_of))]
+pub fn begin_line(m: i64, out: &mut ArrayString<24>)
+    requires moment { IsMoment m }
+    requires empty { out.old.bytes ≡ [] }
+    ensures { out.new.bytes ≡ ended (begin_line_of m) }
+{
+    out.push_str("begin ");
+    push_moment(m, out);
+    out.push('\n');
+}
+
+/// Writes the line of the span's end, as `end 2000-01-11T00:00Z`.
+#[tactic(auto, unfolding(crate::specs::Lines::end_line_of))]
+pub fn end_line(m: i64, out: &mut ArrayString<24>)
+    requires moment { IsMoment m }
+    requires empty { out.old.bytes ≡ [] }
+    ensures { out.new.bytes ≡ ended (end_line_of m) }
+{
+    out.push_str("end ");
+    push_moment(m, out);
+    out.push('\n');
+}
+
+#[tactic(auto, unfolding(crate::specs::Lines::mark_line_of))]
+fn push_mark(mark: Option<i64>, out: &mut ArrayString<24>)
+    requires mark { IfSome mark IsMark }
+    requires empty { out.old.bytes ≡ [] }
+    ensures bytes { out.new.bytes ≡ mark_line_of mark }
+    ensures short { array_string_len out.new ≤ 20 }
+{
+    match mark {
+        None => out.push_str("mark none"),
+        Some(mark) => {
+            out.push_str("mark ");
+            push_number(mark, out);
+        }
+    }
+}
+
+/// Writes the line of the mark, as `mark none` or `mark 1500000`.
+pub fn mark_line(mark: Option<i64>, out: &mut ArrayString<24>)
+    requires mark { IfSome mark IsMark }
+    requires empty { out.old.bytes ≡ [] }
+    ensures { out.new.bytes ≡ ended (mark_line_of mark) }
+{
+    push_mark(mark, out);
+    out.push('\n');
+}
+
+/// Writes the heading of a track, as `track turn`.
+#[tactic(auto, unfolding(crate::specs::Lines::heading_of))]
+pub fn heading_line(track: TrackName, out: &mut ArrayString<24>)
+    requires { out.old.bytes ≡ [] }
+    ensures { out.new.bytes ≡ ended (heading_of track) }
+{
+    out.push_str("track ");
+    out.push_str(track.word());
+    out.push('\n');
+}
+
+#[tactic(auto, unfolding(crate::specs::Lines::cell_line_of))]
+fn push_cell(cell: Cell, out: &mut ArrayString<24>)
+    requires cell { IsCell cell }
+    requires empty { out.old.bytes ≡ [] }
+    ensures bytes { out.new.bytes ≡ cell_line_of cell }
+    ensures short { array_string_len out.new ≤ 23 }
+{
+    match cell {
+        Cell::Quiet(minutes) => {
+            out.push_str("q ");
+            push_number(i64::from(minutes), out);
+        }
+        Cell::Still => out.push('s'),
+        Cell::Turn(kind, level) => {
+            out.push_str(front_of(kind));
+            push_number(level, out);
+        }
+    }
+}
+
+/// Writes the line of a cell, as `q 1024`, `s` or `t low -1000000`. Quiet minutes are 2 to 1,024, and
+/// a level is at most 99,999,999,999,999 in size.
+pub fn cell_line(cell: &Cell, out: &mut ArrayString<24>)
+    requires cell { IsCell cell.now }
+    requires empty { out.old.bytes ≡ [] }
+    ensures { out.new.bytes ≡ ended (cell_line_of cell.now) }
+{
+    push_cell(*cell, out);
+    out.push('\n');
+}
+
+/// Writes the last line, `done`.
+#[tactic(auto, unfolding(crate::specs::Lines::last_line))]
+pub fn last_line(out: &mut ArrayString<24>)
+    requires { out.old.bytes ≡ [] }
+    ensures { out.new.bytes ≡ ended last_line }
+{
+    out.push_str("done\n");
+}

@@ -1,0 +1,34 @@
+//! Lines of bytes.
+
+ghost use Rattle.std.specs.Prelude.{◌≡◌, ◌<◌, ◌∷◌, [], length, MatchOption, IfSome, position, option_copied};
+ghost use Rattle.cert_text.specs.Workings.Drafts.{is_lf, pieces};
+ghost use Rattle.cert_text.specs.Workings.LineReading.{after};
+
+fn lf_at(bytes: &[u8]) -> Option<usize>
+    ensures { result ≡ position is_lf bytes.now }
+{
+    bytes.iter().position(|b| *b == b'\n')
+}
+
+/// The first line without its LF, and what follows it. There is none where no LF is left.
+pub fn next_line(bytes: &[u8]) -> Option<(&[u8], &[u8])>
+    ensures shorter { IfSome result (λ r. length r.1.now < length bytes.now) }
+    ensures exact { MatchOption result (pieces bytes.now ≡ bytes.now ∷ []) (λ r. pieces bytes.now ≡ r.0.now ∷ pieces r.1.now) }
+{
+    match lf_at(bytes) {
+        None => None,
+        Some(end) => {
+            let (line, rest) = bytes.split_at(end);
+            let (_, rest) = rest.split_at(1);
+            Some((line, rest))
+        }
+    }
+}
+
+/// What follows a word at the front of a line.
+#[tactic(auto, unfolding(crate::specs::Workings::LineReading::after))]
+pub fn after<'a>(word: &[u8], line: &'a [u8]) -> Option<&'a [u8]>
+    ensures { option_copied result ≡ after word.now line.now }
+{
+    line.strip_prefix(word)
+}

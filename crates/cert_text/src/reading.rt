@@ -1,0 +1,49 @@
+//! Reading a certificate.
+
+ghost use Rattle.std.specs.Prelude.{◌≡◌, ◌≤◌, length, IfOk};
+ghost use Rattle.decimal_text.specs.Expected.{Gives};
+ghost use Rattle.cert_text.specs.Certificates.{IsCertificate};
+ghost use Rattle.cert_text.specs.Spelling.{Reads};
+ghost use Rattle.cert_text.specs.Readings.{certificate_of, wants_memory};
+ghost use Rattle.cert_text.specs.Workings.Drafts.{placed};
+
+use crate::certificate::Certificate;
+use crate::draft::Draft;
+use crate::fault::{CertFault, LineFault};
+use crate::lines::next_line;
+use std::alloc::Global;
+
+fn at_line(line: u32, fault: LineFault) -> CertFault
+    ensures { result ≡ placed line fault }
+{
+    match fault {
+        LineFault::NoMemory => CertFault::NoMemory,
+        LineFault::Bad => CertFault::NotACertificate { line },
+    }
+}
+
+/// The certificate whose text the bytes are, at most 400,000,000 of them. They are gone over once.
+///
+/// # Errors
+/// [`CertFault::NotACertificate`] exactly where they are no certificate's text. Its line is the
+/// first, counted from 1, such that no certificate begins with the lines up to it, each with its LF:
+/// a last piece without LF is no line of one, and where the bytes end too early the line is one past
+/// the last. [`CertFault::NoMemory`] may come in its place.
+pub fn read_certificate(alloc: Global, bytes: &[u8]) -> Result<Certificate, CertFault>
+    requires { length bytes.now ≤ 400000000 }
+    ensures exact { Gives wants_memory (certificate_of bytes.now) result }
+    ensures reads { Reads bytes.now result }
+    ensures sound { IfOk result IsCertificate }
+{
+    let mut draft = Draft::new(alloc);
+    let mut rest = bytes;
+    let mut number = 1u32;
+    while let Some((line, after)) = next_line(rest) {
+        if let Err(fault) = draft.take_line(alloc, line) {
+            return Err(at_line(number, fault));
+        }
+        number += 1;
+        rest = after;
+    }
+    draft.finish(number, rest)
+}

@@ -1,0 +1,98 @@
+//! Writing a certificate.
+
+ghost use Rattle.std.specs.Prelude.{◌≡◌, ◌++◌, [], ◌∷◌, All, IfOk, IfSome, OnOk};
+ghost use Rattle.cert_text.specs.Certificates.{IsCertificate, IsCellOf};
+ghost use Rattle.cert_text.specs.Lines.{station_line_of, head_lines_of, track_lines_of, lines_if_there, certificate_text, ended, joined};
+
+use crate::certificate::Certificate;
+use crate::line_writing::{
+    begin_line, cell_line, end_line, heading_line, last_line, mark_line, title_line,
+};
+use crate::track_name::TrackName;
+use arrayvec::ArrayString;
+use curve_law::{Cell, Cells};
+use decimal_text::{Bytes, Text};
+use std::alloc::{AllocError, Global};
+
+fn push_text(out: &mut Vec<u8>, text: &str) -> Result<(), AllocError>
+    ensures { OnOk result (out.new.items ≡ out.old.items ++ text.now) }
+{
+    out.extend_from_slice(text.as_bytes())
+}
+
+#[tactic(auto, unfolding(crate::specs::Lines::station_line_of))]
+fn push_station(out: &mut Vec<u8>, name: &Text) -> Result<(), AllocError>
+    ensures { OnOk result (out.new.items ≡ out.old.items ++ ended (station_line_of name.now)) }
+{
+    push_text(out, "station ")?;
+    push_text(out, name.as_str())?;
+    push_text(out, "\n")
+}
+
+/// Appends the first five lines.
+fn push_head(out: &mut Vec<u8>, cert: &Certificate) -> Result<(), AllocError>
+    requires { IsCertificate cert.now }
+    ensures { OnOk result (out.new.items ≡ out.old.items ++ joined (head_lines_of cert.now)) }
+{
+    let mut line = ArrayString::new();
+    title_line(cert.version, &mut line);
+    push_text(out, line.as_str())?;
+    push_station(out, &cert.station)?;
+    line.clear();
+    begin_line(cert.begin, &mut line);
+    push_text(out, line.as_str())?;
+    line.clear();
+    end_line(cert.end, &mut line);
+    push_text(out, line.as_str())?;
+    line.clear();
+    mark_line(cert.mark, &mut line);
+    push_text(out, line.as_str())
+}
+
+/// Appends a track's heading and its cells.
+fn push_track(out: &mut Vec<u8>, track: TrackName, cells: &[Cell]) -> Result<(), AllocError>
+    requires { All (IsCellOf track) cells.now }
+    ensures { OnOk result (out.new.items ≡ out.old.items ++ joined (track_lines_of track cells.now)) }
+{
+    let mut line = ArrayString::new();
+    heading_line(track, &mut line);
+    push_text(out, line.as_str())?;
+    for cell in cells {
+        line.clear();
+        cell_line(cell, &mut line);
+        push_text(out, line.as_str())?;
+    }
+    Ok(())
+}
+
+/// Appends a track, if it is there.
+fn push_track_if_there(
+    out: &mut Vec<u8>,
+    track: TrackName,
+    cells: &Option<Cells>,
+) -> Result<(), AllocError>
+    requires { IfSome cells.now (All (IsCellOf track)) }
+    ensures { OnOk result (out.new.items ≡ out.old.items ++ joined (lines_if_there track cells.now)) }
+{
+    match cells {
+        None => Ok(()),
+        Some(cells) => push_track(out, track, cells.as_slice()),
+    }
+}
+
+/// The text of a certificate, whose parts lie within their ranges.
+#[tactic(auto, unfolding(crate::specs::Lines::certificate_text))]
+pub fn write_certificate(alloc: Global, cert: &Certificate) -> Result<Bytes, AllocError>
+    requires { IsCertificate cert.now }
+    ensures { IfOk result (λ text. text ≡ certificate_text cert.now) }
+{
+    let mut out = Vec::new(alloc);
+    push_head(&mut out, cert)?;
+    push_track(&mut out, TrackName::Turn, cert.tracks.turn.as_slice())?;
+    push_track_if_there(&mut out, TrackName::Slack, &cert.tracks.slack)?;
+    push_track_if_there(&mut out, TrackName::Mark, &cert.tracks.mark)?;
+    let mut line = ArrayString::new();
+    last_line(&mut line);
+    push_text(&mut out, line.as_str())?;
+    Ok(Bytes::from_vec(out))
+}
