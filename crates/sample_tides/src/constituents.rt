@@ -1,0 +1,61 @@
+//! The constituents: their names and speeds.
+
+ghost use Rattle.std.specs.Prelude.{◌≡◌, ◌+◌, ◌<◌, ◌≤◌, ◌^◌, pos, OnOk};
+ghost use Rattle.decimal_text.specs.Writing.{write_of};
+ghost use Rattle.sample_tides.specs.File.{name_of, slowest_of, constituent};
+ghost use Rattle.sample_tides.specs.Parts.{append};
+
+use crate::draft::Draft;
+use std::alloc::AllocError;
+
+/// How many constituents a file has.
+pub(crate) const CONSTITUENTS: u32 = 37;
+
+/// Appends the name of a constituent, counted from 1.
+#[tactic(auto, using(crate::proofs::PartsLemmas::append_twice), unfolding(crate::specs::File::name_of))]
+pub(crate) fn append_name(draft: &mut Draft, number: u32) -> Result<(), AllocError>
+    ensures { OnOk result (draft.new ≡ append (name_of number) draft.old) }
+{
+    match number {
+        1 => draft.append(b"M2"),
+        2 => draft.append(b"S2"),
+        3 => draft.append(b"N2"),
+        4 => draft.append(b"K1"),
+        5 => draft.append(b"O1"),
+        _ => {
+            draft.append(b"C")?;
+            draft.whole(u64::from(number))
+        }
+    }
+}
+
+/// Appends the line of a made-up constituent: its name and its speed.
+#[tactic(auto, using(crate::proofs::PartsLemmas::append_twice), unfolding(crate::specs::File::constituent))]
+pub(crate) fn append_constituent(draft: &mut Draft, number: u32) -> Result<(), AllocError>
+    ensures { OnOk result (draft.new ≡ constituent number draft.old) }
+{
+    let speed = slowest(number) + draft.draw(40_000_000);
+    append_name(draft, number)?;
+    draft.append(b" ")?;
+    append_speed(draft, speed)?;
+    draft.append(b"\n")
+}
+
+/// Appends a speed in ten-millionths of a degree an hour, as degrees.
+fn append_speed(draft: &mut Draft, speed: u32) -> Result<(), AllocError>
+    ensures { OnOk result (draft.new ≡ append (write_of (pos speed) 7) draft.old) }
+{
+    draft.decimal(speed / 10, 6)?;
+    draft.whole(u64::from(speed % 10))
+}
+
+fn slowest(number: u32) -> u32
+    ensures value { result ≡ slowest_of number }
+    ensures small { result ≤ 270000000 }
+{
+    if number % 2 == 0 {
+        270_000_000
+    } else {
+        130_000_000
+    }
+}

@@ -1,0 +1,82 @@
+//! The whole file.
+
+ghost use Rattle.std.specs.Prelude.{◌≡◌, ◌++◌, codes, decimal, IfOk, OnOk};
+ghost use Rattle.sample_tides.specs.File.{heading, file, sample_of};
+ghost use Rattle.sample_tides.specs.Parts.{line};
+
+use crate::constituents::{CONSTITUENTS, append_constituent};
+use crate::draft::Draft;
+use crate::quantity::Quantity;
+use crate::stations::append_station;
+use crate::tables::append_table;
+use decimal_text::Bytes;
+use std::alloc::{AllocError, Global};
+
+const STATIONS: u32 = 200;
+
+const ARGUMENT: Quantity = Quantity {
+    least: 0,
+    bound: 36_000,
+    places: 2,
+};
+
+const FACTOR: Quantity = Quantity {
+    least: 8_000,
+    bound: 4_001,
+    places: 4,
+};
+
+/// The sample file of a seed: a harmonics file of 8,192 lines, with 37 constituents, 30 years from
+/// 2000 on and 200 stations, each fifth of them one of currents.
+///
+/// # Errors
+/// [`AllocError`] where there is no memory for the text.
+#[tactic(auto, unfolding(crate::specs::File::sample_of))]
+pub fn sample(alloc: Global, seed: u64) -> Result<Bytes, AllocError>
+    ensures { IfOk result (λ bytes. bytes ≡ sample_of seed) }
+{
+    let mut draft = Draft::new(alloc, seed);
+    append_file(&mut draft, seed)?;
+    Ok(draft.into_bytes())
+}
+
+#[tactic(auto, unfolding(crate::specs::File::file))]
+fn append_file(draft: &mut Draft, seed: u64) -> Result<(), AllocError>
+    ensures { OnOk result (draft.new ≡ file seed draft.old) }
+{
+    append_heading(draft, seed)?;
+    for number in 6..=CONSTITUENTS {
+        append_constituent(draft, number)?;
+    }
+    draft.line(b"2000")?;
+    draft.line(b"30")?;
+    append_table(draft, ARGUMENT)?;
+    draft.line(b"30")?;
+    append_table(draft, FACTOR)?;
+    for number in 1..=STATIONS {
+        append_station(draft, number)?;
+    }
+    Ok(())
+}
+
+#[tactic(auto, unfolding(crate::specs::File::heading))]
+fn append_heading(draft: &mut Draft, seed: u64) -> Result<(), AllocError>
+    ensures { OnOk result (draft.new ≡ heading seed draft.old) }
+{
+    append_title(draft, seed)?;
+    draft.line(b"37")?;
+    draft.line(b"M2 28.9841042")?;
+    draft.line(b"S2 30.0000000")?;
+    draft.line(b"N2 28.4397295")?;
+    draft.line(b"K1 15.0410686")?;
+    draft.line(b"O1 13.9430356")
+}
+
+#[tactic(auto, using(crate::proofs::PartsLemmas::append_twice))]
+fn append_title(draft: &mut Draft, seed: u64) -> Result<(), AllocError>
+    ensures { OnOk result (draft.new ≡ line (codes "# sample tides, seed " ++ decimal seed) draft.old) }
+{
+    draft.append(b"# sample tides, seed ")?;
+    draft.whole(seed)?;
+    draft.append(b"\n")
+}

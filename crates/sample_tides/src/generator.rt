@@ -1,0 +1,53 @@
+//! Numbers from a seed.
+
+ghost use Rattle.std.specs.Prelude.{◌≡◌, ◌<◌, ℕ};
+ghost use Rattle.sample_tides.specs.Generator.{next, scaled_to};
+
+use std::marker::Model;
+
+const MULTIPLIER: u64 = 6_364_136_223_846_793_005;
+
+const INCREMENT: u64 = 1_442_695_040_888_963_407;
+
+/// A linear congruential generator of 64 bits. Contracts see it as its state.
+#[derive(Drop)]
+pub(crate) struct Generator {
+    state: u64,
+}
+
+impl Model for Generator {
+    ghost Value = { ℕ };
+
+    ghost view = { λ g. g.state };
+}
+
+impl Generator {
+    /// A generator whose first state is the seed.
+    pub(crate) fn new(seed: u64) -> Generator
+        ensures { result ≡ seed }
+    {
+        Generator { state: seed }
+    }
+
+    /// Moves on, and gives a number below `bound` by the high half of the state.
+    #[tactic(auto, unfolding(crate::specs::Generator::next, crate::specs::Generator::scaled_to))]
+    pub(crate) fn draw(&mut self, bound: u32) -> u32
+        requires { 0 < bound }
+        ensures value { result ≡ scaled_to bound self.new }
+        ensures within { result < bound }
+        ensures after { self.new ≡ next self.old }
+    {
+        self.state = self.state.wrapping_mul(MULTIPLIER).wrapping_add(INCREMENT);
+        scaled(self.state, bound)
+    }
+}
+
+/// The high half of a state, scaled to the numbers below `bound`.
+#[tactic(auto, unfolding(crate::specs::Generator::scaled_to))]
+fn scaled(state: u64, bound: u32) -> u32
+    requires { 0 < bound }
+    ensures value { result ≡ scaled_to bound state }
+    ensures within { result < bound }
+{
+    (((state >> 32) * u64::from(bound)) >> 32) as u32
+}

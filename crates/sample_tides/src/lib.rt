@@ -1,0 +1,21 @@
+//! A harmonics file of made-up constants, drawn from a seed.
+//!
+//! [`sample`] gives the same file for the same seed, so tests and measurements of a predictor need
+//! no data of their own. Its constants are those of no real place. `specs/File.antt` says line by
+//! line what the file has.
+#![tactic(auto)]
+
+mod constituents;
+mod draft;
+mod file;
+mod generator;
+mod quantity;
+mod stations;
+mod tables;
+mod worked;
+
+pub use file::sample;
+pub use worked::{worked_draws, worked_lines};
+
+#[cfg(test)]
+mod tests;

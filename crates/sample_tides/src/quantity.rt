@@ -1,0 +1,14 @@
+//! What the values of a table are drawn from.
+
+ghost use Rattle.std.specs.Prelude.{◌+◌, ◌<◌, ◌≤◌, ◌^◌};
+
+/// Numbers from `least` on, as many as `bound`, over `10^places`.
+#[derive(Clone, Copy)]
+pub(crate) struct Quantity {
+    pub(crate) least: u32,
+    pub(crate) bound: u32,
+    pub(crate) places: u32,
+    ghost some: { 0 < bound },
+    ghost fits: { least + bound ≤ 2 ^ 32 },
+    ghost written: { places ≤ 6 },
+}
