@@ -1,0 +1,245 @@
+-- How the pieces ahead of a search change, and what they always have.
+use Rattle.std.proofs.Common.{◌≡◌, ℕ, suc, ◌+◌, ◌-◌, ◌*◌, ◌/◌, ◌^◌, ◌≤◌, ◌<◌, min, ℤ, pos, ◌+ℤ◌, ◌≤ℤ◌, ◌<ℤ◌, false, List, [], ◌∷◌, ◌++◌, length, length-append, refl, sym, ap, arith, append_assoc, nat_le}
+use Rattle.std.proofs.lemmas.Int.{ints}
+use Rattle.std.proofs.lemmas.Bool.Decides.{nat_tests}
+use Rattle.std.proofs.lemmas.Nat.{pow_pos}
+use Rattle.std.proofs.lemmas.List.{append-nil}
+use Rattle.std.proofs.Math.Nat.{mul-le-mul_left, mul-le-mul_right, pow-le-pow_right, pow-suc}
+use Rattle.curve_law.specs.declared.cell.Cell.{Cell}
+use Rattle.curve_law.specs.Meaning.{Meaning, IsLawful}
+use Rattle.curve_law.specs.Cells.{minutes_of, all_minutes}
+use Rattle.curve_law.specs.Cover.{is_quiet, unit_cell, split, cover}
+use Rattle.curve_law.proofs.CoverLemmas.{by_test, split-one, split-halves, cover-none, cover-last, cover-block}
+use Rattle.curve_law.proofs.AcceptedLemmas.{split-right, cover-right}
+use Rattle.curve_law.specs.declared.point.Point.{Point}
+use Rattle.interval_search.specs.Workings.Ahead.{minutes_to, IsPiece, cells_ahead, ArePieces, Stands}
+
+pub split-unit : (c : Meaning) (a : ℤ) (n : ℕ) (cell : Cell) → n ≡ 1 → cell ≡ unit_cell c.track a → split c a n ≡ cell ∷ []
+split-unit c a n cell one is = rw (one, is) (split-one c a)
+
+-- so many minutes on
+minutes_to-add : (a : ℤ) (n : ℕ) → minutes_to a (a +ℤ pos n) ≡ n
+minutes_to-add a n = omega (arith, ints)
+
+-- a block begun gives the same cells
+last-cells : (c : Meaning) (end a b : ℤ) → a <ℤ end → minutes_to a end ≤ 1024 → b ≡ end → split c a (minutes_to a b) ++ cover c b (minutes_to b end) ≡ cover c a (minutes_to a end)
+last-cells c end a b some few is =
+    let none : minutes_to end end ≡ 0 = omega (arith, ints) in
+    rw (is, none, cover-none c end, append-nil) (sym (cover-last c a (minutes_to a end) few))
+
+more-cells : (c : Meaning) (end a b : ℤ) → a <ℤ end → 1024 < minutes_to a end → b ≡ a +ℤ pos 1024 → split c a (minutes_to a b) ++ cover c b (minutes_to b end) ≡ cover c a (minutes_to a end)
+more-cells c end a b some many is =
+    let block : minutes_to a (a +ℤ pos 1024) ≡ 1024 = omega (arith, ints) in
+    let rest : minutes_to (a +ℤ pos 1024) end ≡ minutes_to a end - 1024 = omega (arith, ints) in
+    rw (is, block, rest) (sym (cover-block c a (minutes_to a end) many))
+
+block-cells : (c : Meaning) (end a b : ℤ) → a <ℤ end → b ≡ a +ℤ pos (min (minutes_to a end) 1024) → split c a (minutes_to a b) ++ cover c b (minutes_to b end) ≡ cover c a (minutes_to a end)
+block-cells c end a b some is = by_test (nat_le (minutes_to a end) 1024)
+    (λ last. let few : minutes_to a end ≤ 1024 = grind (arith, nat_tests) in last-cells c end a b some few (omega (arith, ints)))
+    (λ more. let many : 1024 < minutes_to a end = grind (arith, nat_tests) in more-cells c end a b some many (omega (arith, ints)))
+
+pub begun-cells : (c : Meaning) (end a : ℤ) (p : Point) → a <ℤ end → p.minute ≡ a +ℤ pos (min (minutes_to a end) 1024) → cells_ahead c end a (p ∷ []) ≡ cells_ahead c end a []
+unfolding cells_ahead
+begun-cells c end a p some is = block-cells c end a p.minute some is
+
+pub begun-pieces : (c : Meaning) (end a : ℤ) (p : Point) → a <ℤ end → p.minute ≡ a +ℤ pos (min (minutes_to a end) 1024) → p.value ≡ c.track.value p.minute → ArePieces c end a (p ∷ [])
+unfolding ArePieces
+begun-pieces c end a p some is value = (omega (arith, ints), omega (arith, ints), value, omega (arith, ints))
+
+pub begun-stands : (c : Meaning) (count : ℕ) (end : ℤ) (at p : Point) → at.minute <ℤ end → p.minute ≡ at.minute +ℤ pos (min (minutes_to at.minute end) 1024) → p.value ≡ c.track.value p.minute → Stands c count end at [] → Stands c (count + 1) end at (p ∷ [])
+begun-stands c count end at p some is value stands =
+    let few = stands.few in
+    let same = ap length (begun-cells c end at.minute p some is) in
+    record {
+      value = stands.value;
+      first = stands.first;
+      last = stands.last;
+      pieces = begun-pieces c end at.minute p some is value;
+      few = omega arith;
+    }
+
+-- the same as a call tells it
+pub begun-at : (c : Meaning) (count more : ℕ) (end : ℤ) (at : Point) (b : ℤ) (p : Point) (old new : List Point) → at.minute <ℤ end → b ≡ at.minute +ℤ pos (min (minutes_to at.minute end) 1024) → p ≡ record { minute = b; value = c.track.value b } → more ≡ count + 1 → old ≡ [] → new ≡ [] → Stands c count end at old → Stands c more end at (p ∷ new) × (cells_ahead c end at.minute (p ∷ new) ≡ cells_ahead c end at.minute old)
+begun-at c count more end at b p old new some is point counted empty none stands =
+    let q : Point = record { minute = b; value = c.track.value b } in
+    let begun = begun-stands c count end at q some is refl (rw empty at stands) in
+    let cells = begun-cells c end at.minute q some is in
+    (rw (point, counted, none) begun, rw (point, empty, none) cells)
+
+-- the nearest piece, and what is halved of it
+piece-parts : (c : Meaning) (end a : ℤ) (p : Point) (ps : List Point) → ArePieces c end a (p ∷ ps) → (a <ℤ p.minute) × (minutes_to a p.minute * 2 ^ length ps ≤ 1024) × (p.value ≡ c.track.value p.minute) × ArePieces c end p.minute ps
+unfolding ArePieces
+piece-parts c end a p ps pieces = pieces
+
+pieces-end : (c : Meaning) (end a : ℤ) (ps : List Point) → ArePieces c end a ps → a ≤ℤ end
+unfolding ArePieces
+pieces-end c end a [] pieces = pieces
+pieces-end c end a (p ∷ ps) pieces =
+    let some = pieces.0 in
+    let rest = pieces-end c end p.minute ps pieces.3 in
+    omega (arith, ints)
+
+-- a power is at least 1
+one_or_more : (k n : ℕ) → n * 2 ^ k ≤ 1024 → n ≤ 1024
+one_or_more k n few = let p = pow_pos k in let q = mul-le-mul_left n p in omega (arith, q)
+
+-- what lies ahead of a point to the nearest one
+pub nearest-piece : (c : Meaning) (count : ℕ) (end : ℤ) (at p : Point) (ps : List Point) → Stands c count end at (p ∷ ps) → IsPiece c at p
+nearest-piece c count end at p ps stands =
+    let parts = piece-parts c end at.minute p ps stands.pieces in
+    let few = one_or_more (length ps) (minutes_to at.minute p.minute) parts.1 in
+    let some = parts.0 in
+    let rest = pieces-end c end p.minute ps parts.3 in
+    let last = stands.last in
+    record {
+      first = stands.first;
+      last = omega (arith, ints);
+      some = some;
+      few = omega (arith, ints);
+      value = stands.value;
+      end_value = parts.2;
+    }
+
+-- few enough points wait for one more
+pub waiting-few : (c : Meaning) (end a : ℤ) (p : Point) (ps : List Point) → ArePieces c end a (p ∷ ps) → length ps < 16
+waiting-few c end a p ps pieces =
+    let parts = piece-parts c end a p ps pieces in
+    let some = parts.0 in
+    let few = parts.1 in
+    by_test (nat_le 16 (length ps))
+    (λ many.
+    let more : 16 ≤ length ps = grind (arith, nat_tests) in
+    let power : 2 ^ 16 ≤ 2 ^ length ps = pow-le-pow_right {n = 2} (omega arith) {i = 16} {j = length ps} more in
+    let n : 1 ≤ minutes_to a p.minute = omega (arith, ints) in
+    let all = mul-le-mul_right (2 ^ length ps) n in
+    absurd (omega (arith, all)))
+    (λ less. grind (arith, nat_tests))
+
+-- few enough values were asked for one more
+pub asked-few : (c : Meaning) (count : ℕ) (end : ℤ) (at p : Point) (ps : List Point) → Stands c count end at (p ∷ ps) → count < 2 ^ 63
+asked-few c count end at p ps stands =
+    let few = stands.few in
+    let waiting = waiting-few c end at.minute p ps stands.pieces in
+    omega arith
+
+-- halves instead of their whole
+halved-cells : (c : Meaning) (end a m b : ℤ) (rest : List Cell) → a <ℤ b → 2 ≤ minutes_to a b → is_quiet c a (minutes_to a b) ≡ false → m ≡ a +ℤ pos (minutes_to a b / 2) → split c a (minutes_to a m) ++ (split c m (minutes_to m b) ++ rest) ≡ split c a (minutes_to a b) ++ rest
+halved-cells c end a m b rest some two loud is =
+    let first : minutes_to a m ≡ minutes_to a b / 2 = omega (arith, ints) in
+    let second : minutes_to m b ≡ minutes_to a b - minutes_to a b / 2 = omega (arith, ints) in
+    rw (first, second, is, split-halves c a (minutes_to a b) two loud) (sym (append_assoc (split c a (minutes_to a b / 2)) (split c (a +ℤ pos (minutes_to a b / 2)) (minutes_to a b - minutes_to a b / 2)) rest))
+
+pub middle-cells : (c : Meaning) (end a : ℤ) (m p : Point) (ps : List Point) → a <ℤ p.minute → 2 ≤ minutes_to a p.minute → is_quiet c a (minutes_to a p.minute) ≡ false → m.minute ≡ a +ℤ pos (minutes_to a p.minute / 2) → cells_ahead c end a (m ∷ p ∷ ps) ≡ cells_ahead c end a (p ∷ ps)
+unfolding cells_ahead
+middle-cells c end a m p ps some two loud is = halved-cells c end a m.minute p.minute (cells_ahead c end p.minute ps) some two loud is
+
+-- a half that is halved once more
+half_few : (n k : ℕ) → n * 2 ^ k ≤ 1024 → (n / 2) * 2 ^ suc k ≤ 1024
+half_few n k few =
+    let half : n / 2 * 2 ≤ n = omega arith in
+    let less = mul-le-mul_right (2 ^ k) half in
+    omega (arith, pow-suc 2 k, ap (λ p. n / 2 * p) (pow-suc 2 k), less)
+
+rest_few : (n k : ℕ) → n * 2 ^ k ≤ 1024 → (n - n / 2) * 2 ^ k ≤ 1024
+rest_few n k few = let less = mul-le-mul_right (2 ^ k) (le-sub n (n / 2)) in omega (arith, less)
+  where
+    le-sub : (a b : ℕ) → a - b ≤ a
+    le-sub a b = omega arith
+
+pub middle-pieces : (c : Meaning) (end a : ℤ) (m p : Point) (ps : List Point) → ArePieces c end a (p ∷ ps) → 2 ≤ minutes_to a p.minute → m.minute ≡ a +ℤ pos (minutes_to a p.minute / 2) → m.value ≡ c.track.value m.minute → ArePieces c end a (m ∷ p ∷ ps)
+unfolding ArePieces
+middle-pieces c end a m p ps pieces two is value =
+    let some = pieces.0 in
+    let first : minutes_to a m.minute ≡ minutes_to a p.minute / 2 = omega (arith, ints) in
+    let second : minutes_to m.minute p.minute ≡ minutes_to a p.minute - minutes_to a p.minute / 2 = omega (arith, ints) in
+    (omega (arith, ints), rw first (half_few (minutes_to a p.minute) (length ps) pieces.1), value, (omega (arith, ints), rw second (rest_few (minutes_to a p.minute) (length ps) pieces.1), pieces.2, pieces.3))
+
+pub middle-stands : (c : Meaning) (count : ℕ) (end : ℤ) (at m p : Point) (ps : List Point) → Stands c count end at (p ∷ ps) → 2 ≤ minutes_to at.minute p.minute → is_quiet c at.minute (minutes_to at.minute p.minute) ≡ false → m.minute ≡ at.minute +ℤ pos (minutes_to at.minute p.minute / 2) → m.value ≡ c.track.value m.minute → Stands c (count + 1) end at (m ∷ p ∷ ps)
+middle-stands c count end at m p ps stands two loud is value =
+    let few = stands.few in
+    let some = (piece-parts c end at.minute p ps stands.pieces).0 in
+    let same = ap length (middle-cells c end at.minute m p ps some two loud is) in
+    record {
+      value = stands.value;
+      first = stands.first;
+      last = stands.last;
+      pieces = middle-pieces c end at.minute m p ps stands.pieces two is value;
+      few = omega arith;
+    }
+
+-- a search that begins
+pub first-stands : (c : Meaning) (count more : ℕ) (begin end : ℤ) (p : Point) (ps : List Point) → IsLawful c → begin ≤ℤ end → c.first ≤ℤ begin → end ≤ℤ c.last → count ≤ 2 ^ 62 → more ≡ count + 1 → p ≡ record { minute = begin; value = c.track.value begin } → ps ≡ [] → Stands c more end p ps × (cells_ahead c end p.minute ps ≡ cover c begin (minutes_to begin end))
+unfolding cells_ahead ArePieces
+first-stands c count more begin end p ps lawful forward first last few counted is none =
+    let cells = (cover-right c begin (minutes_to begin end)).few in
+    let early = lawful.early in
+    let late = lawful.late in
+    rw (is, none, counted) (record { value = refl; first = first; last = last; pieces = forward; few = omega (arith, ints) }, refl)
+
+-- a search that is done
+pub done-cells : (c : Meaning) (end a : ℤ) (ps : List Point) → ArePieces c end a ps → a ≡ end → cells_ahead c end a ps ≡ []
+unfolding cells_ahead ArePieces
+done-cells c end a [] pieces done =
+    let none : minutes_to end end ≡ 0 = omega (arith, ints) in rw (done, none) (cover-none c end)
+done-cells c end a (p ∷ ps) pieces done =
+    let some = pieces.0 in
+    let rest = pieces-end c end p.minute ps pieces.3 in
+    absurd (omega (arith, ints))
+
+pub before-end : (c : Meaning) (end a : ℤ) (ps : List Point) → ArePieces c end a ps → (a ≡ end → ⊥) → a <ℤ end
+before-end c end a ps pieces other =
+    let forward = pieces-end c end a ps pieces in
+    grind (arith, ints)
+
+-- the minutes of the one cell of a piece
+cell-minutes : (c : Meaning) (a b : ℤ) (cell : Cell) → a <ℤ b → split c a (minutes_to a b) ≡ cell ∷ [] → b ≡ a +ℤ pos (minutes_of cell)
+unfolding all_minutes
+cell-minutes c a b cell some one =
+    let whole = (split-right c a (minutes_to a b) (omega (arith, ints))).whole in
+    let same = rw one at whole in
+    omega (arith, ints)
+
+-- a cell is given
+pub given-cells : (c : Meaning) (end a : ℤ) (p : Point) (ps : List Point) (cell : Cell) → split c a (minutes_to a p.minute) ≡ cell ∷ [] → cells_ahead c end a (p ∷ ps) ≡ cell ∷ cells_ahead c end p.minute ps
+unfolding cells_ahead
+given-cells c end a p ps cell one = rw one refl
+
+pub given-onward : (c : Meaning) (count : ℕ) (end : ℤ) (at p : Point) (ps : List Point) (cell : Cell) → Stands c count end at (p ∷ ps) → split c at.minute (minutes_to at.minute p.minute) ≡ cell ∷ [] → p.minute ≡ at.minute +ℤ pos (minutes_of cell)
+given-onward c count end at p ps cell stands one =
+    cell-minutes c at.minute p.minute cell (piece-parts c end at.minute p ps stands.pieces).0 one
+
+pub given-stands : (c : Meaning) (count : ℕ) (end : ℤ) (at p : Point) (ps : List Point) (cell : Cell) → Stands c count end at (p ∷ ps) → split c at.minute (minutes_to at.minute p.minute) ≡ cell ∷ [] → Stands c count end p ps
+given-stands c count end at p ps cell stands one =
+    let parts = piece-parts c end at.minute p ps stands.pieces in
+    let some = parts.0 in
+    let first = stands.first in
+    let few = stands.few in
+    let same = ap length (given-cells c end at.minute p ps cell one) in
+    record {
+      value = parts.2;
+      first = omega (arith, ints);
+      last = stands.last;
+      pieces = parts.3;
+      few = omega arith;
+    }
+
+some-cells : (cells : List Cell) (n : ℕ) → 1 ≤ n → all_minutes cells ≡ n → 1 ≤ length cells
+unfolding all_minutes
+some-cells [] n some whole = absurd (omega arith)
+some-cells (cell ∷ cells) n some whole = omega arith
+
+-- each piece has a cell of its own
+pub points-few : (c : Meaning) (end a : ℤ) (ps : List Point) → ArePieces c end a ps → length ps ≤ length (cells_ahead c end a ps)
+unfolding cells_ahead ArePieces
+points-few c end a [] pieces = omega arith
+points-few c end a (p ∷ ps) pieces =
+    let some = pieces.0 in
+    let minutes : 1 ≤ minutes_to a p.minute = omega (arith, ints) in
+    let one = some-cells (split c a (minutes_to a p.minute)) (minutes_to a p.minute) minutes (split-right c a (minutes_to a p.minute) minutes).whole in
+    let rest = points-few c end p.minute ps pieces.3 in
+    omega (arith, length-append (split c a (minutes_to a p.minute)) (cells_ahead c end p.minute ps))
+
+-- no more values were asked for than in the end
+pub asked-most : (c : Meaning) (more most all : ℕ) (end : ℤ) (at : Point) (ps : List Point) → Stands c more end at ps → (more + length (cells_ahead c end at.minute ps)) - length ps ≡ most → most ≡ all → more ≤ all
+asked-most c more most all end at ps stands is same =
+    let few = points-few c end at.minute ps stands.pieces in omega arith

@@ -1,0 +1,57 @@
+-- The pieces that a search has ahead of it. No public clause cites this.
+use Rattle.std.specs.Prelude.{◌≡◌, ℕ, ◌+◌, ◌-◌, ◌*◌, ◌^◌, ◌≤◌, ℤ, pos, ◌+ℤ◌, ◌-ℤ◌, ◌≤ℤ◌, ◌<ℤ◌, unsigned_abs, false, List, [], ◌∷◌, ◌++◌, length, Option, Some, None}
+use Rattle.curve_law.specs.declared.cell.Cell.{Cell}
+use Rattle.curve_law.specs.Meaning.{Meaning}
+use Rattle.curve_law.specs.Cover.{is_quiet, split, cover}
+use Rattle.interval_search.specs.declared.front.Front.{Front}
+use Rattle.curve_law.specs.declared.point.Point.{Point}
+use Rattle.interval_search.specs.Looking.{Looking}
+
+abbrev pub minutes_to : ℤ → ℤ → ℕ
+minutes_to a b = unsigned_abs (b -ℤ a)
+
+-- the points of a curve that begin and end a piece of at most 1,024 minutes
+pub record IsPiece (c : Meaning) (begin end : Point) : Type 0 where
+  pub first : c.first ≤ℤ begin.minute
+  pub last : end.minute ≤ℤ c.last
+  pub some : begin.minute <ℤ end.minute
+  pub few : end.minute ≤ℤ (begin.minute +ℤ pos 1024)
+  pub value : begin.value ≡ c.track.value begin.minute
+  pub end_value : end.value ≡ c.track.value end.minute
+
+-- the one cell of so many minutes, or none where they are to be halved
+abbrev pub IsSplit : Meaning → ℤ → ℕ → Option Cell → Type 0
+IsSplit c a n None = (2 ≤ n) × (is_quiet c a n ≡ false)
+IsSplit c a n (Some cell) = split c a n ≡ cell ∷ []
+
+-- the cells from a minute on: of the pieces up to each of these points, and then of the rest up to the end
+unfoldable pub cells_ahead : Meaning → ℤ → ℤ → List Point → List Cell
+cells_ahead c end a [] = cover c a (minutes_to a end)
+cells_ahead c end a (p ∷ ps) = split c a (minutes_to a p.minute) ++ cells_ahead c end p.minute ps
+
+-- the points are those of the curve, and each piece was halved once more than the next one
+unfoldable pub ArePieces : Meaning → ℤ → ℤ → List Point → Type 0
+ArePieces c end a [] = a ≤ℤ end
+ArePieces c end a (p ∷ ps) =
+    (a <ℤ p.minute) × (minutes_to a p.minute * 2 ^ length ps ≤ 1024) × (p.value ≡ c.track.value p.minute) × ArePieces c end p.minute ps
+
+-- the values that are asked for until all cells are given, and one more for each point that is ahead
+abbrev pub IsFew : ℕ → ℕ → ℕ → Type 0
+IsFew count cells points = count + cells ≤ points + (2 ^ 62 + 2 ^ 61 + 1)
+
+-- how far a search has come: to a point, with the ends of the pieces ahead, the nearest one first
+pub record Stands (c : Meaning) (count : ℕ) (end : ℤ) (at : Point) (ahead : List Point) : Type 0 where
+  pub value : at.value ≡ c.track.value at.minute
+  pub first : c.first ≤ℤ at.minute
+  pub last : end ≤ℤ c.last
+  pub pieces : ArePieces c end at.minute ahead
+  pub few : IsFew count (length (cells_ahead c end at.minute ahead)) (length ahead)
+
+-- what a search with a curve of this meaning and count, which has come this far, is seen as
+abbrev pub looking_at : {C : Type 0} → C → Meaning → ℕ → Front → Looking C
+looking_at curve meaning count front = record {
+  curve = curve;
+  at = front.at.minute;
+  left = cells_ahead meaning front.end front.at.minute front.waiting;
+  most = (count + length (cells_ahead meaning front.end front.at.minute front.waiting)) - length front.waiting;
+}

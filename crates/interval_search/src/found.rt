@@ -1,0 +1,11 @@
+//! A cell and its place.
+
+use curve_law::Cell;
+
+/// A cell that a search has found.
+#[derive(Clone, Copy, Debug, PartialEq, Eq)]
+pub struct Found {
+    /// The minute at which the cell begins, since 1970-01-01T00:00Z.
+    pub at: i64,
+    pub cell: Cell,
+}

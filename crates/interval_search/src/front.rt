@@ -1,0 +1,113 @@
+//! How far a search has come.
+
+ghost use Rattle.std.specs.Prelude.{◌≡◌, ◌+◌, ◌-◌, ◌^◌, ◌<◌, ◌≤◌, ℤ, pos, ◌+ℤ◌, ◌-ℤ◌, ◌≤ℤ◌, ◌<ℤ◌, unsigned_abs, List, [], ◌∷◌, length};
+ghost use Rattle.curve_law.specs.Cover.{split, cover};
+ghost use Rattle.interval_search.specs.Looking.{StepsOn};
+ghost use Rattle.interval_search.specs.Workings.Ahead.{minutes_to, cells_ahead, Stands, looking_at};
+
+use crate::found::Found;
+use crate::piece::{block_end, cell_between, middle};
+use crate::waiting::Waiting;
+use curve_law::{Cell, Curve, Point, point_at};
+
+/// A cell, and the point where it ends.
+#[derive(Clone, Copy, Debug)]
+pub struct Step {
+    pub end: Point,
+    pub cell: Cell,
+}
+
+/// The end of the nearest piece, which is taken off, or else of the next block.
+fn nearest_end<C: Curve>(curve: &mut C, waiting: &mut Waiting, at: Point, end: i64) -> Point
+    requires stands { Stands (C.meaning curve.old) (C.count curve.old) end at waiting.old }
+    requires onward { at.minute <ℤ end }
+    ensures same { C.meaning curve.new ≡ C.meaning curve.old }
+    ensures stands { Stands (C.meaning curve.old) (C.count curve.new) end at (result ∷ waiting.new) }
+    ensures cells { cells_ahead (C.meaning curve.old) end at.minute (result ∷ waiting.new)
+        ≡ cells_ahead (C.meaning curve.old) end at.minute waiting.old }
+    ensures count { C.count curve.new + length waiting.old ≡ C.count curve.old + length waiting.new + 1 }
+{
+    match waiting.pop() {
+        Some(point) => point,
+        None => point_at(curve, block_end(at.minute, end)),
+    }
+}
+
+/// The first cell of the nearest piece, which is halved until it is one.
+fn nearest_step<C: Curve>(
+    curve: &mut C,
+    waiting: &mut Waiting,
+    at: Point,
+    near: Point,
+    end: i64,
+) -> Step
+    requires stands { Stands (C.meaning curve.old) (C.count curve.old) end at (near ∷ waiting.old) }
+    ensures same { C.meaning curve.new ≡ C.meaning curve.old }
+    ensures stands { Stands (C.meaning curve.old) (C.count curve.new) end at (result.end ∷ waiting.new) }
+    ensures cell { split (C.meaning curve.old) at.minute (minutes_to at.minute result.end.minute) ≡ result.cell ∷ [] }
+    ensures cells { cells_ahead (C.meaning curve.old) end at.minute (result.end ∷ waiting.new)
+        ≡ cells_ahead (C.meaning curve.old) end at.minute (near ∷ waiting.old) }
+    ensures count { C.count curve.new + length waiting.old ≡ C.count curve.old + length waiting.new }
+{
+    let mut near = near;
+    loop {
+        if let Some(cell) = cell_between(curve, at, near) {
+            return Step { end: near, cell };
+        }
+        waiting.push(near);
+        near = middle(curve, at, near);
+    }
+}
+
+/// How far a search over a span has come: to a point, with the ends of the pieces ahead of it at which
+/// the values are known, the nearest one first, and on to the span's end.
+#[derive(Debug, Drop)]
+pub struct Front {
+    pub at: Point,
+    pub waiting: Waiting,
+    pub end: i64,
+}
+
+/// The front of a search that begins.
+pub fn front_at<C: Curve>(curve: &mut C, begin: i64, end: i64) -> Front
+    requires forward { begin ≤ℤ end }
+    requires first { (C.meaning curve.old).first ≤ℤ begin }
+    requires last { end ≤ℤ (C.meaning curve.old).last }
+    requires few { C.count curve.old ≤ 2 ^ 62 }
+    ensures same { C.meaning curve.new ≡ C.meaning curve.old }
+    ensures counted { C.count curve.new ≡ C.count curve.old + 1 }
+    ensures at { result.at.minute ≡ begin }
+    ensures stands { Stands (C.meaning curve.old) (C.count curve.new) result.end result.at result.waiting }
+    ensures cells { cells_ahead (C.meaning curve.old) result.end result.at.minute result.waiting
+        ≡ cover (C.meaning curve.old) begin (minutes_to begin end) }
+    ensures none { result.waiting ≡ [] }
+{
+    Front {
+        at: point_at(curve, begin),
+        waiting: Waiting::new(),
+        end,
+    }
+}
+
+/// The next cell, and where it begins. None is left where the front is at the end.
+pub fn next_found<C: Curve>(curve: &mut C, front: &mut Front) -> Option<Found>
+    requires { Stands (C.meaning curve.old) (C.count curve.old) front.old.end front.old.at front.old.waiting }
+    ensures same { C.meaning curve.new ≡ C.meaning curve.old }
+    ensures stands { Stands (C.meaning curve.old) (C.count curve.new) front.new.end front.new.at front.new.waiting }
+    ensures found { StepsOn (looking_at curve.old (C.meaning curve.old) (C.count curve.old) front.old) result
+        (looking_at curve.new (C.meaning curve.old) (C.count curve.new) front.new) }
+    ensures most { (looking_at curve.new (C.meaning curve.old) (C.count curve.new) front.new).most
+        ≡ (looking_at curve.old (C.meaning curve.old) (C.count curve.old) front.old).most }
+{
+    let Front { at, end, .. } = *front;
+    if at.minute == end {
+        return None;
+    }
+    let near = nearest_end(curve, &mut front.waiting, at, end);
+    let step = nearest_step(curve, &mut front.waiting, at, near, end);
+    front.at = step.end;
+    Some(Found {
+        at: at.minute,
+        cell: step.cell,
+    })
+}

@@ -1,0 +1,67 @@
+//! A search in steps.
+
+ghost use Rattle.std.specs.Prelude.{◌≡◌, ◌+◌, ◌^◌, ◌≤◌, ◌-ℤ◌, ◌≤ℤ◌, length, unsigned_abs};
+ghost use Rattle.curve_law.specs.Cover.{cover};
+ghost use Rattle.interval_search.specs.Looking.{StepsOn};
+
+use crate::found::Found;
+use crate::front::{Front, front_at, next_found};
+use curve_law::Curve;
+use std::marker::Model;
+
+/// A search for the cells of a span, one after the other. It owns its curve and takes no memory.
+///
+/// Contracts see the curve, the minute that the search has come to, the cells that are left from
+/// there on, and the most values that the curve will have been asked for in the end.
+#[derive(Drop)]
+pub struct Search<C: Curve> {
+    curve: C,
+    front: Front,
+}
+
+impl<C: Curve> Model for Search<C> {
+    ghost use Rattle.interval_search.specs.Looking.{Looking};
+    ghost use Rattle.interval_search.specs.Workings.Ahead.{looking_at, Stands};
+
+    ghost Value = { Looking C };
+
+    ghost view = { λ s. looking_at s.curve (C.meaning s.curve) (C.count s.curve) s.front };
+
+    ghost invariant = { λ s. Stands (C.meaning s.curve) (C.count s.curve) s.front.end s.front.at s.front.waiting };
+}
+
+impl<C: Curve> Search<C> {
+    /// A search over the minutes from `begin` on and before `end`, which the curve tells. The curve was
+    /// asked for at most 2^62 values.
+    pub fn new(curve: C, begin: i64, end: i64) -> Search<C>
+        requires forward { begin ≤ℤ end }
+        requires first { (C.meaning curve).first ≤ℤ begin }
+        requires last { end ≤ℤ (C.meaning curve).last }
+        requires few { C.count curve ≤ 2 ^ 62 }
+        ensures same { C.meaning result.curve ≡ C.meaning curve }
+        ensures at { result.at ≡ begin }
+        ensures left { result.left ≡ cover (C.meaning curve) begin (unsigned_abs (end -ℤ begin)) }
+        ensures most { result.most ≡ C.count curve + length result.left + 1 }
+    {
+        let mut curve = curve;
+        let front = front_at(&mut curve, begin, end);
+        Search { curve, front }
+    }
+
+    /// The next cell, and the minute at which it begins; none where no cell is left.
+    pub fn next(&mut self) -> Option<Found>
+        ensures found { StepsOn self.old result self.new }
+        ensures same { C.meaning self.new.curve ≡ C.meaning self.old.curve }
+        ensures most { self.new.most ≡ self.old.most }
+    {
+        next_found(&mut self.curve, &mut self.front)
+    }
+
+    /// How many values the curve was asked for.
+    pub fn evaluations(&self) -> u64
+        ensures count { result ≡ C.count self.now.curve }
+        ensures most { result ≤ self.now.most }
+    {
+        self.curve.evaluations()
+    }
+}

@@ -1,0 +1,33 @@
+//! The cells of a span at once.
+
+ghost use Rattle.std.specs.Prelude.{◌≡◌, ◌+◌, ◌^◌, ◌≤◌, ◌-ℤ◌, ◌≤ℤ◌, length, unsigned_abs, IfOk};
+ghost use Rattle.curve_law.specs.Cover.{cover};
+
+use crate::front::{front_at, next_found};
+use curve_law::{Cells, Curve};
+use std::alloc::{AllocError, Global};
+
+/// The cells of the minutes from `begin` on and before `end`, which the curve tells. The curve was
+/// asked for at most 2^62 values, and is asked for at most one a cell and one more.
+pub fn search<C: Curve>(
+    alloc: Global,
+    curve: &mut C,
+    begin: i64,
+    end: i64,
+) -> Result<Cells, AllocError>
+    requires forward { begin ≤ℤ end }
+    requires first { (C.meaning curve.old).first ≤ℤ begin }
+    requires last { end ≤ℤ (C.meaning curve.old).last }
+    requires few { C.count curve.old ≤ 2 ^ 62 }
+    ensures cells { IfOk result (λ cells. cells ≡ cover (C.meaning curve.old) begin (unsigned_abs (end -ℤ begin))) }
+    ensures count { C.count curve.new
+        ≤ C.count curve.old + length (cover (C.meaning curve.old) begin (unsigned_abs (end -ℤ begin))) + 1 }
+    ensures same { C.meaning curve.new ≡ C.meaning curve.old }
+{
+    let mut front = front_at(curve, begin, end);
+    let mut cells = Vec::new(alloc);
+    while let Some(found) = next_found(curve, &mut front) {
+        cells.push(found.cell)?;
+    }
+    Ok(Cells::from_vec(cells))
+}

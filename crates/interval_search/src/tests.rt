@@ -1,0 +1,105 @@
+ghost use Rattle.std.specs.Prelude.{◌≡◌, ◌≤ℤ◌, IsTrue};
+
+use super::*;
+use curve_law::samples::{Line, Ripple};
+use curve_law::{Cell, Curve, Kind};
+use std::alloc::Global;
+
+// Whether a search that begins with no value asked may be made.
+fn can_search<C: Curve>(curve: &C, begin: i64, end: i64) -> bool
+    ensures { IsTrue result → (begin ≤ℤ end) × ((C.meaning curve.now).first ≤ℤ begin) × (end ≤ℤ (C.meaning curve.now).last) × (C.count curve.now ≡ 0) }
+{
+    begin <= end && curve.first() <= begin && end <= curve.last() && curve.evaluations() == 0
+}
+
+// Whether the search gives these cells, and asks for no more than one value a cell and one more.
+fn has_cells<C: Curve + Drop>(
+    alloc: Global,
+    curve: C,
+    begin: i64,
+    end: i64,
+    wanted: &[Cell],
+) -> bool {
+    let mut curve = curve;
+    if !can_search(&curve, begin, end) {
+        return false;
+    }
+    match search(alloc, &mut curve, begin, end) {
+        Ok(cells) => cells.as_slice() == wanted && curve.evaluations() as usize <= wanted.len() + 1,
+        Err(_) => false,
+    }
+}
+
+// Whether a search in steps gives these, and nothing after them.
+fn has_steps<C: Curve + Drop>(curve: C, begin: i64, end: i64, wanted: &[Found]) -> bool {
+    if !can_search(&curve, begin, end) {
+        return false;
+    }
+    let mut search = Search::new(curve, begin, end);
+    for found in wanted {
+        if search.next() != Some(*found) {
+            return false;
+        }
+    }
+    let asked = search.evaluations() as usize;
+    search.next().is_none() && search.next().is_none() && asked <= wanted.len() + 1
+}
+
+#[test]
+fn spans_have_their_cells(rt: HostRuntime) {
+    let alloc = rt.alloc();
+    let above = [Cell::Still, Cell::Still, Cell::Quiet(2), Cell::Quiet(4)];
+    assert!(rt; has_cells(alloc, Line::new(1, false, 3), 0, 8, &above));
+    let rising = [
+        Cell::Quiet(2),
+        Cell::Turn(Kind::Low, 2),
+        Cell::Still,
+        Cell::Quiet(4),
+    ];
+    assert!(rt; has_cells(alloc, Line::new(-2, false, 1), 0, 8, &rising));
+    let odd = [Cell::Still, Cell::Quiet(2)];
+    assert!(rt; has_cells(alloc, Line::new(2, false, 3), 0, 3, &odd));
+    let blocks = [Cell::Quiet(1024), Cell::Quiet(1024), Cell::Still];
+    assert!(rt; has_cells(alloc, Line::new(10_000, true, 1), -7, 2042, &blocks));
+    let turns = [
+        Cell::Turn(Kind::MarkFalling, 0),
+        Cell::Turn(Kind::MarkRising, 0),
+    ];
+    assert!(rt; has_cells(alloc, Ripple::new(), 4, 6, &turns));
+    assert!(rt; has_cells(alloc, Ripple::new(), 5, 5, &[]));
+}
+
+#[test]
+fn steps_give_the_same_cells(rt: HostRuntime) {
+    let rising = [
+        Found {
+            at: 0,
+            cell: Cell::Quiet(2),
+        },
+        Found {
+            at: 2,
+            cell: Cell::Turn(Kind::Low, 2),
+        },
+        Found {
+            at: 3,
+            cell: Cell::Still,
+        },
+        Found {
+            at: 4,
+            cell: Cell::Quiet(4),
+        },
+    ];
+    assert!(rt; has_steps(Line::new(-2, false, 1), 0, 8, &rising));
+    let turns = [
+        Found {
+            at: -1,
+            cell: Cell::Turn(Kind::MarkRising, 0),
+        },
+        Found {
+            at: 0,
+            cell: Cell::Turn(Kind::MarkFalling, 0),
+        },
+    ];
+    assert!(rt; has_steps(Ripple::new(), -1, 1, &turns));
+    assert!(rt; has_steps(Ripple::new(), 5, 5, &[]));
+}
