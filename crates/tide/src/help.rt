@@ -1,5 +1,8 @@
 //! What the program tells of itself.
 
+ghost use Rattle.std.specs.Prelude.{◌≡◌};
+ghost use Rattle.tide.specs.Pages.{page_of, page_text};
+
 use decimal_text::Words;
 
 const HELP: &str = "\
@@ -17,8 +20,8 @@ Usage: tide predict file=F station=S begin=A end=B
   begin    the first minute asked, in UTC, as 2025-06-01T00:00Z
   end      the minute before which the list ends
 
-The words stand in the order shown. An event is listed at the last minute before
-the slope of the level changes side, with the level at that minute.
+The pairs may stand in any order. An event is listed at the last minute before the
+slope of the level changes side, with the level at that minute.
 
 Example:
   ./tide predict file=examples/harbours.txt \\
@@ -33,11 +36,33 @@ NOT FOR NAVIGATION.
 
 const VERSION: &str = "tide 0.1.0\n";
 
-/// The page that the first word asks for, if it does.
-pub fn page(words: &Words) -> Option<&'static str> {
-    match words.as_slice().first()?.as_str() {
-        "-h" | "--help" => Some(HELP),
-        "-V" | "--version" => Some(VERSION),
+/// A page that the program tells of itself.
+#[derive(Clone, Copy, Debug, PartialEq, Eq)]
+pub enum Page {
+    Help,
+    Version,
+}
+
+impl Page {
+    pub fn text(self) -> &'static str
+        ensures { result.now ≡ page_text self }
+    {
+        match self {
+            Page::Help => HELP,
+            Page::Version => VERSION,
+        }
+    }
+}
+
+/// The page that the first word asks for: `-h` and `--help`, or `-V` and `--version`. No other words
+/// ask for one.
+pub fn page_asked(words: &Words) -> Option<Page>
+    ensures { result ≡ page_of words.now }
+{
+    let word = words.as_slice().first()?;
+    match word.as_str() {
+        "-h" | "--help" => Some(Page::Help),
+        "-V" | "--version" => Some(Page::Version),
         _ => None,
     }
 }

@@ -1,106 +1,110 @@
 -- How an answer follows from those of its steps.
-use Rattle.std.proofs.Common.{◌≡◌, ℕ, suc, ◌≤◌, Bool, List, length, Option, Some, None, Result, Ok, Err, refl, inl, inr, arith}
+use Rattle.std.proofs.Common.{◌≡◌, ℕ, suc, ◌≤◌, Bool, true, false, cond, List, length, Option, Some, None, Result, Ok, Err, refl, arith}
 use Rattle.std.specs.Prelude.{replicate}
 use Rattle.std.proofs.lemmas.Bool.{le-leb, lt-leb}
 use Rattle.std.proofs.lemmas.List.{length-replicate}
+use Rattle.decimal_text.specs.Expected.{◌>>=◌, Excused, Gives}
+use Rattle.question.specs.declared.question.Question.{Question}
+use Rattle.tide_answer.specs.declared.fault.Fault.{Fault}
+use Rattle.tide_answer.specs.declared.text.Answer.{Answer}
+use Rattle.tide_answer.specs.Faults.{wants_memory as fault_wants_memory}
 use Rattle.tide_edge.specs.declared.read_all_fault.ReadAllFault.{ReadAllFault}
 use Rattle.tide_edge.specs.declared.read_all_fault.ReadAllFault.TheVariants as reading
-use Rattle.tide_desk.specs.Faults.{fault_of_reading}
-use Rattle.harmonics_text.specs.declared.book.Book.{Book}
-use Rattle.harmonics_text.specs.declared.book.Station.{Station}
-use Rattle.harmonics_text.specs.declared.book.Units.{Units}
-use Rattle.station_curve.specs.Curves.{curve_of, Predicts}
-use Rattle.station_curve.specs.Waves.{Tide}
-use Rattle.tide_desk.specs.declared.fault.Fault.{Fault}
-use Rattle.harmonics_text.specs.Reading.{book_of}
-use Rattle.tide_edge.specs.Excuses.{Source, memory, outside, given, Excuses, Meets}
+use Rattle.tide_edge.specs.Excuses.{Source, memory, outside, given, is_outside, Excuses, Meets}
 use Rattle.tide_edge.specs.Whole.{whole}
-use Rattle.tide_desk.specs.declared.words.Asked.{Asked}
-use Rattle.tide_desk.specs.declared.words.Question.{Question}
-use Rattle.tide_desk.specs.Words.{asked_of, file_of}
-use Rattle.tide_desk.specs.Answers.{file_limit, bytes_from, book_from, text_for, answer_of, tide_unit, span_in, tide_from, listed_within, predicted_at}
-use Rattle.tide_desk.specs.Listings.{turn_track}
-use Rattle.tide_desk.specs.Stations.{IsSpan}
-use Rattle.tide_desk.specs.Steps.{◌>>=◌, source_of, Excused, Gives}
-use Rattle.tide_desk.proofs.SpanLemmas.{listing-predicts}
+use Rattle.tide_desk.specs.declared.no_answer.NoAnswer.{NoAnswer}
+use Rattle.tide_desk.specs.declared.no_answer.NoAnswer.TheVariants.{Unread, Told}
+use Rattle.tide_desk.specs.NoAnswers.{told, source_of, wants_memory}
+use Rattle.tide_desk.specs.Answers.{answer_of, asked_of, answered_from, bytes_from, fault_of_reading, file_limit, file_of}
 
--- the listing by a tide that predicts the station
-pub predicted_by_tide : (b : Book) (s : Station) (q : Question) (units : Units) (tide : Tide) (r : Result (List ℕ) Fault) → tide_unit s.units ≡ Ok units → units ≡ s.units → span_in b q.begin q.end ≡ Ok tt → tide_from (curve_of b s) ≡ Ok tide → Predicts b s tide → IsSpan b.first_year b.years q.begin q.end → Gives (listed_within q units (turn_track tide)) r → Gives (predicted_at b s q) r
-unfolding predicted_at listed_within
-predicted_by_tide b s q units tide r unit same span curve predicts inside listed =
-    let g = rw same at listed in
-    rw (unit, span, curve, ← listing-predicts b s tide q.station s.units q.begin q.end predicts inside) g
+-- what is told comes from no call on the outside
+inside : (memory_wanted : Bool) → is_outside (cond memory_wanted memory given) ≡ false
+inside true = refl
+inside false = refl
 
--- a fault of a step is that of all from it on
-excused_then : {A B : Type 0} (steady : Bool) (rose : Type 0) (step : Result A Fault) (next : A → Result B Fault) (fault : Fault) (source : Source) → Excused source step fault → Excuses source steady rose (step >>= next) fault
-excused_then steady rose step next fault memory excused = tt
-excused_then steady rose step next fault outside excused = λ _. inl (rw excused refl)
-excused_then steady rose step next fault given excused = rw excused refl
+pub told_inside : (fault : Fault) → is_outside (source_of (Told fault)) ≡ false
+told_inside fault = inside (fault_wants_memory fault)
 
-excuses_then : {A B : Type 0} (steady : Bool) (rose : Type 0) (step : Result A Fault) (next : A → Result B Fault) (fault : Fault) (source : Source) → Excuses source steady rose step fault → Excuses source steady rose (step >>= next) fault
-excuses_then steady rose step next fault memory excused = tt
-excuses_then steady rose step next fault outside excused = λ s. elim (excused s) [ inl e ↦ inl (rw e refl) | inr r ↦ inr r ]
-excuses_then steady rose step next fault given excused = rw excused refl
+-- a step of which no file is asked, and what follows it
+excuses_next : {A B : Type 0} (memory_wanted steady : Bool) (step : Result A Fault) (next : A → Result B NoAnswer) (fault : Fault) → Excused memory_wanted step fault → Excuses (cond memory_wanted memory given) steady (told step >>= next) (Told fault)
+excuses_next true steady step next fault excused = tt
+excuses_next false steady step next fault excused = rw excused refl
 
--- an answer of pure steps
-given_excuses : {A : Type 0} (steady : Bool) (rose : Type 0) (expected : Result A Fault) (fault : Fault) (source : Source) → Excused source expected fault → Excuses source steady rose expected fault
-given_excuses steady rose expected fault memory excused = tt
-given_excuses steady rose expected fault outside excused = λ _. inl excused
-given_excuses steady rose expected fault given excused = excused
+excused_next : {A B : Type 0} (memory_wanted : Bool) (step : Result A Fault) (next : A → Result B NoAnswer) (fault : Fault) → Excused memory_wanted step fault → Excused memory_wanted (told step >>= next) (Told fault)
+excused_next true step next fault excused = tt
+excused_next false step next fault excused = rw excused refl
 
-pub given_meets : {A : Type 0} (steady : Bool) (rose : Type 0) (expected result : Result A Fault) → Gives expected result → Meets source_of steady rose expected result
-given_meets steady rose expected (Ok value) gives = gives
-given_meets steady rose expected (Err fault) gives = given_excuses steady rose expected fault (source_of fault) gives
+excuses_last : {A : Type 0} (memory_wanted steady : Bool) (step : Result A Fault) (fault : Fault) → Excused memory_wanted step fault → Excuses (cond memory_wanted memory given) steady (told step) (Told fault)
+excuses_last true steady step fault excused = tt
+excuses_last false steady step fault excused = rw excused refl
+
+excused_last : {A : Type 0} (memory_wanted : Bool) (step : Result A Fault) (fault : Fault) → Excused memory_wanted step fault → Excused memory_wanted (told step) (Told fault)
+excused_last true step fault excused = tt
+excused_last false step fault excused = rw excused refl
+
+-- a step that reads, and what follows it
+read_next : {A B : Type 0} (source : Source) (steady : Bool) (step : Result A NoAnswer) (next : A → Result B NoAnswer) (none : NoAnswer) → Excuses source steady step none → Excuses source steady (step >>= next) none
+read_next memory steady step next none excused = tt
+read_next outside steady step next none excused = λ s. rw (excused s) refl
+read_next given steady step next none excused = rw excused refl
+
+read_on : {A B : Type 0} (memory_wanted : Bool) (step : Result A NoAnswer) (next : A → Result B NoAnswer) (none : NoAnswer) → Excused memory_wanted step none → Excused memory_wanted (step >>= next) none
+read_on true step next none excused = tt
+read_on false step next none excused = rw excused refl
 
 -- the answer where the words have a fault
-pub met_at_words : (steady : Bool) (folder : List ℕ → Option (List ℕ)) (words : List (List ℕ)) (fault : Fault) → Gives (asked_of words) (Err fault) → Excuses (source_of fault) steady ⊥ (answer_of folder words) fault
+pub met_at_words : (steady : Bool) (folder : List ℕ → Option (List ℕ)) (words : List (List ℕ)) (fault : Fault) → Gives fault_wants_memory (asked_of words) (Err fault) → Excuses (source_of (Told fault)) steady (answer_of folder words) (Told fault)
 unfolding answer_of
-met_at_words steady folder words fault gives = excused_then steady ⊥ (asked_of words) _ fault (source_of fault) gives
+met_at_words steady folder words fault gives = excuses_next (fault_wants_memory fault) steady (asked_of words) _ fault gives
 
--- where the file's reading has one
-pub met_at_bytes : (steady : Bool) (folder : List ℕ → Option (List ℕ)) (words : List (List ℕ)) (asked : Asked) (fault : Fault) → asked_of words ≡ Ok asked → Meets source_of steady ⊥ (bytes_from (whole file_limit (folder (file_of asked)))) (Err fault) → Excuses (source_of fault) steady ⊥ (answer_of folder words) fault
+pub some_at_words : (folder : List ℕ → Option (List ℕ)) (words : List (List ℕ)) (fault : Fault) → Gives fault_wants_memory (asked_of words) (Err fault) → Excused (wants_memory (Told fault)) (answer_of folder words) (Told fault)
 unfolding answer_of
-met_at_bytes steady folder words asked fault e met =
-    rw e (excuses_then steady ⊥ (bytes_from (whole file_limit (folder (file_of asked)))) _ fault (source_of fault) met)
+some_at_words folder words fault gives = excused_next (fault_wants_memory fault) (asked_of words) _ fault gives
 
--- where its form has one
-pub met_at_form : (steady : Bool) (folder : List ℕ → Option (List ℕ)) (words : List (List ℕ)) (asked : Asked) (bytes : List ℕ) (fault : Fault) → asked_of words ≡ Ok asked → bytes_from (whole file_limit (folder (file_of asked))) ≡ Ok bytes → Gives (book_from (book_of bytes)) (Err fault) → Excuses (source_of fault) steady ⊥ (answer_of folder words) fault
+-- where no file is named
+excused_by : {A : Type 0} (memory_wanted : Bool) (step : Result A Fault) (fault : Fault) → step ≡ Err fault → Excused memory_wanted step fault
+excused_by true step fault e = tt
+excused_by false step fault e = e
+
+pub met_at_name : (steady : Bool) (folder : List ℕ → Option (List ℕ)) (words : List (List ℕ)) (question : Question) (fault : Fault) → asked_of words ≡ Ok question → file_of question ≡ Err fault → Excuses (source_of (Told fault)) steady (answer_of folder words) (Told fault)
 unfolding answer_of
-met_at_form steady folder words asked bytes fault e f gives =
-    rw (e, f) (excused_then steady ⊥ (book_from (book_of bytes)) _ fault (source_of fault) gives)
+met_at_name steady folder words question fault asked missing =
+    rw asked (excuses_next (fault_wants_memory fault) steady (file_of question) _ fault (excused_by _ (file_of question) fault missing))
 
--- and where all of these are read
-pub met_by_text : (steady : Bool) (folder : List ℕ → Option (List ℕ)) (words : List (List ℕ)) (asked : Asked) (bytes : List ℕ) (book : Book) (result : Result (List ℕ) Fault) → asked_of words ≡ Ok asked → bytes_from (whole file_limit (folder (file_of asked))) ≡ Ok bytes → book_from (book_of bytes) ≡ Ok book → Gives (text_for book asked) result → Meets source_of steady ⊥ (answer_of folder words) result
+pub some_at_name : (folder : List ℕ → Option (List ℕ)) (words : List (List ℕ)) (question : Question) (fault : Fault) → asked_of words ≡ Ok question → file_of question ≡ Err fault → Excused (wants_memory (Told fault)) (answer_of folder words) (Told fault)
 unfolding answer_of
-met_by_text steady folder words asked bytes book result e f g gives =
-    rw (e, f, g) (given_meets steady ⊥ (text_for book asked) result gives)
+some_at_name folder words question fault asked missing =
+    rw asked (excused_next (fault_wants_memory fault) (file_of question) _ fault (excused_by _ (file_of question) fault missing))
 
--- The same over a folder that has what was read, whatever the files told.
-excused_on : {A B : Type 0} (step : Result A Fault) (next : A → Result B Fault) (fault : Fault) (source : Source) → Excused source step fault → Excused source (step >>= next) fault
-excused_on step next fault memory excused = tt
-excused_on step next fault outside excused = rw excused refl
-excused_on step next fault given excused = rw excused refl
-
-pub gives_at_words : (folder : List ℕ → Option (List ℕ)) (words : List (List ℕ)) (fault : Fault) → Gives (asked_of words) (Err fault) → Gives (answer_of folder words) (Err fault)
+-- where the file's reading has a fault
+pub met_at_bytes : (steady : Bool) (folder : List ℕ → Option (List ℕ)) (words : List (List ℕ)) (question : Question) (name : List ℕ) (none : NoAnswer) → asked_of words ≡ Ok question → file_of question ≡ Ok name → Meets source_of steady (bytes_from (whole file_limit (folder name))) (Err none) → Excuses (source_of none) steady (answer_of folder words) none
 unfolding answer_of
-gives_at_words folder words fault gives = excused_on (asked_of words) _ fault (source_of fault) gives
+met_at_bytes steady folder words question name none asked named met =
+    rw (asked, named) (read_next (source_of none) steady (bytes_from (whole file_limit (folder name))) _ none met)
 
-pub gives_at_bytes : (folder : List ℕ → Option (List ℕ)) (words : List (List ℕ)) (asked : Asked) (fault : Fault) → asked_of words ≡ Ok asked → Gives (bytes_from (whole file_limit (folder (file_of asked)))) (Err fault) → Gives (answer_of folder words) (Err fault)
+pub some_at_bytes : (folder : List ℕ → Option (List ℕ)) (words : List (List ℕ)) (question : Question) (name : List ℕ) (none : NoAnswer) → asked_of words ≡ Ok question → file_of question ≡ Ok name → Gives wants_memory (bytes_from (whole file_limit (folder name))) (Err none) → Excused (wants_memory none) (answer_of folder words) none
 unfolding answer_of
-gives_at_bytes folder words asked fault e gives =
-    rw e (excused_on (bytes_from (whole file_limit (folder (file_of asked)))) _ fault (source_of fault) gives)
+some_at_bytes folder words question name none asked named gives =
+    rw (asked, named) (read_on (wants_memory none) (bytes_from (whole file_limit (folder name))) _ none gives)
 
-pub gives_at_form : (folder : List ℕ → Option (List ℕ)) (words : List (List ℕ)) (asked : Asked) (bytes : List ℕ) (fault : Fault) → asked_of words ≡ Ok asked → bytes_from (whole file_limit (folder (file_of asked))) ≡ Ok bytes → Gives (book_from (book_of bytes)) (Err fault) → Gives (answer_of folder words) (Err fault)
+-- where what is asked of the bytes has one
+pub met_at_answer : (steady : Bool) (folder : List ℕ → Option (List ℕ)) (words : List (List ℕ)) (question : Question) (name bytes : List ℕ) (fault : Fault) → asked_of words ≡ Ok question → file_of question ≡ Ok name → bytes_from (whole file_limit (folder name)) ≡ Ok bytes → Gives fault_wants_memory (answered_from bytes question) (Err fault) → Excuses (source_of (Told fault)) steady (answer_of folder words) (Told fault)
 unfolding answer_of
-gives_at_form folder words asked bytes fault e f gives =
-    rw (e, f) (excused_on (book_from (book_of bytes)) _ fault (source_of fault) gives)
+met_at_answer steady folder words question name bytes fault asked named read gives =
+    rw (asked, named, read) (excuses_last (fault_wants_memory fault) steady (answered_from bytes question) fault gives)
 
-pub gives_by_text : (folder : List ℕ → Option (List ℕ)) (words : List (List ℕ)) (asked : Asked) (bytes : List ℕ) (book : Book) (result : Result (List ℕ) Fault) → asked_of words ≡ Ok asked → bytes_from (whole file_limit (folder (file_of asked))) ≡ Ok bytes → book_from (book_of bytes) ≡ Ok book → Gives (text_for book asked) result → Gives (answer_of folder words) result
+pub some_at_answer : (folder : List ℕ → Option (List ℕ)) (words : List (List ℕ)) (question : Question) (name bytes : List ℕ) (fault : Fault) → asked_of words ≡ Ok question → file_of question ≡ Ok name → bytes_from (whole file_limit (folder name)) ≡ Ok bytes → Gives fault_wants_memory (answered_from bytes question) (Err fault) → Excused (wants_memory (Told fault)) (answer_of folder words) (Told fault)
 unfolding answer_of
-gives_by_text folder words asked bytes book result e f g gives = rw (e, f, g) gives
+some_at_answer folder words question name bytes fault asked named read gives =
+    rw (asked, named, read) (excused_last (fault_wants_memory fault) (answered_from bytes question) fault gives)
+
+-- and where nothing has
+pub answer_whole : (folder : List ℕ → Option (List ℕ)) (words : List (List ℕ)) (question : Question) (name bytes : List ℕ) (answer : Answer) → asked_of words ≡ Ok question → file_of question ≡ Ok name → bytes_from (whole file_limit (folder name)) ≡ Ok bytes → answered_from bytes question ≡ Ok answer → answer_of folder words ≡ Ok answer
+unfolding answer_of
+answer_whole folder words question name bytes answer asked named read is = rw (asked, named, read, is) refl
 
 -- what reading a file gave is what some file gives
-pub some_bytes : (bytes : List ℕ) → length bytes ≤ file_limit → Gives (bytes_from (whole file_limit (Some bytes))) (Ok bytes)
+pub some_bytes : (bytes : List ℕ) → length bytes ≤ file_limit → Gives wants_memory (bytes_from (whole file_limit (Some bytes))) (Ok bytes)
 some_bytes bytes within = rw (le-leb (length bytes) file_limit within) refl
 
 some_long : (limit : ℕ) → (file : Option (List ℕ)) × (whole limit file ≡ Err reading.TooLong)
@@ -108,7 +112,7 @@ some_long limit =
     let bytes : List ℕ = replicate (suc limit) 0 in
     (Some bytes, rw (lt-leb (length bytes) limit (omega (arith, length-replicate {A = ℕ} (suc limit) 0))) refl)
 
-pub some_file : (fault : ReadAllFault) → (file : Option (List ℕ)) × Gives (bytes_from (whole file_limit file)) (Err (fault_of_reading fault))
+pub some_file : (fault : ReadAllFault) → (file : Option (List ℕ)) × Gives wants_memory (bytes_from (whole file_limit file)) (Err (fault_of_reading fault))
 some_file reading.Failed = (None, refl)
 some_file reading.TooLong = let long = some_long file_limit in (long.0, rw long.1 refl)
 some_file reading.NoMemory = (None, tt)

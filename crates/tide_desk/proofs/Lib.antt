@@ -1,4 +1,2 @@
-mod SpanLemmas
-mod AnswerLemmas
-mod CalmLemmas
-mod OutcomeLemmas
+pub mod AnswerLemmas
+pub mod OutcomeLemmas

@@ -1,9 +1,4 @@
 pub mod Answers
-pub mod Faults
-pub mod Listings
+pub mod NoAnswers
 pub mod Outcomes
-pub mod Stations
-pub mod Statuses
-pub mod Steps
-pub mod Words
-pub mod Worked
+pub mod Workings

@@ -1,9 +1,12 @@
 -- How a run ends, and what it leaves where it wrote, by the answer that is expected (this project).
-use Rattle.std.specs.Prelude.{◌≡◌, ◌⊎◌, ℕ, Bool, true, false, List, [], ◌++◌, take, codes, Result, Ok, Err, IsOk, IfOk, IsErrAnd}
-use Rattle.tide_desk.specs.declared.fault.Fault.{Fault}
-use Rattle.tide_desk.specs.declared.status.Status.{Status}
-use Rattle.tide_desk.specs.declared.status.Status.TheVariants.{Done, Rejected, Words, FileRefused, Refused, Limit, ReadFault, WriteFault, NoMemory}
-use Rattle.tide_desk.specs.Faults.{status_of, line_of}
+use Rattle.std.specs.Prelude.{◌≡◌, ◌<◌, ℕ, Bool, true, false, List, [], ◌++◌, length, take, codes, Result, Ok, Err, IfOk, IsErrAnd}
+use Rattle.std.specs.Result.{IsOkAnd}
+use Rattle.tide_answer.specs.declared.status.Status.{Status}
+use Rattle.tide_answer.specs.declared.status.Status.TheVariants.{Done, Rejected, Words, FileRefused, Refused, Limit, ReadFault, WriteFault, NoMemory}
+use Rattle.tide_answer.specs.declared.text.Answer.{Answer}
+use Rattle.tide_edge.specs.Faults.{faults_after}
+use Rattle.tide_desk.specs.declared.no_answer.NoAnswer.{NoAnswer}
+use Rattle.tide_desk.specs.NoAnswers.{status_of, line_of}
 
 abbrev pub is_read_fault : Status → Bool
 is_read_fault ReadFault = true
@@ -13,69 +16,77 @@ abbrev pub is_write_fault : Status → Bool
 is_write_fault WriteFault = true
 is_write_fault _ = false
 
+-- ---- What was written
+
+-- A text stands whole behind what was there before, or after a failed write a proper front part of it.
+abbrev pub Stands : Bool → List ℕ → List ℕ → List ℕ → Type 0
+Stands false text before after = after ≡ before ++ text
+Stands true text before after = (count : ℕ) × (count < length text) × (after ≡ before ++ take count text)
+
+-- A text was written to a sink: its count of faults is one more where a write failed, and as before where none did; and
+-- where it tells what it has taken, it still does, and the text stands.
+pub record Wrote (tells still_tells : Type 0) (before after : List ℕ) (was is : ℕ) (failed : Bool) (text : List ℕ) : Type 0 where
+  pub count : is ≡ faults_after failed was
+  pub told : tells → still_tells
+  pub stands : tells → Stands failed text before after
+
+-- ---- How a run ends
+
 -- the expected answer is a fault of that status
-abbrev pub IsRefused : Result (List ℕ) Fault → Status → Type 0
-IsRefused expected status = IsErrAnd expected (λ fault. status_of fault ≡ status)
+abbrev pub IsRefused : Result Answer NoAnswer → Status → Type 0
+IsRefused expected status = IsErrAnd expected (λ none. status_of none ≡ status)
 
--- A refusal is the expected one, and only a whole answer is done or can't be written.
-abbrev pub Says : Result (List ℕ) Fault → Status → Type 0
-Says expected Done = IsOk expected
-Says expected Rejected = ⊥
-Says expected Words = IsRefused expected Words
-Says expected FileRefused = IsRefused expected FileRefused
-Says expected Refused = IsRefused expected Refused
-Says expected Limit = IsRefused expected Limit
-Says expected ReadFault = Unit {0}
-Says expected WriteFault = IsOk expected
+-- A refusal is the expected one; a whole answer is done, or rejected, or can't be written; want of memory says nothing.
+abbrev pub Says : Result Answer NoAnswer → Status → Type 0
+Says expected Done = IsOkAnd expected (λ answer. answer.rejected ≡ false)
+Says expected Rejected = IsOkAnd expected (λ answer. answer.rejected ≡ true)
+Says expected WriteFault = IsOkAnd expected (λ answer. Unit {0})
 Says expected NoMemory = Unit {0}
+Says expected status = IsRefused expected status
 
--- the same, where a fault of reading is the expected one too
-abbrev pub SaysAll : Result (List ℕ) Fault → Status → Type 0
-SaysAll expected ReadFault = IsRefused expected ReadFault
-SaysAll expected status = Says expected status
+-- the text that goes to standard output with a status
+abbrev pub text_with : Result Answer NoAnswer → List ℕ
+text_with (Ok answer) = answer.text
+text_with (Err none) = []
 
--- the first bytes of a text were written, that many
-abbrev pub WritesFront : List ℕ → List ℕ → List ℕ → Type 0
-WritesFront text before after = (count : ℕ) × (after ≡ before ++ take count text)
+abbrev pub output_with : Result Answer NoAnswer → Status → List ℕ
+output_with expected Done = text_with expected
+output_with expected Rejected = text_with expected
+output_with expected WriteFault = text_with expected
+output_with expected _ = []
 
--- The answer was written whole, or after a fault of writing a front part of it.
-abbrev pub Took : Result (List ℕ) Fault → Status → List ℕ → List ℕ → Type 0
-Took expected Done before after = IfOk expected (λ text. after ≡ before ++ text)
-Took expected WriteFault before after = IfOk expected (λ text. WritesFront text before after)
-Took expected _ before after = Unit {0}
+-- the line of the expected fault
+abbrev pub refusal_line : Result Answer NoAnswer → List ℕ
+refusal_line (Ok answer) = []
+refusal_line (Err none) = line_of none
 
--- After a refusal, a fault of reading or want of memory it is as it was: nothing was written.
+-- the line that goes to standard error with a status
+abbrev pub line_with : Result Answer NoAnswer → Status → List ℕ
+line_with expected Done = []
+line_with expected Rejected = []
+line_with expected WriteFault = codes "write fault\n"
+line_with expected NoMemory = codes "no memory\n"
+line_with expected _ = refusal_line expected
+
+-- The run ends as over this answer: its status says the answer, and the texts that go with it were written. `out` and
+-- `err` say of a text, and of whether a write failed, that this was written.
+pub record EndsAs (expected : Result Answer NoAnswer) (status : Status) (out err : Bool → List ℕ → Type 0) : Type 0 where
+  pub says : Says expected status
+  pub output : out (is_write_fault status) (output_with expected status)
+  pub failed : Bool
+  pub line : err failed (line_with expected status)
+
+-- ---- The whole objects
+
+-- after a refusal, a fault of reading or want of memory it is as it was: nothing was written
 abbrev pub IsUntouched : {A : Type 0} → Status → A → A → Type 0
 IsUntouched Done before after = Unit {0}
 IsUntouched Rejected before after = Unit {0}
 IsUntouched WriteFault before after = Unit {0}
 IsUntouched _ before after = after ≡ before
 
--- the line of the expected fault
-abbrev pub refusal_line : Result (List ℕ) Fault → List ℕ
-refusal_line (Ok text) = []
-refusal_line (Err fault) = line_of fault
-
--- the line that goes with a status
-abbrev pub line_with : Result (List ℕ) Fault → Status → List ℕ
-line_with expected Done = []
-line_with expected Rejected = []
-line_with expected ReadFault = codes "read fault\n"
-line_with expected WriteFault = codes "write fault\n"
-line_with expected NoMemory = codes "no memory\n"
-line_with expected Words = refusal_line expected
-line_with expected FileRefused = refusal_line expected
-line_with expected Refused = refusal_line expected
-line_with expected Limit = refusal_line expected
-
--- the line was written whole, or a front part of it where a write failed
-abbrev pub WritesLine : List ℕ → List ℕ → List ℕ → Type 0 → Type 0
-WritesLine line before after rose = (after ≡ before ++ line) ⊎ (rose × WritesFront line before after)
-
--- a fault is told by its status, unless memory is wanting for its line
-abbrev pub IsToldBy : Fault → Status → Type 0
-IsToldBy fault status = (status ≡ status_of fault) ⊎ (status ≡ NoMemory)
-
-abbrev pub told_line : Fault → Status → List ℕ
-told_line fault NoMemory = codes "no memory\n"
-told_line fault _ = line_of fault
+-- after an answer that was written nothing was said beside it
+abbrev pub IsSilent : {A : Type 0} → Status → A → A → Type 0
+IsSilent Done before after = after ≡ before
+IsSilent Rejected before after = after ≡ before
+IsSilent _ before after = Unit {0}

@@ -5,19 +5,16 @@
 //! outside through the objects that it is handed alone.
 #![tactic(auto)]
 
-mod answer;
+mod answering;
+mod asking;
 mod desk;
-mod fault;
-mod prediction;
-mod span_listing;
-mod stations;
-mod status;
-mod words;
-mod worked;
+mod laws;
+mod no_answer;
 
 pub use desk::run;
-pub use status::Status;
-pub use worked::{worked_answers, worked_refusals};
+pub use laws::run_in_memory;
+pub use no_answer::NoAnswer;
+pub use tide_answer::Status;
 
 #[cfg(test)]
 mod tests;

@@ -1,5 +1,8 @@
+mod rows;
+
 use super::*;
 use decimal_text::{Bytes, Text, Words};
+use rows::*;
 use std::alloc::{AllocError, Global};
 use std::process::Abort;
 use std::test::Fail;
@@ -7,12 +10,6 @@ use tide_edge::{FixedClock, MemoryFiles, MemorySink, NamedFile};
 
 const PIER: &str = "# Pier test\n1\nS2 30.0000000\n1999\n3\nS2\n0 0 0\n*END*\n3\nS2\n1 1 1\n*END*\n\
     Pier\n0:00 :UTC\n0 feet\nS2 1 0\n";
-
-const DAY: &str = "Pier\n\
-    2000-01-10 06:00 UTC      -1.00 feet  Low Tide\n\
-    2000-01-10 11:59 UTC       1.00 feet  High Tide\n\
-    2000-01-10 18:00 UTC      -1.00 feet  Low Tide\n\
-    2000-01-10 23:59 UTC       1.00 feet  High Tide\n";
 
 // What a run left: its status, what was written to `out` and to `err`.
 #[derive(Debug, Drop)]
@@ -33,9 +30,12 @@ fn pier_with(alloc: Global, line: usize, text: &str) -> Result<Bytes, AllocError
     Ok(Bytes::from_vec(bytes))
 }
 
-// The words of a line, parted by '|'.
+// The words of a line, parted by '|'. An empty line has none.
 fn words_of(alloc: Global, line: &str) -> Result<Words, AllocError> {
     let mut words = Vec::new(alloc);
+    if line.is_empty() {
+        return Ok(Words::from_vec(words));
+    }
     for word in line.split('|') {
         words.push(Text::from_str(alloc, word)?)?;
     }
@@ -78,7 +78,7 @@ fn run_over(
     let mut held = Vec::new(alloc);
     held.push(named)?;
     let mut files = MemoryFiles::new(held, only(alloc, fails.files)?);
-    let mut out = MemorySink::new(alloc, most.max(1), 4096, only(alloc, fails.out)?)?;
+    let mut out = MemorySink::new(alloc, most.max(1), 1_000_000, only(alloc, fails.out)?)?;
     let mut err = MemorySink::new(alloc, most.max(1), 4096, only(alloc, fails.err)?)?;
     let mut clock = FixedClock::new(0, Vec::new(alloc));
     let status = run(alloc, &words, &mut files, &mut out, &mut err, &mut clock);
@@ -95,68 +95,6 @@ fn assert_outcome(rt: &impl Abort, outcome: &Outcome, status: u8, out: &str, err
     assert_eq!(rt; outcome.err.as_slice(), err.as_bytes());
 }
 
-const PREDICT: &str =
-    "predict|file=pier.txt|station=Pier|begin=2000-01-10T00:00Z|end=2000-01-11T00:00Z";
-
-// A line of the file and its text, a span, and its listing.
-const LISTINGS: &[(usize, &str, &str, &str, &str)] = &[
-    (0, "", "2000-01-10T00:00Z", "2000-01-11T00:00Z", DAY),
-    (
-        16,
-        "S2 0 0",
-        "2000-01-10T00:00Z",
-        "2000-01-11T00:00Z",
-        "Pier\n",
-    ),
-    (
-        0,
-        "",
-        "2000-01-10T23:59Z",
-        "2000-01-11T00:00Z",
-        "Pier\n2000-01-10 23:59 UTC       1.00 feet  High Tide\n",
-    ),
-    (0, "", "2000-01-10T23:58Z", "2000-01-10T23:59Z", "Pier\n"),
-    (0, "", "2000-01-10T00:00Z", "2000-01-10T00:00Z", "Pier\n"),
-    (0, "", "2002-01-01T00:00Z", "2002-01-01T00:00Z", "Pier\n"),
-    (
-        0,
-        "",
-        "1999-01-01T00:00Z",
-        "1999-01-01T06:01Z",
-        "Pier\n1999-01-01 06:00 UTC      -1.00 feet  Low Tide\n",
-    ),
-    (
-        16,
-        "S2 1 0\nPier\n0:00\n5 feet\nS2 1 0",
-        "2000-01-10T23:59Z",
-        "2000-01-11T00:00Z",
-        "Pier\n2000-01-10 23:59 UTC       1.00 feet  High Tide\n",
-    ),
-    (
-        7,
-        "0 60 60",
-        "1999-12-31T22:00Z",
-        "2000-01-01T02:00Z",
-        "Pier\n1999-12-31 23:27 UTC       0.94 feet  High Tide\n",
-    ),
-    (
-        16,
-        "S2 333.333333 0",
-        "2000-01-10T05:00Z",
-        "2000-01-10T12:00Z",
-        "Pier\n2000-01-10 06:00 UTC    -333.33 feet  Low Tide\n\
-         2000-01-10 11:59 UTC     333.32 feet  High Tide\n",
-    ),
-    (
-        0,
-        "",
-        "2001-12-31T12:00Z",
-        "2002-01-01T00:00Z",
-        "Pier\n2001-12-31 18:00 UTC      -1.00 feet  Low Tide\n\
-         2001-12-31 23:59 UTC       1.00 feet  High Tide\n",
-    ),
-];
-
 #[test]
 fn a_span_lists_its_events(rt: HostRuntime) -> Result<(), Fail> {
     let alloc = rt.alloc();
@@ -170,127 +108,6 @@ fn a_span_lists_its_events(rt: HostRuntime) -> Result<(), Fail> {
     }
     Ok(())
 }
-
-// A line of the file and its text, the words, the status and the line that they come to, in the
-// order of refusals.
-const REFUSALS: &[(usize, &str, &str, u8, &str)] = &[
-    (0, "", "predict|file=pier.txt", 2, "words: refused\n"),
-    (0, "", "stations", 2, "words: refused\n"),
-    (0, "", "stations|file=", 2, "words: refused\n"),
-    (
-        0,
-        "",
-        "predict|station=Pier|file=pier.txt|begin=2000-01-10T00:00Z|end=2000-01-11T00:00Z",
-        2,
-        "words: refused\n",
-    ),
-    (
-        0,
-        "",
-        "predict|file=pier.txt|station=Pier|begin=2000-01-10|end=2000-01-11T00:00Z",
-        2,
-        "words: refused\n",
-    ),
-    (0, "", "PREDICT|file=pier.txt", 2, "words: refused\n"),
-    (0, "", "stations|FILE=pier.txt", 2, "words: refused\n"),
-    (
-        0,
-        "",
-        "stations|file=pier.txt|zone=UTC",
-        2,
-        "words: refused\n",
-    ),
-    (
-        0,
-        "",
-        "predict|file=quay.txt|station=|begin=2000-01-10T00:00Z|end=2000-01-11T00:00Z",
-        2,
-        "words: refused\n",
-    ),
-    (0, "", "stations|file=quay.txt", 6, "read fault\n"),
-    (0, "", "stations|file==pier.txt", 6, "read fault\n"),
-    (
-        3,
-        "S2 30.00000001",
-        PREDICT,
-        3,
-        "file: line 3: too fine (4)\n",
-    ),
-    (9, "2", PREDICT, 3, "file: line 9: years differ (6)\n"),
-    (
-        16,
-        "M2 1 0",
-        PREDICT,
-        3,
-        "file: line 16: wrong constituent (7)\n",
-    ),
-    (
-        3,
-        "S2 30.00000001",
-        "predict|file=pier.txt|station=Pie|begin=2000-01-10T00:00Z|end=2000-01-11T00:00Z",
-        3,
-        "file: line 3: too fine (4)\n",
-    ),
-    (13, "Quay", PREDICT, 4, "refused: no station\n"),
-    (
-        15,
-        "0 knots^2",
-        "predict|file=pier.txt|station=Pie|begin=2000-01-10T00:00Z|end=2000-01-11T00:00Z",
-        4,
-        "refused: no station\n",
-    ),
-    (
-        15,
-        "0 knots^2",
-        "predict|file=pier.txt|station=Pier|begin=2000-01-10T00:01Z|end=2000-01-10T00:00Z",
-        4,
-        "refused: hydraulic\n",
-    ),
-    (15, "0 knots^2", PREDICT, 4, "refused: hydraulic\n"),
-    (15, "0 knots", PREDICT, 4, "refused: currents not built\n"),
-    (
-        0,
-        "",
-        "predict|file=pier.txt|station=Pier|begin=2000-01-10T00:01Z|end=2000-01-10T00:00Z",
-        4,
-        "refused: backward span\n",
-    ),
-    (
-        0,
-        "",
-        "predict|file=pier.txt|station=Pier|begin=2002-01-01T00:02Z|end=2002-01-01T00:01Z",
-        4,
-        "refused: backward span\n",
-    ),
-    (
-        16,
-        "S2 1000.000001 0",
-        "predict|file=pier.txt|station=Pier|begin=1998-12-31T23:59Z|end=1999-01-02T00:00Z",
-        4,
-        "refused: out of years: file has 1999-01-01T00:00Z to 2002-01-01T00:00Z\n",
-    ),
-    (
-        0,
-        "",
-        "predict|file=pier.txt|station=Pier|begin=2001-12-31T12:00Z|end=2002-01-01T00:01Z",
-        4,
-        "refused: out of years: file has 1999-01-01T00:00Z to 2002-01-01T00:00Z\n",
-    ),
-    (
-        16,
-        "S2 333.333334 0",
-        PREDICT,
-        5,
-        "limit: too steep in 1999\n",
-    ),
-    (
-        16,
-        "S2 1000.000001 0",
-        PREDICT,
-        5,
-        "limit: too large in 1999\n",
-    ),
-];
 
 #[test]
 fn each_refusal_has_its_line(rt: HostRuntime) -> Result<(), Fail> {
@@ -331,6 +148,81 @@ fn stations_are_listed(rt: HostRuntime) -> Result<(), Fail> {
 }
 
 #[test]
+fn pairs_stand_in_any_order(rt: HostRuntime) -> Result<(), Fail> {
+    let alloc = rt.alloc();
+    let words =
+        "predict|end=2000-01-11T00:00Z|station=Pier|zone=UTC|begin=2000-01-10T00:00Z|file=pier.txt";
+    let outcome = run_over(alloc, pier_with(alloc, 0, "")?, words, 4096, NONE)?;
+    assert_outcome(&rt, &outcome, 0, DAY, "");
+    Ok(())
+}
+
+#[test]
+fn the_first_year_beyond_a_limit_is_named(rt: HostRuntime) -> Result<(), Fail> {
+    let alloc = rt.alloc();
+    for (factors, line) in [
+        ("0.5 2 2", "limit: too steep in 1999\n"),
+        ("0.1 2 0.5", "limit: too large in 2000\n"),
+        ("0.1 0.5 2", "limit: too steep in 2000\n"),
+    ] {
+        let file = format!(in alloc;
+            "1\nS2 30\n1999\n3\nS2\n0 0 0\n*END*\n3\nS2\n{factors}\n*END*\nPier\n0:00\n0 feet\nS2 800 0\n"
+        )?;
+        let bytes = Bytes::from_vec(file.into_bytes());
+        let outcome = run_over(alloc, bytes, PREDICT, 4096, NONE)?;
+        assert_outcome(&rt, &outcome, 5, "", line);
+    }
+    Ok(())
+}
+
+#[test]
+fn years_are_listed(rt: HostRuntime) -> Result<(), Fail> {
+    let alloc = rt.alloc();
+    for &(begin, end, bytes, lines, first, last) in LONG_LISTINGS {
+        let file = String::from_str(alloc, ELEVEN_YEARS)?;
+        let words = format!(in alloc;
+            "predict|file=pier.txt|station=Pier|begin={begin}|end={end}"
+        )?;
+        let outcome = run_over(
+            alloc,
+            Bytes::from_vec(file.into_bytes()),
+            words.as_str(),
+            65_536,
+            NONE,
+        )?;
+        assert_eq!(rt; outcome.status.number(), 0);
+        let out = outcome.out.as_slice();
+        assert_eq!(rt; out.len(), bytes);
+        assert_eq!(rt; out.iter().filter(|b| **b == b'\n').count(), lines);
+        assert_eq!(rt; out.starts_with(first.as_bytes()), true);
+        assert_eq!(rt; out.ends_with(last.as_bytes()), true);
+    }
+    Ok(())
+}
+
+#[test]
+fn a_file_may_have_67108864_bytes(rt: HostRuntime) -> Result<(), Fail> {
+    let alloc = rt.alloc();
+    for (length, status, out, line) in [
+        (67_108_864, 0, "Ref feet Pier\n", ""),
+        (67_108_865, 3, "", "file: too long\n"),
+    ] {
+        let mut bytes = vec![in alloc; b'#'; length - PIER.len() - 1]?;
+        bytes.push(b'\n')?;
+        bytes.extend_from_slice(PIER.as_bytes())?;
+        let outcome = run_over(
+            alloc,
+            Bytes::from_vec(bytes),
+            "stations|file=pier.txt",
+            4096,
+            NONE,
+        )?;
+        assert_outcome(&rt, &outcome, status, out, line);
+    }
+    Ok(())
+}
+
+#[test]
 fn a_failed_write_ends_the_run(rt: HostRuntime) -> Result<(), Fail> {
     let alloc = rt.alloc();
     for (failing, out) in [(1, ""), (2, "Pier\n2000-"), (3, "Pier\n2000-01-10 06:0")] {
@@ -357,6 +249,10 @@ fn a_failed_read_ends_the_run(rt: HostRuntime) -> Result<(), Fail> {
         let outcome = run_over(alloc, file, PREDICT, 4096, fails)?;
         assert_outcome(&rt, &outcome, 6, "", "read fault\n");
     }
+    // the file is opened once and read to its end once
+    let fails = Fails { files: 4, ..NONE };
+    let outcome = run_over(alloc, pier_with(alloc, 0, "")?, PREDICT, 4096, fails)?;
+    assert_outcome(&rt, &outcome, 0, DAY, "");
     Ok(())
 }
 
@@ -372,5 +268,9 @@ fn a_line_that_fails_changes_no_status(rt: HostRuntime) -> Result<(), Fail> {
         let outcome = run_over(alloc, file, PREDICT, 10, fails)?;
         assert_outcome(&rt, &outcome, 4, "", err);
     }
+    // a long line of which the first call fails isn't tried again
+    let fails = Fails { err: 1, ..NONE };
+    let outcome = run_over(alloc, pier_with(alloc, 0, "")?, LATE, 4096, fails)?;
+    assert_outcome(&rt, &outcome, 4, "", "");
     Ok(())
 }

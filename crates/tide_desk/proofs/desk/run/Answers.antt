@@ -1,31 +1,36 @@
 use Rattle.std.proofs.Common.{inl, refl, sym, append-nil}
-use Rattle.tide_desk.proofs.OutcomeLemmas.{tells_fault}
+use Rattle.tide_desk.proofs.OutcomeLemmas.{ends_told, ends_own, told_as_read}
 use Rattle.tide_desk.proofs.desk.run.Goals as goal
-
-pub returns-in-Ok-clause-line : goal.returns-in-Ok-clause-line
-returns-in-Ok-clause-line g c = λ t e. rw c.refuse.ensures.same (c.refuse.ensures.line e)
 
 pub returns-in-Ok-clause-some_files : goal.returns-in-Ok-clause-some_files
 returns-in-Ok-clause-some_files g c =
     let some = c.in-Ok.ensures.some in (
       some.0,
-      rw (c.refuse.ensures.same, some.1) refl,
-      λ t. let sent = c.in-Err-write_all.ensures.sent t in
-          rw (c.refuse.ensures.same, some.1) (c.in-Err-write_all.field-0.sent, rw c.as_slice.ensures at sent),
-      λ t. rw c.refuse.ensures.same (c.refuse.ensures.line t),
+      rw (c.refuse.ensures.same, some.1) (record {
+        says = tt;
+        output = record {
+          count = c.in-Err-write_all.ensures.counts;
+          told = c.in-Err-write_all.ensures.still_tells;
+          stands = λ t.
+              let short = rw c.as_slice.ensures at c.in-Err-write_all.ensures.cut_short in
+              let sent = rw c.as_slice.ensures at (c.in-Err-write_all.ensures.sent t) in
+              (c.in-Err-write_all.field-0.sent, short, sent);
+        };
+        failed = c.refuse.ensures.line.0;
+        line = c.refuse.ensures.line.1;
+      }),
     )
 
-pub returns-in-Ok-write_all-clause-some_files : goal.returns-in-Ok-write_all-clause-some_files
-returns-in-Ok-write_all-clause-some_files g c =
-    let some = c.in-Ok.ensures.some in (
-      some.0,
-      rw some.1 refl,
-      λ t. let all = c.in-Ok-write_all.ensures.all t in rw some.1 (rw c.as_slice.ensures at all),
-      λ t. inl (sym (append-nil _)),
-    )
+pub returns-clause-own_files : goal.returns-clause-own_files
+returns-clause-own_files g c =
+    λ t either. ends_own (g.F.Files.steady c.args.files.now) _ c.in-Err.none c.tell.result _ _ (c.in-Err.ensures.met t) either
+    (record { count = refl; told = λ o. o; stands = λ o. sym (append-nil _) }) c.tell.ensures
 
 pub returns-clause-some_files : goal.returns-clause-some_files
 returns-clause-some_files g c =
     let some = c.in-Err.ensures.some in
-    let left = tells_fault _ c.in-Err.fault c.tell.result some.1 c.tell.ensures.status in
-    (some.0, left.0, λ t. left.2 _, λ t. rw left.1 (c.tell.ensures.line t))
+    (some.0, ends_told _ c.in-Err.none c.tell.result _ _ some.1 (record { count = refl; told = λ o. o; stands = λ o. sym (append-nil _) }) c.tell.ensures)
+
+pub returns-clause-read_fault : goal.returns-clause-read_fault
+returns-clause-read_fault g c =
+    let read = told_as_read c.in-Err.none c.tell.result c.tell.ensures in rw read c.in-Err.ensures.counts

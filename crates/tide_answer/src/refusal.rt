@@ -1,0 +1,70 @@
+//! Why a question has no answer.
+
+use station_curve::CurveFault;
+use station_table::FindFault;
+use std::alloc::AllocError;
+
+/// Why a question has no answer over a book that was read.
+#[derive(Clone, Copy, Debug)]
+pub enum Refusal {
+    NoMemory,
+    /// What is asked isn't built as yet.
+    NotBuilt,
+    /// Neither the book nor the table has a station of the name.
+    NoStation,
+    /// The book doesn't have the reference of the station's row, by its place in the table's list.
+    NoReference { row: u32 },
+    /// The station is a current whose speed is the root of what its constants give.
+    Hydraulic,
+    /// The span ends before it begins.
+    BackwardSpan,
+    /// The span isn't in the file's years: with the file's first minute and the one after its last.
+    OutOfYears { first: i64, last: i64 },
+    /// The first year in which the amplitudes sum to too much.
+    TooLarge { year: i32 },
+    /// The first year in which amplitude times speed sums to too much.
+    TooSteep { year: i32 },
+    /// The span has too many minutes.
+    SpanTooLong { minutes: i64 },
+}
+
+impl From<AllocError> for Refusal {
+    ghost use Rattle.std.specs.Prelude.{◌≡◌};
+    ghost use Rattle.tide_answer.specs.declared.refusal.Refusal.TheVariants.{NoMemory};
+
+    ghost from_gives = { λ _ refusal. refusal ≡ NoMemory };
+
+    fn from(_: AllocError) -> Refusal {
+        Refusal::NoMemory
+    }
+}
+
+impl From<FindFault> for Refusal {
+    ghost use Rattle.std.specs.Prelude.{◌≡◌};
+    ghost use Rattle.tide_answer.specs.Faults.{refusal_of_find};
+
+    ghost from_gives = { λ find refusal. refusal ≡ refusal_of_find find };
+
+    fn from(fault: FindFault) -> Refusal {
+        match fault {
+            FindFault::NoStation => Refusal::NoStation,
+            FindFault::NoReference { row } => Refusal::NoReference { row },
+        }
+    }
+}
+
+impl From<CurveFault> for Refusal {
+    ghost use Rattle.std.specs.Prelude.{◌≡◌};
+    ghost use Rattle.tide_answer.specs.Faults.{refusal_of_curve};
+
+    ghost from_gives = { λ curve refusal. refusal ≡ refusal_of_curve curve };
+
+    fn from(fault: CurveFault) -> Refusal {
+        match fault {
+            CurveFault::NoMemory => Refusal::NoMemory,
+            CurveFault::Hydraulic => Refusal::Hydraulic,
+            CurveFault::TooLarge { year } => Refusal::TooLarge { year },
+            CurveFault::TooSteep { year } => Refusal::TooSteep { year },
+        }
+    }
+}

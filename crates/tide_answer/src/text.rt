@@ -1,0 +1,11 @@
+//! What a question is answered with.
+
+use decimal_text::Bytes;
+
+/// What a question is answered with.
+#[derive(Debug, Drop)]
+pub struct Answer {
+    pub text: Bytes,
+    /// A certificate was judged and isn't valid: the text says why.
+    pub rejected: bool,
+}

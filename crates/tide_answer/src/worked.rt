@@ -1,0 +1,35 @@
+//! Answers and lines that were worked out by hand.
+
+ghost use Rattle.std.specs.Prelude.{◌≡◌, [], ◌∷◌, codes, pos, Ok, Err};
+ghost use Rattle.question.specs.declared.fault.AskFault.{AskFault};
+ghost use Rattle.question.specs.declared.key.Key.{Key};
+ghost use Rattle.tide_answer.specs.declared.fault.Fault.{Fault};
+ghost use Rattle.tide_answer.specs.declared.refusal.Refusal.{Refusal};
+ghost use Rattle.tide_answer.specs.declared.slot.Slot.{Slot};
+ghost use Rattle.tide_answer.specs.Answers.{span_in, length_in};
+ghost use Rattle.tide_answer.specs.Faults.{line_of, status_of};
+ghost use Rattle.tide_answer.specs.declared.status.Status.{Status};
+ghost use Rattle.station_curve.specs.Worked.{pier_book};
+
+/// Lines without a number.
+#[tactic(auto, unfolding(crate::specs::Faults::line_of, crate::specs::Faults::ask_line, crate::specs::Faults::refusal_line))]
+pub fn worked_lines()
+    ensures no_command { line_of [] (Fault.Ask AskFault.NoCommand) ≡ codes "words: no command\n" }
+    ensures missing { line_of [] (Fault.Ask (AskFault.MissingKey Key.Station)) ≡ codes "words: station is missing\n" }
+    ensures long { line_of [] (Fault.TooLong Slot.Certificate) ≡ codes "certificate: too long\n" }
+    ensures not_built { line_of [] (Fault.Refused Refusal.NotBuilt) ≡ codes "refused: not built\n" }
+    ensures words { status_of (Fault.Ask (AskFault.RepeatedKey 2)) ≡ Status.Words }
+    ensures file { status_of (Fault.TooLong Slot.Offsets) ≡ Status.FileRefused }
+    ensures memory { status_of (Fault.Refused Refusal.NoMemory) ≡ Status.NoMemory }
+{}
+
+/// Spans of a book that has the years 1999 to 2001.
+#[tactic(auto, unfolding(crate::specs::Answers::span_in, crate::specs::Answers::length_in, year_blend::specs::Years::year_start_of, jiff_core::specs::Calendar::days_from_civil, jiff_core::specs::Calendar::day_count, jiff_core::specs::Calendar::days_of_years, jiff_core::specs::Calendar::days_of_months))]
+pub fn worked_spans()
+    ensures whole { span_in pier_book (pos 15252480) (pos 16830720) ≡ Ok tt }
+    ensures late { span_in pier_book (pos 15252480) (pos 16830721) ≡ Err (Refusal.OutOfYears (pos 15252480) (pos 16830720)) }
+    ensures early { span_in pier_book (pos 15252479) (pos 15252480) ≡ Err (Refusal.OutOfYears (pos 15252480) (pos 16830720)) }
+    ensures backward { span_in pier_book (pos 15252481) (pos 15252480) ≡ Err Refusal.BackwardSpan }
+    ensures longest { length_in (pos 0) (pos 5270400) ≡ Ok tt }
+    ensures too_long { length_in (pos 0) (pos 5270401) ≡ Err (Refusal.SpanTooLong (pos 5270401)) }
+{}

@@ -1,0 +1,30 @@
+//! What a run comes to where nothing can fail.
+
+ghost use Rattle.std.specs.Prelude.{◌≡◌, [], length};
+ghost use Rattle.std.specs.Result.{IsOkAnd};
+ghost use Rattle.tide_edge.specs.Memory.{folder_of};
+ghost use Rattle.tide_desk.specs.Answers.{answer_of};
+
+use crate::desk::run;
+use decimal_text::Words;
+use std::alloc::Global;
+use tide_answer::Status;
+use tide_edge::{FixedClock, MemoryFiles, MemorySink};
+
+/// Over steady files in memory and an empty sink: where the run is done, the sink has taken exactly
+/// the answer's text.
+pub fn run_in_memory(
+    alloc: Global,
+    words: &Words,
+    files: &mut MemoryFiles,
+    out: &mut MemorySink,
+    err: &mut MemorySink,
+    clock: &mut FixedClock,
+) -> Status
+    requires steady { length files.old.calls.fails ≡ 0 }
+    requires empty { out.old.taken ≡ [] }
+    ensures { result ≡ Status.Done
+        → IsOkAnd (answer_of (folder_of files.old.files) words.now) (λ answer. out.new.taken ≡ answer.text) }
+{
+    run(alloc, words, files, out, err, clock)
+}
