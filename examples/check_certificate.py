@@ -1,0 +1,153 @@
+#!/usr/bin/env python3
+"""Checks a certificate by docs/CERTIFICATES.md and prints the first line of what `tide check` prints.
+
+check_certificate.py file=CONSTANTS certificate=C [offsets=TABLE]
+"""
+
+import re
+import sys
+
+from tide_numbers import Constants, Refused, asked, moment
+
+KINDS = {'turn': ('high', 'low'), 'slack': ('flood', 'ebb'), 'mark': ('rise', 'fall')}
+
+
+class NotACertificate(Exception):
+    """The number of the first line with which no certificate goes on."""
+
+
+class Rejected(Exception):
+    """What is wrong with the tracks."""
+
+
+# ---- the text
+
+def number(text, most):
+    """The number that a text writes, at most so large in size, or None."""
+    if not re.fullmatch('0|-?[1-9][0-9]*', text) or len(text) > 20 or abs(int(text)) > most:
+        return None
+    return int(text)
+
+
+def cell(track, line):
+    """A cell as (minutes, kind, level), or None."""
+    words = line.split(' ')
+    if line == 's':
+        return 1, None, None
+    if words[0] == 'q' and len(words) == 2:
+        minutes = number(words[1], 1024)
+        return (minutes, None, None) if minutes is not None and minutes >= 2 else None
+    if words[0] == 't' and len(words) == 3 and words[1] in KINDS[track]:
+        level = number(words[2], 99999999999999)
+        return (1, words[1], level) if level is not None else None
+    return None
+
+
+class Certificate:
+    """What the text of a certificate says."""
+
+    def __init__(self, data):
+        self.lines = data.split(b'\n')
+        self.at = 0
+        title = self.line()
+        self.version = {'tide certificate 1': 1, 'tide certificate 2': 2}.get(title) or self.fault()
+        self.station = self.value('station ')
+        if not 1 <= len(self.station.encode()) <= 400 or re.search('[\0-\37\177]', self.station):
+            self.fault()
+        self.begin, self.end = self.moment('begin '), self.moment('end ')
+        mark = self.value('mark ')
+        self.mark = None if mark == 'none' else number(mark, 10000000000)
+        if mark != 'none' and self.mark is None:
+            self.fault()
+        self.tracks = {}
+        self.read_tracks()
+
+    def fault(self):
+        raise NotACertificate(self.at)
+
+    def line(self):
+        self.at += 1
+        if self.at >= len(self.lines):  # the last piece has no LF
+            self.fault()
+        try:
+            return self.lines[self.at - 1].decode('utf-8')
+        except UnicodeDecodeError:
+            self.fault()
+
+    def value(self, word):
+        line = self.line()
+        return line[len(word):] if line.startswith(word) else self.fault()
+
+    def moment(self, word):
+        minute = moment(self.value(word))
+        return self.fault() if minute is None else minute
+
+    def read_tracks(self):
+        if self.line() != 'track turn':
+            self.fault()
+        track = 'turn'
+        self.tracks[track] = []
+        while (line := self.line()) != 'done':
+            next_tracks = {'turn': ['slack', 'mark'], 'slack': ['mark'], 'mark': []}[track]
+            if line in ['track ' + name for name in next_tracks] and (line != 'track mark' or self.mark is not None):
+                track = line.split(' ')[1]
+                self.tracks[track] = []
+            else:
+                self.tracks[track].append(cell(track, line) or self.fault())
+        if self.mark is not None and track != 'mark':
+            self.fault()
+        self.at += 1
+        if self.lines[self.at - 1:] != [b'']:
+            self.fault()
+
+
+# ---- the tracks
+
+def check_track(name, track, cells, first, last):
+    covered = sum(minutes for minutes, _, _ in cells)
+    if covered != last - first:
+        raise Rejected(f'track {name}: cells cover {covered} of {last - first} minutes')
+    a = first
+    for i, (minutes, kind, level) in enumerate(cells, 1):
+        if minutes > 1:
+            if not track.is_quiet(a, minutes):
+                raise Rejected(f'track {name}: cell {i} is not quiet')
+        elif track.event(a) != kind:
+            raise Rejected(f'track {name}: cell {i} has the wrong step')
+        elif kind and level != track.curve.reading(a):
+            raise Rejected(f'track {name}: cell {i} has level {level}, computed {track.curve.reading(a)}')
+        a += minutes
+
+
+def check(constants, table, certificate):
+    c = certificate
+    first, last, tracks = asked(constants, table, c.station, c.begin, c.end, c.mark, c.version)
+    if ('slack' in tracks) != ('slack' in c.tracks):
+        raise Rejected('slack track ' + ('wanted' if 'slack' in tracks else 'not wanted'))
+    for name, track in tracks.items():
+        check_track(name, track, c.tracks[name], first, last)
+
+
+def answer(file, certificate, offsets=None):
+    """The line and the status."""
+    constants = Constants(file)
+    try:
+        with open(certificate, 'rb') as text:
+            check(constants, offsets, Certificate(text.read()))
+    except NotACertificate as fault:
+        return f'certificate: line {fault}', 3
+    except Refused as refused:
+        return str(refused), refused.status
+    except Rejected as rejected:
+        return f'Rejected: {rejected}', 1
+    return 'Accepted', 0
+
+
+if __name__ == '__main__':
+    try:
+        words = dict(word.split('=', 1) for word in sys.argv[1:])
+        line, status = answer(**words)
+    except (ValueError, TypeError):
+        sys.exit(__doc__)
+    print(line)
+    sys.exit(status)
