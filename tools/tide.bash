@@ -1,0 +1,56 @@
+# Completion of tide's commands, keys, files, zones and layouts, for bash.
+
+_tide_keys() {
+  case "$1" in
+    predict) echo "file station begin end mark offsets zone layout" ;;
+    certify) echo "file station begin end mark offsets" ;;
+    check) echo "file certificate offsets zone" ;;
+    heights) echo "file station begin end step offsets zone layout" ;;
+    calendar) echo "file station begin end mark offsets zone" ;;
+    clock) echo "file station offsets zone" ;;
+    stations) echo "file offsets" ;;
+    sample | trial) echo "seed" ;;
+    serve) echo "file offsets port" ;;
+  esac
+}
+
+# The values that a key may have, as far as they can be told, which begin with the text $2.
+_tide_values() {
+  local hour name
+  case "$1" in
+    file | offsets | certificate) compgen -f -- "$2" ;;
+    layout) compgen -W "plain csv" -- "$2" ;;
+    zone)
+      case "$2" in
+        @?*) compgen -f -- "${2#@}" | while read -r name; do if [[ -d "$name" ]]; then echo "@$name/"; else echo "@$name"; fi; done ;;
+        [+-]*) for hour in {00..15}; do compgen -W "${2:0:1}$hour:00" -- "$2"; done ;;
+        *) compgen -W "UTC @/usr/share/zoneinfo/" -- "$2" ;;
+      esac
+      ;;
+  esac
+}
+
+_tide() {
+  local line="${COMP_LINE:0:COMP_POINT}" part="${COMP_WORDS[COMP_CWORD]}" word key value
+  word="${line##*[[:space:]]}"
+  COMPREPLY=()
+  if [[ "$COMP_CWORD" -eq 1 ]]; then
+    mapfile -t COMPREPLY < <(compgen -W "predict certify check heights calendar clock stations sample trial serve --help --version" -- "$word")
+  elif [[ "$word" == *=* ]]; then
+    key="${word%%=*}" value="${word#*=}"
+    [[ " $(_tide_keys "${COMP_WORDS[1]}") " == *" $key "* ]] || return
+    mapfile -t COMPREPLY < <(_tide_values "$key" "$value")
+    # bash parts words at = and :, and takes only what follows; an @ it takes too.
+    [[ "$part" == [=:] ]] && part=
+    [[ "$value" == @* ]] || COMPREPLY=("${COMPREPLY[@]#"${value%"$part"}"}")
+    case "$key" in file | offsets | certificate) compopt -o filenames ;; esac
+    [[ "${COMPREPLY[*]}" == *" "* || "${COMPREPLY[*]}" != */ ]] || compopt -o nospace
+  else
+    for key in $(_tide_keys "${COMP_WORDS[1]}"); do
+      [[ "$key=" == "$word"* && "$line" != *[[:space:]]"$key="* ]] && COMPREPLY+=("$key=")
+    done
+    compopt -o nospace
+  fi
+}
+
+complete -F _tide tide
