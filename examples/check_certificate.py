@@ -130,10 +130,11 @@ def check(constants, table, certificate):
 
 def answer(file, certificate, offsets=None):
     """The line and the status."""
-    constants = Constants(file)
     try:
         with open(certificate, 'rb') as text:
-            check(constants, offsets, Certificate(text.read()))
+            check(Constants(file), offsets, Certificate(text.read()))
+    except OSError:
+        return 'read fault', 6
     except NotACertificate as fault:
         return f'certificate: line {fault}', 3
     except Refused as refused:
