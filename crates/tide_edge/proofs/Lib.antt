@@ -1,4 +1,5 @@
 pub mod PlaceLemmas
 pub mod ReadingLemmas
 pub mod WritingLemmas
+pub mod ReplyLemmas
 pub mod ExcuseLemmas

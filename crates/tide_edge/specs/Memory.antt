@@ -1,9 +1,13 @@
 -- The objects in memory: what each holds, what its calls answer and what they leave (this project).
-use Rattle.std.specs.Prelude.{ℕ, ℤ, ◌-◌, ◌==◌, min, Bool, ◌||◌, if◌then◌else◌, List, [], ◌++◌, length, take, drop, find, Option, None, is_none, unwrap_or}
+use Rattle.std.specs.Prelude.{ℕ, ℤ, ◌-◌, ◌==◌, nat_lt, min, Bool, false, not, ◌||◌, if◌then◌else◌, List, [], ◌∷◌, ◌++◌, length, take, drop, find, Option, None, is_none, unwrap_or, Result, Ok, Err}
+use Rattle.std.specs.List.{concat, list_all}
 use Rattle.std.specs.Option.{option_map}
 use Rattle.std.specs.Str.{bytes_eq}
 use Rattle.tide_edge.specs.declared.named_file.NamedFile.{NamedFile}
-use Rattle.tide_edge.specs.Calls.{HeldCalls, is_to_fail, after_call}
+use Rattle.tide_edge.specs.declared.failed.Failed.{Failed}
+use Rattle.tide_edge.specs.Calls.{HeldCalls, answer, is_to_fail, after_call}
+use Rattle.tide_edge.specs.Doors.{Doorway, Traffic, asked, after_next, closed, append_to_last}
+use Rattle.tide_edge.specs.Faults.{counted, faults_after}
 
 -- files by name, and the rest of the open one, which is empty where none is open
 pub record HeldFiles : Type 0 where
@@ -59,6 +63,121 @@ after_write held piece = record {
   most = held.most;
   room = held.room;
   calls = after_call (is_refused held) held.calls;
+}
+
+-- What a door holds: what it has told; the requests that wait, in their pieces; the pieces left of the open connection; the
+-- replies; how many more bytes they may take; the calls but `close`, whose faults are those of `listen` and `next`; and the
+-- faults of `read` and `write`.
+pub record HeldDoor : Type 0 where
+  pub doorway : Doorway
+  pub waiting : List (List (List ℕ))
+  pub coming : List (List ℕ)
+  pub replies : List (List ℕ)
+  pub room : ℕ
+  pub calls : HeldCalls
+  pub line_faults : ℕ
+
+-- whether no piece is empty
+abbrev pub are_pieces : List (List ℕ) → Bool
+are_pieces pieces = list_all (λ piece. nat_lt 0 (length piece)) pieces
+
+-- what it tells
+abbrev pub traffic_of : HeldDoor → Traffic
+traffic_of held = record { waiting = held.waiting; rest = concat held.coming; replies = held.replies }
+
+-- what the next `next` answers
+abbrev pub comes : HeldDoor → Result Bool Failed
+comes held = answer (is_to_fail held.calls) (nat_lt 0 (length held.waiting))
+
+-- the pieces of the first request that waits
+abbrev pub first_pieces : List (List (List ℕ)) → List (List ℕ)
+first_pieces [] = []
+first_pieces (request ∷ more) = request
+
+-- whether a call answered that there is a connection
+abbrev pub is_taken : Result Bool Failed → Bool
+is_taken (Ok comes) = comes
+is_taken (Err failed) = false
+
+abbrev pub after_listen : HeldDoor → ℕ → HeldDoor
+after_listen held port = record {
+  doorway = asked port (not (is_to_fail held.calls));
+  waiting = held.waiting;
+  coming = held.coming;
+  replies = held.replies;
+  room = held.room;
+  calls = after_call (is_to_fail held.calls) held.calls;
+  line_faults = held.line_faults;
+}
+
+abbrev pub after_taking : HeldDoor → HeldDoor
+after_taking held = record {
+  doorway = after_next (comes held) held.doorway;
+  waiting = (if is_taken (comes held) then drop 1 held.waiting else held.waiting);
+  coming = (if is_taken (comes held) then first_pieces held.waiting else held.coming);
+  replies = (if is_taken (comes held) then held.replies ++ [] ∷ [] else held.replies);
+  room = held.room;
+  calls = after_call (is_to_fail held.calls) held.calls;
+  line_faults = held.line_faults;
+}
+
+-- the calls after one of `read` or `write`, whose faults are counted apart
+abbrev pub after_line_call : HeldCalls → HeldCalls
+after_line_call calls = record { fails = calls.fails; made = counted calls.made; faults = calls.faults }
+
+-- how many bytes of the first piece left a room of that length takes: no read goes across pieces
+abbrev pub piece_count : List (List ℕ) → ℕ → ℕ
+piece_count [] room = 0
+piece_count (piece ∷ more) room = min room (length piece)
+
+-- what is left of the pieces after so many bytes of the first
+abbrev pub pieces_after : ℕ → List (List ℕ) → List (List ℕ)
+pieces_after count [] = []
+pieces_after count (piece ∷ more) = (if length piece == count then more else drop count piece ∷ more)
+
+-- how many bytes the next `read` gives, unless it fails
+abbrev pub line_count : HeldDoor → ℕ → ℕ
+line_count held room = (if is_to_fail held.calls then 0 else piece_count held.coming room)
+
+abbrev pub after_line_read : HeldDoor → ℕ → HeldDoor
+after_line_read held room = record {
+  doorway = held.doorway;
+  waiting = held.waiting;
+  coming = (if is_to_fail held.calls then held.coming else pieces_after (line_count held room) held.coming);
+  replies = held.replies;
+  room = held.room;
+  calls = after_line_call held.calls;
+  line_faults = faults_after (is_to_fail held.calls) held.line_faults;
+}
+
+-- whether the next `write` fails: it is to fail, or the room is full
+abbrev pub is_shut : HeldDoor → Bool
+is_shut held = is_to_fail held.calls || (held.room == 0)
+
+-- how many bytes of a piece of that length the next `write` takes: as many as piece and room allow
+abbrev pub reply_count : HeldDoor → ℕ → ℕ
+reply_count held piece = (if is_shut held then 0 else min piece held.room)
+
+abbrev pub after_line_write : HeldDoor → List ℕ → HeldDoor
+after_line_write held piece = record {
+  doorway = held.doorway;
+  waiting = held.waiting;
+  coming = held.coming;
+  replies = (if is_shut held then held.replies else append_to_last held.replies (take (reply_count held (length piece)) piece));
+  room = held.room - reply_count held (length piece);
+  calls = after_line_call held.calls;
+  line_faults = faults_after (is_shut held) held.line_faults;
+}
+
+abbrev pub after_close : HeldDoor → HeldDoor
+after_close held = record {
+  doorway = closed held.doorway;
+  waiting = held.waiting;
+  coming = held.coming;
+  replies = held.replies;
+  room = held.room;
+  calls = held.calls;
+  line_faults = held.line_faults;
 }
 
 -- one minute for ever

@@ -1,1 +1,2 @@
 pub mod OpenFile
+pub mod Lines

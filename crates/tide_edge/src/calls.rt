@@ -43,11 +43,19 @@ impl Calls {
         ensures answer { result ≡ answer (is_to_fail self.old) record {} }
         ensures after { self.new ≡ after_call (is_to_fail self.old) self.old }
     {
-        self.made = one_more(self.made);
-        if self.fails.contains(&self.made) {
+        if self.is_next_to_fail() {
             return Err(self.fail());
         }
         Ok(())
+    }
+
+    /// Counts one more call, and answers whether it is one of those that are to fail.
+    pub(crate) fn is_next_to_fail(&mut self) -> bool
+        ensures answer { result ≡ is_to_fail self.old }
+        ensures after { self.new ≡ record self.old { made = counted self.old.made } }
+    {
+        self.made = one_more(self.made);
+        self.fails.contains(&self.made)
     }
 
     /// Counts a failure of the call that was counted last.

@@ -1,11 +1,13 @@
 //! What the objects in memory tell.
 
 ghost use Rattle.std.specs.Prelude.{◌≡◌, ◌==◌, length};
-ghost use Rattle.tide_edge.specs.Memory.{HeldFiles, HeldSink, HeldClock, folder_of};
+ghost use Rattle.tide_edge.specs.Memory.{HeldFiles, HeldSink, HeldClock, HeldDoor, folder_of, traffic_of};
 
 use crate::clock::Clock;
+use crate::door::Door;
 use crate::files::Files;
 use crate::fixed_clock::FixedClock;
+use crate::memory_door::MemoryDoor;
 use crate::memory_files::MemoryFiles;
 use crate::memory_sink::MemorySink;
 use crate::sink::Sink;
@@ -31,4 +33,13 @@ pub fn fixed_clock_tells()
     ensures tells { (c : HeldClock) → ⟦<FixedClock as Clock>⟧.tells c }
     ensures minute { (c : HeldClock) → ⟦<FixedClock as Clock>⟧.minute_held c ≡ c.minute }
     ensures faults { (c : HeldClock) → ⟦<FixedClock as Clock>⟧.faults c ≡ c.calls.faults }
+{}
+
+/// A door in memory tells which requests wait and which replies were given.
+pub fn memory_door_tells()
+    ensures tells { (d : HeldDoor) → ⟦<MemoryDoor as Door>⟧.tells d }
+    ensures traffic { (d : HeldDoor) → ⟦<MemoryDoor as Door>⟧.traffic d ≡ traffic_of d }
+    ensures doorway { (d : HeldDoor) → ⟦<MemoryDoor as Door>⟧.doorway d ≡ d.doorway }
+    ensures faults { (d : HeldDoor) → ⟦<MemoryDoor as Door>⟧.faults d ≡ d.calls.faults }
+    ensures line_faults { (d : HeldDoor) → ⟦<MemoryDoor as Door>⟧.line_faults d ≡ d.line_faults }
 {}

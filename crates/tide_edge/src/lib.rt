@@ -1,4 +1,4 @@
-//! The outside of the program: files, where bytes are written to, and the clock.
+//! The outside of the program: files, where bytes are written to, the clock, and the door that connections come through.
 //!
 //! Each is a trait, with an implementation in memory that tells what it holds and one over the
 //! machine that doesn't. [`read_all`] reads a whole file and [`write_all`] writes all of its bytes,
@@ -8,32 +8,41 @@
 mod calls;
 mod clock;
 mod count;
+mod door;
+mod doorway;
 mod failed;
 mod files;
 mod fixed_clock;
 mod host_clock;
+mod host_door;
 mod host_fault;
 mod host_files;
 mod host_sink;
 mod laws;
+mod memory_door;
 mod memory_files;
 mod memory_sink;
 mod named_file;
+mod pieces;
 mod read_all_fault;
 mod reading;
+mod replies;
 mod rest;
 mod rows;
 mod sink;
 mod writing;
 
 pub use clock::Clock;
+pub use door::Door;
 pub use failed::Failed;
 pub use files::Files;
 pub use fixed_clock::FixedClock;
 pub use host_clock::HostClock;
+pub use host_door::HostDoor;
 pub use host_files::HostFiles;
 pub use host_sink::HostSink;
-pub use laws::{fixed_clock_tells, memory_files_tell, memory_sink_tells};
+pub use laws::{fixed_clock_tells, memory_door_tells, memory_files_tell, memory_sink_tells};
+pub use memory_door::MemoryDoor;
 pub use memory_files::MemoryFiles;
 pub use memory_sink::MemorySink;
 pub use named_file::NamedFile;

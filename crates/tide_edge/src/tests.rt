@@ -1,4 +1,4 @@
-ghost use Rattle.std.specs.Prelude.{◌≡◌, ◌≢◌, [], IfOk, MatchResult, OnErr, Ok, Err};
+ghost use Rattle.std.specs.Prelude.{◌≡◌, ◌≢◌, false, [], IsTrue, IfOk, MatchResult, OnErr, Ok, Err};
 ghost use Rattle.tide_edge.specs.Memory.{folder_of};
 ghost use Rattle.tide_edge.specs.Whole.{whole};
 
@@ -7,6 +7,8 @@ use decimal_text::{Bytes, Text};
 use std::alloc::{AllocError, Global};
 use std::fs::OpenOptions;
 use std::io;
+use std::io::{Read, Write};
+use std::net::{Ipv4Addr, TcpStream};
 use std::test::Fail;
 
 const PIER: [u8; 10] = *b"pier files";
@@ -153,4 +155,75 @@ fn a_closed_pipe_and_a_full_disk_fail(rt: HostRuntime) -> Result<(), Fail> {
 fn the_clock_of_the_machine_is_past_2026(rt: HostRuntime) {
     let minute = HostClock::new(rt).minute();
     assert!(rt; minute.is_ok_and(|minute| minute > 29_000_000 && minute < 10_000_000_000));
+}
+
+/// Takes one connection, and sends back what comes first over it.
+fn echo<D: Door>(door: &mut D) -> Result<bool, Failed>
+    requires listens { IsTrue (D.doorway door.old).listens }
+    requires none_open { (D.doorway door.old).is_open ≡ false }
+    ensures listens { IsTrue (D.doorway door.new).listens }
+    ensures none_open { (D.doorway door.new).is_open ≡ false }
+{
+    if !door.next()? {
+        return Ok(false);
+    }
+    let mut room = [0; 8];
+    let mut sent = door.read(&mut room);
+    if let Ok(count) = sent
+        && count > 0
+    {
+        sent = door.write(&room[..count]);
+    }
+    door.close();
+    sent.map(|_| true)
+}
+
+#[test]
+fn a_door_in_memory_fails_when_told(rt: HostRuntime) -> Result<(), Fail> {
+    let alloc = rt.alloc();
+    for (room, failing, expected, first) in [
+        (4, 0, [Ok(true), Ok(true), Ok(false)], "pier"),
+        (4, 2, [Err(Failed), Ok(true), Ok(true)], "pier"),
+        (4, 3, [Err(Failed), Ok(true), Ok(false)], ""),
+        (4, 4, [Err(Failed), Ok(true), Ok(false)], ""),
+        (4, 5, [Ok(true), Err(Failed), Ok(true)], "pier"),
+        (3, 7, [Ok(true), Ok(true), Err(Failed)], "pie"),
+        (0, 0, [Err(Failed), Ok(true), Ok(false)], ""),
+    ] {
+        let mut pieces = Vec::new(alloc);
+        pieces.push(Bytes::from_vec(b"pier".to_vec(alloc)?))?;
+        pieces.push(Bytes::from_vec(b" files".to_vec(alloc)?))?;
+        let mut requests = Vec::new(alloc);
+        requests.push(pieces)?;
+        requests.push(Vec::new(alloc))?;
+        let mut door = MemoryDoor::new(alloc, requests, room, [failing].to_vec(alloc)?)?;
+        assert_eq!(rt; door.listen(80), Ok(()));
+        let outcomes = [echo(&mut door), echo(&mut door), echo(&mut door)];
+        assert_eq!(rt; outcomes, expected, "room {room}, call {failing} fails");
+        assert_eq!(rt; door.reply(0), Some(first.as_bytes()));
+        assert_eq!(rt; door.reply(1), Some(b"".as_slice()));
+        assert_eq!(rt; door.reply(2), None);
+    }
+    let mut shut = MemoryDoor::new(alloc, Vec::new(alloc), 0, [1].to_vec(alloc)?)?;
+    assert_eq!(rt; shut.listen(80), Err(Failed));
+    Ok(())
+}
+
+#[test]
+fn a_port_of_the_machine_takes_a_connection(rt: HostRuntime) -> Result<(), Fail> {
+    let alloc = rt.alloc();
+    for port in 47_100..47_200 {
+        let mut door = HostDoor::new(rt.clone()?);
+        if door.listen(port).is_ok() {
+            assert_eq!(rt; HostDoor::new(rt.clone()?).listen(port), Err(Failed));
+            let mut peer = TcpStream::connect(&rt, (Ipv4Addr::LOCALHOST, port))?;
+            peer.write_all(b"pier")?;
+            assert_eq!(rt; echo(&mut door), Ok(true));
+            let mut answer = Vec::new(alloc);
+            peer.read_to_end(&mut answer)?;
+            assert_eq!(rt; answer.as_slice(), b"pier".as_slice());
+            return Ok(());
+        }
+    }
+    Err("no port is free")?
 }

@@ -1,0 +1,72 @@
+-- What a door tells of its connections (this project).
+use Rattle.std.specs.Prelude.{ℕ, Bool, true, false, List, [], ◌∷◌, ◌++◌, take, drop, Option, Some, None, Result, Ok, Err}
+use Rattle.std.specs.List.{concat}
+use Rattle.tide_edge.specs.declared.failed.Failed.{Failed}
+use Rattle.tide_edge.specs.Faults.{counted}
+
+-- What a door always tells: the port that it was asked to listen on, and whether it does; how many connections were taken, a
+-- count that stays at the last value of a `u64`; whether one is open; and whether `next` has answered that no more will come.
+pub record Doorway : Type 0 where
+  pub port : Option ℕ
+  pub listens : Bool
+  pub taken : ℕ
+  pub is_open : Bool
+  pub is_over : Bool
+
+-- before `listen`
+abbrev pub unasked : Doorway
+unasked = record { port = None; listens = false; taken = 0; is_open = false; is_over = false }
+
+-- after `listen`
+abbrev pub asked : ℕ → Bool → Doorway
+asked port listens =
+    record { port = Some port; listens = listens; taken = 0; is_open = false; is_over = false }
+
+-- after `next` has answered
+abbrev pub after_next : Result Bool Failed → Doorway → Doorway
+after_next (Ok true) d =
+    record { port = d.port; listens = d.listens; taken = counted d.taken; is_open = true; is_over = d.is_over }
+after_next (Ok false) d =
+    record { port = d.port; listens = d.listens; taken = d.taken; is_open = d.is_open; is_over = true }
+after_next (Err failed) d = d
+
+-- after `close`
+abbrev pub closed : Doorway → Doorway
+closed d =
+    record { port = d.port; listens = d.listens; taken = d.taken; is_open = false; is_over = d.is_over }
+
+-- What a door may tell besides: the requests that wait, each a list of pieces that aren't empty; the bytes of the open
+-- connection that weren't read yet; and the replies given, one a connection, of which an open connection's is the last.
+pub record Traffic : Type 0 where
+  pub waiting : List (List (List ℕ))
+  pub rest : List ℕ
+  pub replies : List (List ℕ)
+
+-- the bytes of the first request that waits
+abbrev pub first_bytes : List (List (List ℕ)) → List ℕ
+first_bytes [] = []
+first_bytes (request ∷ more) = concat request
+
+-- `next` takes the first request that waits, with an empty reply, unless it answers otherwise
+abbrev pub taken_by : Result Bool Failed → Traffic → Traffic
+taken_by (Ok true) t =
+    record { waiting = drop 1 t.waiting; rest = first_bytes t.waiting; replies = t.replies ++ [] ∷ [] }
+taken_by (Ok false) t = t
+taken_by (Err failed) t = t
+
+-- `read` leaves what comes after the bytes that it gave
+abbrev pub read_by : Result ℕ Failed → Traffic → Traffic
+read_by (Ok count) t = record { waiting = t.waiting; rest = drop count t.rest; replies = t.replies }
+read_by (Err failed) t = t
+
+-- the last reply with more bytes after it
+abbrev pub append_to_last : List (List ℕ) → List ℕ → List (List ℕ)
+append_to_last [] bytes = []
+append_to_last (reply ∷ []) bytes = (reply ++ bytes) ∷ []
+append_to_last (reply ∷ next ∷ more) bytes = reply ∷ append_to_last (next ∷ more) bytes
+
+-- `write` appends the bytes that it took to the open connection's reply
+abbrev pub written_by : Result ℕ Failed → List ℕ → Traffic → Traffic
+written_by (Ok count) piece t =
+    record { waiting = t.waiting; rest = t.rest; replies = append_to_last t.replies (take count piece) }
+written_by (Err failed) piece t = t

@@ -1,0 +1,82 @@
+//! What a door always tells.
+
+ghost use Rattle.std.specs.Prelude.{◌≡◌, Ok, true, false};
+
+use crate::count::one_more;
+use std::marker::Model;
+
+/// The port that a door was asked to listen on, and what came of it.
+#[derive(Debug, Drop)]
+pub(crate) struct Doorway {
+    port: Option<u16>,
+    listens: bool,
+    taken: u64,
+    is_open: bool,
+    is_over: bool,
+}
+
+impl Model for Doorway {
+    ghost use Rattle.tide_edge.specs.Doors as spec;
+
+    ghost Value = { spec.Doorway };
+
+    ghost view = { λ d. record {
+      port = d.port;
+      listens = d.listens;
+      taken = d.taken;
+      is_open = d.is_open;
+      is_over = d.is_over;
+    } };
+}
+
+impl Doorway {
+    ghost use Rattle.tide_edge.specs.Doors.{unasked, asked, after_next, closed};
+
+    /// Before the door is asked to listen.
+    pub(crate) fn unasked() -> Doorway
+        ensures { result ≡ unasked }
+    {
+        Doorway {
+            port: None,
+            listens: false,
+            taken: 0,
+            is_open: false,
+            is_over: false,
+        }
+    }
+
+    /// Where the door was asked to listen on that port.
+    pub(crate) fn asked(port: u16, listens: bool) -> Doorway
+        ensures { result ≡ asked port listens }
+    {
+        Doorway {
+            port: Some(port),
+            listens,
+            taken: 0,
+            is_open: false,
+            is_over: false,
+        }
+    }
+
+    /// Counts a connection, which is open from now on.
+    pub(crate) fn open(&mut self)
+        ensures { self.new ≡ after_next (Ok true) self.old }
+    {
+        self.taken = one_more(self.taken);
+        self.is_open = true;
+    }
+
+    /// No more connections will come.
+    pub(crate) fn end(&mut self)
+        ensures { self.new ≡ after_next (Ok false) self.old }
+    {
+        self.is_over = true;
+    }
+
+    /// The open connection ends.
+    pub(crate) fn close(&mut self)
+        ensures { self.new ≡ closed self.old }
+    {
+        self.is_open = false;
+    }
+}

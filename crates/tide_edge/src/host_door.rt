@@ -1,0 +1,102 @@
+//! A port of the machine.
+
+ghost use Rattle.std.specs.Prelude.{◌≡◌, []};
+
+use crate::door::Door;
+use crate::doorway::Doorway;
+use crate::failed::Failed;
+use crate::host_fault::{count_fault, outcome};
+use std::io::{Read, Write};
+use std::net::{Ipv4Addr, Net, OpenListener, TcpListener};
+
+/// A port of the machine, at 127.0.0.1 alone. It doesn't tell what comes and what is sent.
+///
+/// It waits for the next connection for as long as it takes, so `next` never answers that no more will come.
+#[derive(Drop)]
+pub struct HostDoor<R: Net + Drop> {
+    system: R,
+    listener: Option<R::Listener>,
+    stream: Option<R::Stream>,
+    doorway: Doorway,
+    faults: u64,
+    line_faults: u64,
+}
+
+impl<R: Net + Drop> HostDoor<R> {
+    ghost use Rattle.tide_edge.specs.Doors.{unasked};
+
+    /// A door that wasn't asked to listen yet.
+    pub fn new(system: R) -> HostDoor<R>
+        ensures doorway { ⟦<HostDoor<R> as Door>⟧.doorway result ≡ unasked }
+        ensures faults { ⟦<HostDoor<R> as Door>⟧.faults result ≡ 0 }
+        ensures line_faults { ⟦<HostDoor<R> as Door>⟧.line_faults result ≡ 0 }
+    {
+        HostDoor {
+            system,
+            listener: None,
+            stream: None,
+            doorway: Doorway::unasked(),
+            faults: 0,
+            line_faults: 0,
+        }
+    }
+}
+
+impl<R: Net + Drop> Door for HostDoor<R> {
+    ghost tells = { λ _. ⊥ };
+
+    ghost traffic = { λ _. record { waiting = []; rest = []; replies = [] } };
+
+    ghost doorway = { λ h. h.doorway };
+
+    ghost faults = { λ h. h.faults };
+
+    ghost line_faults = { λ h. h.line_faults };
+
+    fn listen(&mut self, port: u16) -> Result<(), Failed> {
+        match TcpListener::bind(&self.system, (Ipv4Addr::LOCALHOST, port)) {
+            Ok(listener) => {
+                self.listener = Some(listener);
+                self.doorway = Doorway::asked(port, true);
+                Ok(())
+            }
+            Err(_) => {
+                self.doorway = Doorway::asked(port, false);
+                Err(count_fault(&mut self.faults))
+            }
+        }
+    }
+
+    fn next(&mut self) -> Result<bool, Failed> {
+        if let Some(listener) = &self.listener
+            && let Ok((stream, _)) = listener.accept()
+        {
+            self.stream = Some(stream);
+            self.doorway.open();
+            return Ok(true);
+        }
+        Err(count_fault(&mut self.faults))
+    }
+
+    fn read(&mut self, room: &mut [u8]) -> Result<usize, Failed> {
+        match &mut self.stream {
+            Some(stream) => outcome(&mut self.line_faults, stream.read(room)),
+            None => Err(count_fault(&mut self.line_faults)),
+        }
+    }
+
+    fn write(&mut self, piece: &[u8]) -> Result<usize, Failed> {
+        if let Some(stream) = &mut self.stream
+            && let Ok(count) = stream.write(piece)
+            && count > 0
+        {
+            return Ok(count);
+        }
+        Err(count_fault(&mut self.line_faults))
+    }
+
+    fn close(&mut self) {
+        self.stream = None;
+        self.doorway.close();
+    }
+}

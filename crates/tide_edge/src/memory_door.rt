@@ -1,0 +1,178 @@
+//! A door in memory.
+
+ghost use Rattle.std.specs.Prelude.{◌≡◌, ◌↔◌, ◌<◌, ◌≤◌, ◌++◌, false, IsTrue, [], length, map, take, drop, Some, None, IfOk, MatchOption, is_err, slice_get};
+ghost use Rattle.std.specs.List.{concat, list_all};
+ghost use Rattle.tide_edge.specs.Faults.{faults_after};
+ghost use Rattle.tide_edge.specs.Memory.{are_pieces};
+
+use crate::calls::Calls;
+use crate::door::Door;
+use crate::doorway::Doorway;
+use crate::failed::Failed;
+use crate::host_fault::count_fault;
+use crate::pieces::Pieces;
+use crate::replies::Replies;
+use decimal_text::Bytes;
+use std::alloc::{AllocError, Global};
+use std::collections::VecDeque;
+use std::marker::Model;
+
+/// A door in memory, which tells which requests wait and which replies were given.
+#[derive(Debug, Drop)]
+pub struct MemoryDoor {
+    doorway: Doorway,
+    waiting: VecDeque<Vec<Bytes>>,
+    coming: Pieces,
+    replies: Replies,
+    calls: Calls,
+    line_faults: u64,
+}
+
+impl Model for MemoryDoor {
+    ghost use Rattle.std.specs.Prelude.{◌≤◌, IsTrue, map};
+    ghost use Rattle.std.specs.List.{list_all};
+    ghost use Rattle.std.specs.VecDeque.{deque_len};
+    ghost use Rattle.tide_edge.specs.Memory.{HeldDoor, are_pieces};
+
+    ghost Value = { HeldDoor };
+
+    ghost view = { λ d. record {
+      doorway = d.doorway;
+      waiting = map (λ request. request.items) d.waiting.items;
+      coming = d.coming;
+      replies = d.replies.replies;
+      room = d.replies.room;
+      calls = d.calls;
+      line_faults = d.line_faults;
+    } };
+
+    ghost invariant = { λ d. (deque_len d.waiting ≤ d.replies.more)
+        × IsTrue (list_all (λ request. are_pieces request.items) d.waiting.items) };
+}
+
+impl MemoryDoor {
+    ghost use Rattle.tide_edge.specs.Doors.{unasked};
+
+    /// A door at which these requests wait, each in pieces that come one by one and aren't empty.
+    /// All replies together may have `room` bytes. A call fails where its number is in `fails`, and a write also where the room
+    /// is full; calls are counted from 1, those of `close` aside.
+    /// It takes the memory for its room here, and none later.
+    pub fn new(
+        alloc: Global,
+        requests: Vec<Vec<Bytes>>,
+        room: u64,
+        fails: Vec<u64>,
+    ) -> Result<MemoryDoor, AllocError>
+        requires { IsTrue (list_all (λ request. are_pieces request.items) requests.items) }
+        ensures { IfOk result (λ door. door ≡ record {
+          doorway = unasked;
+          waiting = map (λ request. request.items) requests.items;
+          coming = [];
+          replies = [];
+          room = room;
+          calls = record { fails = fails.items; made = 0; faults = 0 };
+          line_faults = 0;
+        }) }
+    {
+        Ok(MemoryDoor {
+            doorway: Doorway::unasked(),
+            replies: Replies::new(alloc, room, requests.len())?,
+            waiting: VecDeque::from(requests),
+            coming: Pieces::new(Vec::new(alloc)),
+            calls: Calls::new(fails),
+            line_faults: 0,
+        })
+    }
+
+    /// The reply of a connection, counted from 0, if more connections than that were taken.
+    pub fn reply(&self, i: u64) -> Option<&[u8]>
+        ensures { MatchOption result (length self.now.replies ≤ i)
+            (λ reply. slice_get self.now.replies i ≡ Some reply.now) }
+    {
+        self.replies.get(i)
+    }
+}
+
+impl Door for MemoryDoor {
+    ghost use Rattle.tide_edge.specs.Calls.{answer, is_to_fail};
+    ghost use Rattle.tide_edge.specs.Memory.{traffic_of, comes, after_listen, after_taking, line_count, after_line_read, is_shut, reply_count, after_line_write, after_close};
+
+    ghost tells = { λ _. Unit {0} };
+
+    ghost traffic = { λ d. traffic_of d };
+
+    ghost doorway = { λ d. d.doorway };
+
+    ghost faults = { λ d. d.calls.faults };
+
+    ghost line_faults = { λ d. d.line_faults };
+
+    fn listen(&mut self, port: u16) -> Result<(), Failed>
+        requires { self.old.doorway.port ≡ None }
+        ensures answer { result ≡ answer (is_to_fail self.old.calls) record {} }
+        ensures after { self.new ≡ after_listen self.old port }
+        ensures counts { self.new.calls.faults ≡ faults_after (is_err result) self.old.calls.faults }
+    {
+        let outcome = self.calls.next();
+        self.doorway = Doorway::asked(port, outcome.is_ok());
+        outcome
+    }
+
+    fn next(&mut self) -> Result<bool, Failed>
+        requires listens { IsTrue self.old.doorway.listens }
+        requires none_open { self.old.doorway.is_open ≡ false }
+        ensures answer { result ≡ comes self.old }
+        ensures after { self.new ≡ after_taking self.old }
+        ensures counts { self.new.calls.faults ≡ faults_after (is_err result) self.old.calls.faults }
+    {
+        self.calls.next()?;
+        let Some(pieces) = self.waiting.pop_front() else {
+            self.doorway.end();
+            return Ok(false);
+        };
+        self.coming = Pieces::new(pieces);
+        self.replies.begin();
+        self.doorway.open();
+        Ok(true)
+    }
+
+    fn read(&mut self, room: &mut [u8]) -> Result<usize, Failed>
+        requires room { 0 < length room.old }
+        requires open { IsTrue self.old.doorway.is_open }
+        ensures answer { result ≡ answer (is_to_fail self.old.calls) (line_count self.old (length room.old)) }
+        ensures after { self.new ≡ after_line_read self.old (length room.old) }
+        ensures filled { room.new ≡ take (line_count self.old (length room.old)) (concat self.old.coming)
+            ++ drop (line_count self.old (length room.old)) room.old }
+        ensures end { IfOk result (λ count. (count ≡ 0) ↔ (concat self.old.coming ≡ [])) }
+        ensures counts { self.new.line_faults ≡ faults_after (is_err result) self.old.line_faults }
+    {
+        if self.calls.is_next_to_fail() {
+            return Err(count_fault(&mut self.line_faults));
+        }
+        Ok(self.coming.read(room))
+    }
+
+    fn write(&mut self, piece: &[u8]) -> Result<usize, Failed>
+        requires piece { 0 < length piece.now }
+        requires open { IsTrue self.old.doorway.is_open }
+        ensures answer { result ≡ answer (is_shut self.old) (reply_count self.old (length piece.now)) }
+        ensures after { self.new ≡ after_line_write self.old piece.now }
+        ensures some { IfOk result (λ count. 0 < count) }
+        ensures counts { self.new.line_faults ≡ faults_after (is_err result) self.old.line_faults }
+    {
+        let room = self.replies.room();
+        if self.calls.is_next_to_fail() || room == 0 {
+            return Err(count_fault(&mut self.line_faults));
+        }
+        let count = (piece.len() as u64).min(room) as usize;
+        self.replies.append(&piece[..count]);
+        Ok(count)
+    }
+
+    fn close(&mut self)
+        requires { IsTrue self.old.doorway.is_open }
+        ensures { self.new ≡ after_close self.old }
+    {
+        self.doorway.close();
+    }
+}

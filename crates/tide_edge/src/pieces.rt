@@ -1,0 +1,65 @@
+//! What is left of a connection's bytes.
+
+ghost use Rattle.std.specs.Prelude.{◌≡◌, ◌↔◌, ◌<◌, ◌++◌, IsTrue, [], length, take, drop};
+ghost use Rattle.std.specs.List.{concat};
+ghost use Rattle.tide_edge.specs.Memory.{are_pieces, piece_count, pieces_after};
+
+use crate::rest::rest_from;
+use decimal_text::Bytes;
+use std::collections::VecDeque;
+use std::marker::Model;
+
+/// The pieces of a connection that weren't read yet, of which none is empty.
+#[derive(Debug, Drop)]
+pub(crate) struct Pieces {
+    pieces: VecDeque<Bytes>,
+    at: usize,
+}
+
+impl Model for Pieces {
+    ghost use Rattle.std.specs.Prelude.{List, ℕ, IsTrue};
+    ghost use Rattle.tide_edge.specs.Memory.{are_pieces};
+    ghost use Rattle.tide_edge.specs.Workings.Lines.{pieces_from};
+
+    ghost Value = { List (List ℕ) };
+
+    ghost view = { λ p. pieces_from p.at p.pieces.items };
+
+    ghost invariant = { λ p. IsTrue (are_pieces (pieces_from p.at p.pieces.items)) };
+}
+
+impl Pieces {
+    /// All of some pieces.
+    pub(crate) fn new(pieces: Vec<Bytes>) -> Pieces
+        requires { IsTrue (are_pieces pieces.items) }
+        ensures { result ≡ pieces.items }
+    {
+        Pieces {
+            pieces: VecDeque::from(pieces),
+            at: 0,
+        }
+    }
+
+    /// Copies the next bytes of the first piece into the begin of `room`, and answers how many.
+    pub(crate) fn read(&mut self, room: &mut [u8]) -> usize
+        requires { 0 < length room.old }
+        ensures end { (result ≡ 0) ↔ (concat self.old ≡ []) }
+        ensures count { result ≡ piece_count self.old (length room.old) }
+        ensures after { self.new ≡ pieces_after result self.old }
+        ensures filled { room.new ≡ take result (concat self.old) ++ drop result room.old }
+    {
+        let Some(piece) = self.pieces.front() else {
+            return 0;
+        };
+        let rest = rest_from(piece.as_slice(), self.at);
+        let count = room.len().min(rest.len());
+        room[..count].copy_from_slice(&rest[..count]);
+        if count == rest.len() {
+            self.pieces.pop_front();
+            self.at = 0;
+        } else {
+            self.at += count;
+        }
+        count
+    }
+}

@@ -1,0 +1,94 @@
+//! The replies of a door in memory.
+
+ghost use Rattle.std.specs.Prelude.{◌≡◌, ◌<◌, ◌≤◌, ◌+◌, ◌-◌, ◌++◌, [], ◌∷◌, All, length, Some, IfOk, MatchOption, slice_get};
+ghost use Rattle.tide_edge.specs.Doors.{append_to_last};
+
+use crate::rest::rest_from;
+use std::alloc::{AllocError, Global};
+use std::marker::Model;
+
+/// Replies, one after the other in memory that was taken for all of them.
+#[derive(Debug, Drop)]
+pub(crate) struct Replies {
+    bytes: Vec<u8>,
+    starts: Vec<usize>,
+    room: u64,
+    more: usize,
+}
+
+impl Model for Replies {
+    ghost use Rattle.std.specs.Prelude.{◌≤◌, ◌+◌, All, length, vec_len, vec_capacity};
+    ghost use Rattle.tide_edge.specs.Workings.Lines.{HeldReplies, parts};
+
+    ghost Value = { HeldReplies };
+
+    ghost view = { λ r. record { replies = parts r.starts.items r.bytes.items; room = r.room; more = r.more } };
+
+    ghost invariant = { λ r. (vec_len r.bytes + r.room ≤ vec_capacity r.bytes)
+        × (vec_len r.starts + r.more ≤ vec_capacity r.starts)
+        × All (λ start. start ≤ length r.bytes.items) r.starts.items };
+}
+
+impl Replies {
+    /// No reply yet, with memory for so many bytes and so many replies.
+    pub(crate) fn new(alloc: Global, room: u64, more: usize) -> Result<Replies, AllocError>
+        ensures { IfOk result (λ replies. replies ≡ record { replies = []; room = room; more = more }) }
+    {
+        Ok(Replies {
+            bytes: Vec::with_capacity(alloc, room as usize)?,
+            starts: Vec::with_capacity(alloc, more)?,
+            room,
+            more,
+        })
+    }
+
+    /// Begins one more reply.
+    pub(crate) fn begin(&mut self)
+        requires { 0 < self.old.more }
+        ensures { self.new ≡ record {
+          replies = self.old.replies ++ [] ∷ [];
+          room = self.old.room;
+          more = self.old.more - 1;
+        } }
+    {
+        self.more -= 1;
+        self.starts.push(self.bytes.len()).unwrap();
+    }
+
+    /// Appends to the last reply.
+    pub(crate) fn append(&mut self, piece: &[u8])
+        requires { length piece.now ≤ self.old.room }
+        ensures { self.new ≡ record {
+          replies = append_to_last self.old.replies piece.now;
+          room = self.old.room - length piece.now;
+          more = self.old.more;
+        } }
+    {
+        self.room -= piece.len() as u64;
+        self.bytes.extend_from_slice(piece).unwrap();
+    }
+
+    /// How many more bytes the replies may take.
+    pub(crate) fn room(&self) -> u64
+        ensures { result ≡ self.now.room }
+    {
+        self.room
+    }
+
+    /// The reply at a place, counted from 0.
+    pub(crate) fn get(&self, place: u64) -> Option<&[u8]>
+        ensures { MatchOption result (length self.now.replies ≤ place)
+            (λ reply. slice_get self.now.replies place ≡ Some reply.now) }
+    {
+        let at = place as usize;
+        if at >= self.starts.len() {
+            return None;
+        }
+        let end = if at + 1 < self.starts.len() {
+            self.starts[at + 1]
+        } else {
+            self.bytes.len()
+        };
+        Some(rest_from(&self.bytes[..end], self.starts[at]))
+    }
+}
