@@ -1,6 +1,6 @@
 //! The whole file.
 
-ghost use Rattle.std.specs.Prelude.{◌≡◌, ◌++◌, codes, decimal, IfOk, OnOk};
+ghost use Rattle.std.specs.Prelude.{◌≡◌, ◌≤◌, ◌++◌, codes, decimal, length, IfOk, OnOk};
 ghost use Rattle.sample_tides.specs.File.{heading, file, sample_of};
 ghost use Rattle.sample_tides.specs.Parts.{line};
 
@@ -33,7 +33,8 @@ const FACTOR: Quantity = Quantity {
 /// [`AllocError`] where there is no memory for the text.
 #[tactic(auto, unfolding(crate::specs::File::sample_of))]
 pub fn sample(alloc: Global, seed: u64) -> Result<Bytes, AllocError>
-    ensures { IfOk result (λ bytes. bytes ≡ sample_of seed) }
+    ensures exact { IfOk result (λ bytes. bytes ≡ sample_of seed) }
+    ensures short { IfOk result (λ bytes. length bytes ≤ 400000000) }
 {
     let mut draft = Draft::new(alloc, seed);
     append_file(&mut draft, seed)?;
