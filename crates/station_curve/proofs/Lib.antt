@@ -7,9 +7,8 @@ mod WavesOf
 mod ReadyYears
 mod Circling
 pub mod Gentle
-mod Predicting
+pub mod Predicting
 mod Answering
-mod Quiet
 pub mod Gaps
 pub mod YearChanges
 pub mod Steps

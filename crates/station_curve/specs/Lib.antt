@@ -3,7 +3,6 @@ pub mod Levels
 pub mod Schureman
 pub mod Sums
 pub mod Limits
-pub mod Rates
 pub mod Curves
 pub mod Worked
 pub mod Workings

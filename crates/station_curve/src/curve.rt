@@ -5,12 +5,11 @@ ghost use Rattle.harmonics_text.specs.Books.{IsBook, IsStation};
 ghost use Rattle.station_curve.specs.Curves.{is_hydraulic};
 ghost use Rattle.year_blend.specs.Years.{year_start_of};
 ghost use Rattle.year_blend.specs.declared.parts.Place.TheVariants.{Plain};
-ghost use Rattle.year_blend.specs.Places.{InDomain, plain_end_of};
+ghost use Rattle.year_blend.specs.Places.{InDomain};
 ghost use Rattle.year_blend.specs.Weights.{total_weight};
 
 use crate::blend::{drift, mixed, weighted};
 use crate::fault::CurveFault;
-use crate::rates::{kept_within, slope_rate};
 use crate::summing::{falls, heights};
 use crate::year_sums::Sums;
 use crate::years::{Year, years_of};
@@ -18,7 +17,7 @@ use decimal_text::rounded;
 use harmonics_text::{Book, Station, Units};
 use std::alloc::{AllocError, Global};
 use std::marker::Model;
-use year_blend::{Place, TOTAL_WEIGHT, place, plain_end, weight, year_start};
+use year_blend::{Place, TOTAL_WEIGHT, place, weight, year_start};
 
 /// The level and the slope of a station at each minute of a book's years.
 ///
@@ -55,7 +54,6 @@ impl StationCurve {
     ghost use Rattle.station_curve.specs.Limits.{IsGentle, AreGentle};
     ghost use Rattle.station_curve.specs.Workings.Nearness.{IsNear, IsNearPlace};
     ghost use Rattle.station_curve.specs.Sums.{sums_of};
-    ghost use Rattle.station_curve.specs.Rates.{quiet_minutes_of};
     ghost use Rattle.station_curve.specs.Levels.{minutes_into, waves_in, place_in_tide, year_level, year_slope, level_of, slope_of, millionths_of};
 
     /// The curve of a station by its place in the book's list.
@@ -181,26 +179,6 @@ impl StationCurve {
         }
     }
 
-    /// For how many minutes on from `m` the slope keeps its side for certain, where it is `slope` at
-    /// `m`: in the plain part of a year it changes by no more than the year's rate in a minute. In a
-    /// blend there is no rate, and the answer is 0.
-    pub fn quiet_minutes(&self, m: i64, slope: i128) -> u64
-        requires domain { InDomain self.now.first_year (length self.now.years) m }
-        requires slope { slope ≡ slope_of self.now m }
-        ensures value { result ≡ quiet_minutes_of self.now m }
-        ensures within { InDomain self.now.first_year (length self.now.years) (m +ℤ pos result) }
-        ensures quiet { (k : ℕ) → k ≤ result
-            → int_lt (pos 0) (slope_of self.now (m +ℤ pos k)) ≡ int_lt (pos 0) (slope_of self.now m) }
-    {
-        match self.place(m) {
-            Place::Plain { year } => {
-                let rate = slope_rate(&self.years[year as usize].sums);
-                kept_within(slope, rate, self.plain_minutes(year, m))
-            }
-            Place::Blend { .. } => 0,
-        }
-    }
-
     /// The level at a minute in whole millionths of the station's unit, a half away from 0.
     pub fn millionths(&self, m: i64) -> i64
         requires { InDomain self.now.first_year (length self.now.years) m }
@@ -217,16 +195,6 @@ impl StationCurve {
         ensures near { IsNearPlace self.now.first_year (length self.now.years) m result }
     {
         place(self.first_year, self.years(), m)
-    }
-
-    /// The minutes from a minute of a year's plain part to its end.
-    fn plain_minutes(&self, year: u32, m: i64) -> u64
-        requires domain { InDomain self.now.first_year (length self.now.years) m }
-        requires plain { Plain year ≡ place_in_tide self.now m }
-        requires year { year < length self.now.years }
-        ensures { result ≡ unsigned_abs (plain_end_of self.now.first_year (length self.now.years) year -ℤ m) }
-    {
-        (plain_end(self.first_year, self.years(), year) - m) as u64
     }
 
     /// The level by one year's constants.

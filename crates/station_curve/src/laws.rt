@@ -7,7 +7,6 @@ ghost use Rattle.station_curve.specs.Curves.{waves_of, tide_of, curve_of};
 ghost use Rattle.station_curve.specs.Schureman.{amplitude_of, phase_of, predicted_level, predicted_slope, predicted_millionths};
 ghost use Rattle.station_curve.specs.Waves.{heights_of, falls_of};
 ghost use Rattle.station_curve.specs.Sums.{sums_of};
-ghost use Rattle.station_curve.specs.Rates.{slope_rate_of, kept_for};
 ghost use Rattle.station_curve.specs.Worked.{small_book, small_station, small_wave, pier_book, shifted_book, pier, harbour_book, harbour};
 
 /// A wave that turns by half a degree a minute: its height, and what it takes off the level.
@@ -78,21 +77,4 @@ pub fn worked_sums()
         ≡ record { amount = pos 1615490; steep = pos 472298888140580; near = pos 13739175163240; far = pos 4017639740183984896080 } }
     ensures harbour_2001 { sums_of (waves_of harbour_book harbour 1)
         ≡ record { amount = pos 1449234; steep = pos 422079284261828; near = pos 12278286689384; far = pos 3576482855350780498128 } }
-{}
-
-/// The rate of one wave's slope, and for how long values keep their sides at a rate of 5: 1 and 5
-/// might be 0 a minute later, 6 not before two. Values of 0 and below may rise to 0.
-#[tactic(auto, unfolding(crate::specs::Rates::kept_for))]
-pub fn worked_rates()
-    ensures one_wave { slope_rate_of (small_wave ∷ []) ≡ 4147200000 * (3 * 10 ^ 14 * 8727001) }
-    ensures one { kept_for (pos 1) 5 ≡ 0 }
-    ensures at_the_rate { kept_for (pos 5) 5 ≡ 0 }
-    ensures past_the_rate { kept_for (pos 6) 5 ≡ 1 }
-    ensures past_twice_the_rate { kept_for (pos 11) 5 ≡ 2 }
-    ensures zero { kept_for (pos 0) 5 ≡ 0 }
-    ensures minus_one { kept_for (negsuc 0) 5 ≡ 0 }
-    ensures minus_the_rate { kept_for (negsuc 4) 5 ≡ 1 }
-    ensures minus_past_the_rate { kept_for (negsuc 5) 5 ≡ 1 }
-    ensures minus_twice_the_rate { kept_for (negsuc 9) 5 ≡ 2 }
-    ensures without_a_rate { kept_for (pos 3) 0 ≡ 2 }
 {}

@@ -11,7 +11,6 @@ mod constants;
 mod curve;
 mod fault;
 mod laws;
-mod rates;
 mod summing;
 mod wave;
 mod year_sums;
@@ -21,8 +20,7 @@ pub use changes::{year_changes, year_sizes};
 pub use curve::StationCurve;
 pub use fault::CurveFault;
 pub use laws::{
-    worked_constants, worked_levels, worked_limits, worked_rates, worked_slopes, worked_sums,
-    worked_waves,
+    worked_constants, worked_levels, worked_limits, worked_slopes, worked_sums, worked_waves,
 };
 pub use year_sums::Sums;
 

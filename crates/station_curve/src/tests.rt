@@ -82,42 +82,6 @@ fn sums_of_years(rt: HostRuntime) -> Result<(), Fail> {
     Ok(())
 }
 
-/// For how many minutes the slope keeps its side.
-fn quiet(curve: &StationCurve, m: i64) -> Option<u64> {
-    let first = curve.first();
-    let last = curve.last();
-    if m < first || last < m {
-        return None;
-    }
-    Some(curve.quiet_minutes(m, curve.slope(m)))
-}
-
-#[test]
-fn quiet_minutes_end_with_the_plain_part(rt: HostRuntime) -> Result<(), Fail> {
-    let book = pier(rt.alloc(), "30", "0", "1", "feet")?;
-    assert_eq!(rt; book.stations.as_slice().len(), 1);
-    let curve = StationCurve::new(rt.alloc(), &book, 0)?;
-    let rows = [
-        (15_791_220, 114),
-        (15_791_580, 114),
-        (15_791_040, 0),
-        (15_777_960, 60),
-        (15_778_010, 10),
-        (15_778_020, 0),
-        (15_778_021, 0),
-        (15_778_080, 0),
-        (15_778_139, 0),
-        (15_778_140, 57),
-        (16_830_540, 114),
-        (16_830_620, 87),
-        (16_830_720, 0),
-    ];
-    for (m, want) in rows {
-        assert_eq!(rt; quiet(&curve, m), Some(want), "at {m}");
-    }
-    Ok(())
-}
-
 #[test]
 fn limits(rt: HostRuntime) -> Result<(), Fail> {
     let steep = Some(CurveFault::TooSteep { year: 1999 });
