@@ -1,0 +1,3 @@
+pub mod CoveringLemmas
+pub mod FindingLemmas
+pub mod SpanLemmas

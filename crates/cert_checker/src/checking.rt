@@ -1,0 +1,72 @@
+//! The check of a track's cells.
+
+ghost use Rattle.std.specs.Prelude.{◌≡◌, ◌+◌, ◌<◌, ◌≤◌, ◌^◌, pos, ◌+ℤ◌, ◌-ℤ◌, ◌≤ℤ◌, unsigned_abs, length};
+ghost use Rattle.curve_law.specs.declared.verdict.Verdict.{Verdict};
+ghost use Rattle.curve_law.specs.Track.{plain_list};
+ghost use Rattle.curve_law.specs.Meaning.{IsSpan};
+ghost use Rattle.curve_law.specs.Cells.{minutes_of, all_minutes, turns};
+ghost use Rattle.curve_law.specs.Verdicts.{cells_verdict, verdict};
+
+use crate::covering::{covered_by, minutes_of};
+use crate::finding::finding_on;
+use curve_law::{Cell, Cells, Curve, Point, Verdict, point_at};
+
+/// What is found on cells that are said to be those of the minutes from `begin` on and before `end`,
+/// which the curve tells: first whether they have its minutes, and then the first cell that is wrong.
+/// Accepted cells have exactly the events of the span.
+///
+/// There are fewer than 2^32 cells, and with the values that the curve was asked for at most 2^62. The
+/// curve is asked for at most one value a cell and one more.
+pub fn check_track<C: Curve>(curve: &mut C, cells: &Cells, begin: i64, end: i64) -> Verdict
+    requires forward { begin ≤ℤ end }
+    requires first { (C.meaning curve.old).first ≤ℤ begin }
+    requires last { end ≤ℤ (C.meaning curve.old).last }
+    requires few { length cells.now < 2 ^ 32 }
+    requires count { C.count curve.old + length cells.now ≤ 2 ^ 62 }
+    ensures verdict { result ≡ verdict (C.meaning curve.old) begin (unsigned_abs (end -ℤ begin)) cells.now }
+    ensures exact { result ≡ Verdict.Accepted →
+        turns begin cells.now ≡ plain_list (C.meaning curve.old).track begin (unsigned_abs (end -ℤ begin)) }
+    ensures count { C.count curve.new ≤ C.count curve.old + length cells.now + 1 }
+    ensures same { C.meaning curve.new ≡ C.meaning curve.old }
+{
+    let wanted = end - begin;
+    let covered = covered_by(cells.as_slice());
+    if covered != wanted {
+        return Verdict::WrongLength { covered, wanted };
+    }
+    first_finding(curve, cells.as_slice(), begin)
+}
+
+/// The first finding on cells that lie over their minutes from `begin` on.
+fn first_finding<C: Curve>(curve: &mut C, cells: &[Cell], begin: i64) -> Verdict
+    requires span { IsSpan (C.meaning curve.old) begin (all_minutes cells.now) }
+    requires few { length cells.now < 2 ^ 32 }
+    requires count { C.count curve.old + length cells.now ≤ 2 ^ 62 }
+    ensures verdict { result ≡ cells_verdict (C.meaning curve.old) begin 1 cells.now }
+    ensures count { C.count curve.new ≤ C.count curve.old + length cells.now + 1 }
+    ensures same { C.meaning curve.new ≡ C.meaning curve.old }
+{
+    let mut at = point_at(curve, begin);
+    let mut number: u32 = 0;
+    for cell in cells {
+        let end = end_of(curve, at.minute, *cell);
+        number += 1;
+        match finding_on(curve, number, *cell, at, end.value) {
+            Verdict::Accepted => at = end,
+            wrong => return wrong,
+        }
+    }
+    Verdict::Accepted
+}
+
+/// The point at which the cell ends that begins at a minute.
+fn end_of<C: Curve>(curve: &mut C, begin: i64, cell: Cell) -> Point
+    requires span { IsSpan (C.meaning curve.old) begin (minutes_of cell) }
+    requires few { C.count curve.old < 2 ^ 63 }
+    ensures minute { result.minute ≡ begin +ℤ pos (minutes_of cell) }
+    ensures value { result.value ≡ (C.meaning curve.old).track.value result.minute }
+    ensures counted { C.count curve.new ≡ C.count curve.old + 1 }
+    ensures same { C.meaning curve.new ≡ C.meaning curve.old }
+{
+    point_at(curve, begin + i64::from(minutes_of(cell)))
+}

@@ -1,0 +1,144 @@
+ghost use Rattle.std.specs.Prelude.{◌≡◌, ◌≤ℤ◌, IsTrue};
+
+use super::*;
+use curve_law::samples::{Line, Ripple};
+use curve_law::{Cell, Cells, Curve, Kind, Verdict};
+use std::alloc::{AllocError, Global};
+
+// Whether cells may be checked on a curve, of which no value was asked yet.
+fn can_check<C: Curve>(curve: &C, begin: i64, end: i64) -> bool
+    ensures { IsTrue result → (begin ≤ℤ end) × ((C.meaning curve.now).first ≤ℤ begin) × (end ≤ℤ (C.meaning curve.now).last) × (C.count curve.now ≡ 0) }
+{
+    begin <= end && curve.first() <= begin && end <= curve.last() && curve.evaluations() == 0
+}
+
+// Whether the check of these cells finds this, and asks for no more than one value a cell and one more.
+fn finds<C: Curve + Drop>(
+    alloc: Global,
+    curve: C,
+    begin: i64,
+    end: i64,
+    cells: &[Cell],
+    wanted: Verdict,
+) -> Result<bool, AllocError> {
+    let mut curve = curve;
+    if !can_check(&curve, begin, end) || cells.len() > 1000 {
+        return Ok(false);
+    }
+    let mut copied = Vec::new(alloc);
+    copied.extend_from_slice(cells)?;
+    let found = check_track(&mut curve, &Cells::from_vec(copied), begin, end);
+    Ok(found == wanted && curve.evaluations() as usize <= cells.len() + 1)
+}
+
+// A line that rises past 0 after minute 2, where its level is 2.
+fn rising() -> Line {
+    Line::new(-2, false, 1)
+}
+
+#[test]
+fn right_cells_are_accepted(rt: HostRuntime) -> Result<(), AllocError> {
+    let alloc = rt.alloc();
+    let turn = Cell::Turn(Kind::Low, 2);
+    let still = Cell::Still;
+    let spans: [(i64, &[Cell]); 5] = [
+        (8, &[Cell::Quiet(2), turn, still, Cell::Quiet(4)]),
+        (8, &[still, still, turn, still, still, still, still, still]),
+        (8, &[Cell::Quiet(2), turn, still, still, Cell::Quiet(3)]),
+        (2, &[Cell::Quiet(2)]),
+        (0, &[]),
+    ];
+    for (end, cells) in spans {
+        assert!(rt; finds(alloc, rising(), 0, end, cells, Verdict::Accepted)?);
+    }
+    let ripples = [
+        Cell::Turn(Kind::MarkRising, 0),
+        Cell::Turn(Kind::MarkFalling, 0),
+    ];
+    assert!(rt; finds(alloc, Ripple::new(), -1, 1, &ripples, Verdict::Accepted)?);
+    Ok(())
+}
+
+#[test]
+fn the_first_wrong_cell_is_named(rt: HostRuntime) -> Result<(), AllocError> {
+    let alloc = rt.alloc();
+    let turn = Cell::Turn(Kind::Low, 2);
+    let still = Cell::Still;
+    let low = Cell::Turn(Kind::Low, 3);
+    let high = Cell::Turn(Kind::High, 3);
+    let rows: [(i64, &[Cell], Verdict); 14] = [
+        (8, &[Cell::Quiet(8)], Verdict::NotQuiet { cell: 1 }),
+        (
+            8,
+            &[Cell::Quiet(2), turn, still, Cell::Quiet(3)],
+            Verdict::WrongLength {
+                covered: 7,
+                wanted: 8,
+            },
+        ),
+        (
+            8,
+            &[Cell::Quiet(u32::MAX), Cell::Quiet(u32::MAX)],
+            Verdict::WrongLength {
+                covered: 8_589_934_590,
+                wanted: 8,
+            },
+        ),
+        (
+            8,
+            &[],
+            Verdict::WrongLength {
+                covered: 0,
+                wanted: 8,
+            },
+        ),
+        (
+            0,
+            &[still],
+            Verdict::WrongLength {
+                covered: 1,
+                wanted: 0,
+            },
+        ),
+        (1025, &[Cell::Quiet(1025)], Verdict::NotQuiet { cell: 1 }),
+        (2, &[still, Cell::Quiet(1)], Verdict::NotQuiet { cell: 2 }),
+        (1, &[still, Cell::Quiet(0)], Verdict::NotQuiet { cell: 2 }),
+        (3, &[Cell::Quiet(2), still], Verdict::WrongStep { cell: 2 }),
+        (
+            1,
+            &[Cell::Turn(Kind::Low, 0)],
+            Verdict::WrongStep { cell: 1 },
+        ),
+        (3, &[Cell::Quiet(2), high], Verdict::WrongStep { cell: 2 }),
+        (
+            3,
+            &[Cell::Quiet(2), low],
+            Verdict::WrongLevel {
+                cell: 2,
+                written: 3,
+                computed: 2,
+            },
+        ),
+        (
+            4,
+            &[still, still, high, turn],
+            Verdict::WrongStep { cell: 3 },
+        ),
+        (
+            4,
+            &[still, still, low, turn],
+            Verdict::WrongLevel {
+                cell: 3,
+                written: 3,
+                computed: 2,
+            },
+        ),
+    ];
+    for (end, cells, wanted) in rows {
+        assert!(rt; finds(alloc, rising(), 0, end, cells, wanted)?);
+    }
+    let quiet = [Cell::Quiet(2)];
+    let without_rate = Verdict::NotQuiet { cell: 1 };
+    assert!(rt; finds(alloc, Ripple::new(), 0, 2, &quiet, without_rate)?);
+    Ok(())
+}
