@@ -1,16 +1,41 @@
 //! The events of a station, and their words.
 //!
-//! [`word`] names an event as tide tables do. The names of highs and lows are those of the unit: a
-//! tide's, or a current's, where they go by the direction of the stream at the event.
+//! The events in the cells of a station's tracks come at once by [`track_events`] and [`merged`], or
+//! one at a time and without memory by a [`Merge`] of the searches. [`widened`] gives the span of the
+//! reference from which a subordinate station's events come, and [`shifted`] these events.
+//! `specs/Events.antt` says which they are. [`word`] names an event as tide tables do.
 #![tactic(auto)]
 
+mod coming;
 mod event_word;
+mod laws;
+mod leading;
+mod merge;
+mod merging;
+mod moving;
 mod naming;
+mod rank;
+mod shifting;
+mod span;
+mod turning;
+mod widening;
 mod worked;
+mod worked_events;
 
 pub use event_word::EventWord;
+pub use laws::{
+    accepted_events_can_be_moved, agreeing_curves_have_one_list, cells_give_the_events,
+    events_are_named, plain_bases_move_nothing,
+};
+pub use merge::Merge;
+pub use merging::merged;
 pub use naming::word;
+pub use shifting::shifted;
+pub use span::Span;
+pub use turning::track_events;
+pub use widening::widened;
 pub use worked::worked_rows;
+pub use worked_events::{worked_orders, worked_shifts, worked_stations};
 
 #[cfg(test)]
 mod tests;

@@ -1,14 +1,25 @@
+ghost use Rattle.std.specs.Prelude.{◌≡◌, All, IfOk, IsTrue};
+ghost use Rattle.std.specs.Option.{ForSome};
+ghost use Rattle.station_table.specs.Offsets.{IsSlack};
+ghost use Rattle.event_list.specs.Events.{AreShort};
+ghost use Rattle.event_list.specs.Shifts.{HasOffsets, IsMovable};
+
 use super::*;
-use curve_law::Kind;
+use curve_law::samples::{Line, Ripple};
+use curve_law::{Cell, Cells, Curve, Event, Kind, Tracks};
 use harmonics_text::Units;
+use interval_search::Search;
+use station_table::{Basis, Offset, Slack};
+use std::alloc::{AllocError, Global};
+use std::test::Fail;
 
 #[test]
-fn events_are_named(rt: HostRuntime) {
+fn names_go_by_the_unit(rt: HostRuntime) {
     for (units, kind, level, name) in [
         (Units::Feet, Kind::High, 999962, "High Tide"),
         (Units::Meters, Kind::Low, -1000000, "Low Tide"),
         (Units::Feet, Kind::MarkRising, 500000, "Mark Rising"),
-        (Units::Meters, Kind::MarkFalling, 508711, "Mark Falling"),
+        (Units::Meters, Kind::MarkFalling, 507538, "Mark Falling"),
         (Units::Knots, Kind::High, 999962, "Max Flood"),
         (Units::Knots, Kind::High, 0, "Min Ebb"),
         (Units::Knots, Kind::Low, 1000000, "Min Flood"),
@@ -18,7 +29,6 @@ fn events_are_named(rt: HostRuntime) {
     ] {
         assert!(rt; named(units, kind, level) == Some(name), "{name}");
     }
-    worked_rows();
 }
 
 // `None` for an event that has no name.
@@ -29,4 +39,166 @@ fn named(units: Units, kind: Kind, level: i64) -> Option<&'static str> {
         Units::Feet | Units::Meters if is_slack => None,
         _ => Some(word(units, kind, level).text()),
     }
+}
+
+#[test]
+fn laws_and_rows_stand(_rt: HostRuntime) {
+    cells_give_the_events();
+    plain_bases_move_nothing();
+    accepted_events_can_be_moved();
+    events_are_named();
+    agreeing_curves_have_one_list();
+    worked_rows();
+    worked_shifts();
+    worked_orders();
+    worked_stations();
+}
+
+fn event(minute: i64, kind: Kind, level: i64) -> Event {
+    Event {
+        minute,
+        kind,
+        level,
+    }
+}
+
+// Highs 30 minutes later at 1.1 times the level and 0.1 more, lows 10 minutes earlier at 0.9 times.
+fn dock(slack: Option<Slack>) -> Basis
+    requires { ForSome slack IsSlack }
+    ensures { HasOffsets result }
+{
+    Basis {
+        station: 0,
+        row: Some(0),
+        high: Offset {
+            add: 30,
+            times: 1_100_000,
+            plus: 100_000,
+        },
+        low: Offset {
+            add: -10,
+            times: 900_000,
+            plus: 0,
+        },
+        slack,
+    }
+}
+
+// Whether the events can be moved.
+fn are_movable(events: &[Event]) -> bool
+    ensures { IsTrue result → All IsMovable events.now }
+{
+    events.iter().all(|event| is_movable(event))
+}
+
+fn is_movable(event: &Event) -> bool
+    ensures { IsTrue result → IsMovable event.now }
+{
+    let near = -1_000_000_000_000 <= event.minute && event.minute <= 1_000_000_000_000;
+    near && -11_000_000_000 <= event.level && event.level <= 11_000_000_000
+}
+
+// A current's turns and slack waters from half an hour before a midnight to ten minutes after the next.
+#[tactic(auto, unfolding(curve_law::specs::Cells::all_minutes))]
+fn current(alloc: Global) -> Result<Tracks, AllocError>
+    ensures { IfOk result (λ tracks. AreShort tracks) }
+{
+    let turn = vec![in alloc;
+        Cell::Quiet(29),
+        Cell::Turn(Kind::High, 999962),
+        Cell::Quiet(360),
+        Cell::Turn(Kind::Low, -1000000),
+        Cell::Quiet(358),
+        Cell::Turn(Kind::High, 999962),
+        Cell::Quiet(360),
+        Cell::Turn(Kind::Low, -1000000),
+        Cell::Quiet(358),
+        Cell::Turn(Kind::High, 999962),
+        Cell::Quiet(10),
+    ]?;
+    let slack = vec![in alloc;
+        Cell::Quiet(209),
+        Cell::Turn(Kind::EbbBegins, 8727),
+        Cell::Quiet(360),
+        Cell::Turn(Kind::FloodBegins, 0),
+        Cell::Quiet(909),
+    ]?;
+    Ok(Tracks {
+        turn: Cells::from_vec(turn),
+        slack: Some(Cells::from_vec(slack)),
+        mark: None,
+    })
+}
+
+#[test]
+fn currents_are_shifted(rt: HostRuntime) -> Result<(), Fail> {
+    let alloc = rt.alloc();
+    let gate = dock(Some(Slack {
+        flood_add: 5,
+        ebb_add: -5,
+    }));
+    let span = widened(&gate, 0, 1440);
+    assert_eq!(rt;
+        span,
+        Span {
+            begin: -30,
+            end: 1450
+        }
+    );
+    let events = merged(alloc, &current(alloc)?, -30)?;
+    assert_eq!(rt; events.as_slice().len(), 7);
+    assert!(rt; are_movable(events.as_slice()));
+    let shifted = shifted(alloc, &events, &gate, 0, 1440)?;
+    assert_eq!(rt;
+        shifted.as_slice(),
+        [
+            event(29, Kind::High, 1199958),
+            event(174, Kind::EbbBegins, 8727),
+            event(350, Kind::Low, -900000),
+            event(545, Kind::FloodBegins, 0),
+            event(749, Kind::High, 1199958),
+            event(1070, Kind::Low, -900000),
+        ]
+        .as_slice()
+    );
+    Ok(())
+}
+
+#[test]
+fn events_come_one_at_a_time(rt: HostRuntime) -> Result<(), Fail> {
+    let alloc = rt.alloc();
+    let turn = Line::new(-2, false, 1);
+    let mut merge = Merge::new(
+        Search::new(turn, 0, 3),
+        Some(Search::new(Ripple::new(), 0, 3)),
+        None,
+    );
+    let events = taken(alloc, &mut merge)?;
+    assert_eq!(rt;
+        events.as_slice(),
+        [
+            event(0, Kind::MarkFalling, 0),
+            event(1, Kind::MarkRising, 0),
+            event(2, Kind::Low, 2),
+            event(2, Kind::MarkFalling, 0),
+        ]
+        .as_slice()
+    );
+    assert_eq!(rt; merge.cells(), 6);
+    assert!(rt; merge.next().is_none());
+    Ok(())
+}
+
+// The events that are left.
+fn taken<A: Curve, B: Curve>(
+    alloc: Global,
+    merge: &mut Merge<A, B>,
+) -> Result<Vec<Event>, AllocError>
+    ensures { IfOk result (λ events. events.items ≡ merge.old.left) }
+{
+    let mut events = Vec::new(alloc);
+    while let Some(event) = merge.next() {
+        events.push(event)?;
+    }
+    Ok(events)
 }

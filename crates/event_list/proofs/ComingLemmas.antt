@@ -1,0 +1,47 @@
+-- The events that are to come from a search.
+use Rattle.std.proofs.Common.{◌≡◌, ℕ, ◌+◌, ℤ, ◌++◌, length, ◌≤◌, refl, sym, ap, ◌∙◌, arith}
+use Rattle.std.specs.Prelude.{Option, Some, None, flat_map, option_to_list}
+use Rattle.std.specs.Option.{ForSome}
+use Rattle.std.proofs.lemmas.List.{append-nil}
+use Rattle.curve_law.specs.Cells.{turns}
+use Rattle.curve_law.specs.Cover.{cover}
+use Rattle.curve_law.specs.Meaning.{Meaning}
+use Rattle.curve_law.proofs.AcceptedLemmas.{cover-few}
+use Rattle.interval_search.specs.declared.found.Found.{Found}
+use Rattle.interval_search.specs.Looking.{Looking, StepsOn}
+use Rattle.event_list.specs.Events.{merged_of, cells_in}
+use Rattle.event_list.specs.Merging.{cells_left, tracks_left}
+use Rattle.event_list.specs.Order.{ordered}
+use Rattle.event_list.specs.Workings.Coming.{events_ahead, cells_ahead, FindsNext, IsAscending}
+use Rattle.event_list.proofs.EventLemmas.{merged-parts}
+use Rattle.event_list.proofs.TurnLemmas.{turns-ascending}
+
+pub search-finds : {C : Type 0} (old new : Looking C) (found : Option Found) → StepsOn old found new → FindsNext (Some old) found (Some new)
+unfolding turns
+search-finds old new None step = (rw step.0, rw step.0, rw step.1, rw step.1)
+search-finds old new (Some found) step = (rw (step.1, step.0, step.2), rw step.1 (omega arith))
+
+pub ahead-ascending : {C : Type 0} (search : Option (Looking C)) → IsAscending (events_ahead search)
+unfolding IsAscending
+ahead-ascending None = tt
+ahead-ascending (Some search) = turns-ascending search.at search.left
+
+ahead-turns : {C : Type 0} (a : ℤ) (search : Option (Looking C)) → ForSome search (λ s. s.at ≡ a) → flat_map (turns a) (option_to_list (cells_left search)) ≡ events_ahead search
+ahead-turns a None at = refl
+ahead-turns a (Some search) at = append-nil (turns a search.left) ∙ ap (λ b. turns b search.left) (sym (at search refl))
+
+-- the events ahead of three searches that stand at one minute
+pub merged-ahead : {A B : Type 0} (turn : Looking A) (slack mark : Option (Looking B)) → ForSome slack (λ s. s.at ≡ turn.at) → ForSome mark (λ s. s.at ≡ turn.at) → ordered (events_ahead (Some turn) ++ (events_ahead slack ++ events_ahead mark)) ≡ merged_of turn.at (tracks_left turn slack mark)
+merged-ahead turn slack mark slack_at mark_at =
+    rw (merged-parts turn.at (tracks_left turn slack mark), ahead-turns turn.at slack slack_at, ahead-turns turn.at mark mark_at)
+
+pub cells-ahead : {A B : Type 0} (turn : Looking A) (slack mark : Option (Looking B)) → cells_in (tracks_left turn slack mark) ≡ length turn.left + cells_ahead slack + cells_ahead mark
+unfolding cells_in
+cells-ahead turn None None = omega arith
+cells-ahead turn None (Some mark) = omega arith
+cells-ahead turn (Some slack) None = omega arith
+cells-ahead turn (Some slack) (Some mark) = omega arith
+
+-- a search that has given nothing has at most one cell a minute
+pub cover-left : {C : Type 0} (search : Looking C) (c : Meaning) (a : ℤ) (n : ℕ) → search.left ≡ cover c a n → length search.left ≤ n
+cover-left search c a n left = rw left (cover-few c a n)

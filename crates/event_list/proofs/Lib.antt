@@ -1,0 +1,10 @@
+pub mod ComingLemmas
+pub mod EventLemmas
+pub mod LevelLemmas
+pub mod MergeLemmas
+pub mod NameLemmas
+pub mod OrderLemmas
+pub mod PlainLemmas
+pub mod ScaleLemmas
+pub mod ShiftLemmas
+pub mod TurnLemmas

@@ -1,0 +1,147 @@
+-- The first of what is left of three lists in order is the earliest of their first events.
+use Rattle.std.proofs.Common.{◌≡◌, ℕ, ◌+◌, ◌≤◌, true, false, List, [], ◌∷◌, ◌++◌, drop, refl, sym, ap, ◌∙◌, arith}
+use Rattle.std.specs.Prelude.{All, IfSome, sum_by, Option, Some, None}
+use Rattle.std.proofs.lemmas.List.Elements.{All-nil, All-cons, All-weaker, All-append}
+use Rattle.std.proofs.lemmas.List.Sums.{sum_by-cons, sum_by-append}
+use Rattle.curve_law.specs.declared.event.Event.{Event}
+use Rattle.curve_law.proofs.CoverLemmas.{by_test}
+use Rattle.event_list.specs.declared.leading.Leading.TheVariants.{Turn, Slack, Mark}
+use Rattle.event_list.specs.Merging.{Merging, GivesNext}
+use Rattle.event_list.specs.Order.{comes_before, ordered}
+use Rattle.event_list.specs.Workings.Coming.{first_of, leads, IsLeading, IsAscending, Stands, merging_of}
+use Rattle.event_list.proofs.OrderLemmas.{comes_before-asym, comes_before-trans, All-ordered, sum-ordered, ordered-ascending, ordered-is, ordered-same}
+
+-- an event that may be there stands before another in no case
+abbrev NotBefore : Event → Event → Type 0
+NotBefore e d = comes_before d e ≡ false
+
+same_some : {A : Type 0} (x y : A) → Some x ≡ Some y → x ≡ y
+same_some x y e = cc
+
+leads-least : (e : Event) (b : Option Event) → leads (Some e) b ≡ true → IfSome b (NotBefore e)
+leads-least e None is = tt
+leads-least e (Some d) is = by_test (comes_before d e)
+    (λ before. let never : false ≡ true = sym (rw before) ∙ is in cc)
+    (λ after. after)
+
+leads-none : (b : Option Event) → leads None b ≡ true → b ≡ None
+leads-none None is = refl
+leads-none (Some d) is = cc
+
+pub leads-total : (a b : Option Event) → leads a b ≡ false → leads b a ≡ true
+leads-total None None not = cc
+leads-total None (Some e) not = refl
+leads-total (Some d) None not = cc
+leads-total (Some d) (Some e) not = by_test (comes_before e d)
+    (λ before. rw (comes_before-asym e d before))
+    (λ after. let never : true ≡ false = sym (rw after) ∙ not in cc)
+
+pub leads-trans : (a b c : Option Event) → leads a b ≡ true → leads b c ≡ true → leads a c ≡ true
+leads-trans a b None first second = refl
+leads-trans a None (Some f) first second = cc
+leads-trans None (Some e) (Some f) first second = cc
+leads-trans (Some d) (Some e) (Some f) first second =
+    rw (comes_before-trans f e d (leads-least e (Some f) second) (leads-least d (Some e) first))
+
+first-none : (es : List Event) → first_of es ≡ None → es ≡ []
+first-none [] is = refl
+first-none (e ∷ es) is = cc
+
+first-all : (e : Event) (es : List Event) → IsAscending es → IfSome (first_of es) (NotBefore e) → All (NotBefore e) es
+unfolding IsAscending
+first-all e [] up least = All-nil (NotBefore e)
+first-all e (d ∷ ds) up least = All-cons (NotBefore e) d ds least (All-weaker (NotBefore d) (NotBefore e) (λ c h. comes_before-trans c d e h least) ds up.0)
+
+pub drop-ascending : (es : List Event) → IsAscending es → IsAscending (drop 1 es)
+unfolding IsAscending
+drop-ascending [] up = up
+drop-ascending (e ∷ es) up = up.1
+
+-- an event before which no other stands is the first
+least-first : (e : Event) (es ws : List Event) → All (NotBefore e) ws → ((f : Event → ℕ) → sum_by f es ≡ f e + sum_by f ws) → ordered es ≡ e ∷ ordered ws
+unfolding IsAscending
+least-first e es ws least same =
+    sym (ordered-is es (e ∷ ordered ws) (All-ordered (NotBefore e) ws least, ordered-ascending ws) (λ f. omega (arith, same f, sum_by-cons f e (ordered ws), sum-ordered f ws)))
+
+sum-three : (f : Event → ℕ) (xs ys zs : List Event) → sum_by f (xs ++ (ys ++ zs)) ≡ sum_by f xs + (sum_by f ys + sum_by f zs)
+sum-three f xs ys zs = omega (arith, sum_by-append f xs (ys ++ zs), sum_by-append f ys zs)
+
+-- an event is given of three lists in order: the first of all of them, or none where none has one
+abbrev pub TakesFirst : List Event → List Event → List Event → Option Event → List Event → List Event → List Event → Type 0
+TakesFirst xs ys zs None us vs ws = (xs ≡ []) × (ys ≡ []) × (zs ≡ []) × (ordered (us ++ (vs ++ ws)) ≡ [])
+TakesFirst xs ys zs (Some e) us vs ws = ordered (xs ++ (ys ++ zs)) ≡ e ∷ ordered (us ++ (vs ++ ws))
+
+takes-first : (xs ys zs : List Event) → IsAscending xs → IsAscending ys → IsAscending zs → leads (first_of xs) (first_of ys) ≡ true → leads (first_of xs) (first_of zs) ≡ true → TakesFirst xs ys zs (first_of xs) (drop 1 xs) ys zs
+unfolding IsAscending ordered
+takes-first [] ys zs up-xs up-ys up-zs second third =
+    let no_ys = first-none ys (leads-none (first_of ys) second) in
+    let no_zs = first-none zs (leads-none (first_of zs) third) in
+    (refl, no_ys, no_zs, rw (no_ys, no_zs))
+takes-first (e ∷ xs) ys zs up-xs up-ys up-zs second third =
+    let least-ys = first-all e ys up-ys (leads-least e (first_of ys) second) in
+    let least-zs = first-all e zs up-zs (leads-least e (first_of zs) third) in
+    least-first e (e ∷ xs ++ (ys ++ zs)) (xs ++ (ys ++ zs)) (All-append (NotBefore e) xs (ys ++ zs) up-xs.0 (All-append (NotBefore e) ys zs least-ys least-zs)) (λ f. sum_by-cons f e (xs ++ (ys ++ zs)))
+
+second-first : (xs ys zs : List Event) → ordered (ys ++ (xs ++ zs)) ≡ ordered (xs ++ (ys ++ zs))
+second-first xs ys zs = ordered-same (ys ++ (xs ++ zs)) (xs ++ (ys ++ zs)) (λ f. omega (arith, sum-three f ys xs zs, sum-three f xs ys zs))
+
+third-first : (xs ys zs : List Event) → ordered (zs ++ (xs ++ ys)) ≡ ordered (xs ++ (ys ++ zs))
+third-first xs ys zs = ordered-same (zs ++ (xs ++ ys)) (xs ++ (ys ++ zs)) (λ f. omega (arith, sum-three f zs xs ys, sum-three f xs ys zs))
+
+takes-second : (xs ys zs : List Event) (o : Option Event) → TakesFirst ys xs zs o (drop 1 ys) xs zs → TakesFirst xs ys zs o xs (drop 1 ys) zs
+takes-second xs ys zs None takes = (takes.1, takes.0, takes.2, sym (second-first xs (drop 1 ys) zs) ∙ takes.3)
+takes-second xs ys zs (Some e) takes = sym (second-first xs ys zs) ∙ takes ∙ ap (λ es. e ∷ es) (second-first xs (drop 1 ys) zs)
+
+takes-third : (xs ys zs : List Event) (o : Option Event) → TakesFirst zs xs ys o (drop 1 zs) xs ys → TakesFirst xs ys zs o xs ys (drop 1 zs)
+takes-third xs ys zs None takes = (takes.1, takes.2, takes.0, sym (third-first xs ys (drop 1 zs)) ∙ takes.3)
+takes-third xs ys zs (Some e) takes = sym (third-first xs ys zs) ∙ takes ∙ ap (λ es. e ∷ es) (third-first xs ys (drop 1 zs))
+
+-- what is known of a track before and after it was looked at, or its first event was taken
+pub record Looks (old new : Merging) (rest : List Event) : Type 0 where
+  pub left : new.left ≡ rest
+  pub all : new.all ≡ old.all
+  pub within : new.cells ≤ new.all
+  pub done : old.left ≡ [] → new.cells ≡ new.all
+
+pub looks-taken : (t0 t1 t2 : Merging) → Looks t0 t1 t0.left → t2.left ≡ drop 1 t1.left → t2.all ≡ t1.all → t2.cells ≤ t2.all → (t1.left ≡ [] → t2.cells ≡ t2.all) → Looks t0 t2 (drop 1 t0.left)
+looks-taken t0 t1 t2 looks rest all within done = record {
+  left = rest ∙ ap (drop 1) looks.left;
+  all = all ∙ looks.all;
+  within = within;
+  done = λ none. done (looks.left ∙ none);
+}
+
+gives : (t s m t' s' m' : Merging) (o : Option Event) (us vs ws : List Event) → TakesFirst t.left s.left m.left o us vs ws → Looks t t' us → Looks s s' vs → Looks m m' ws → GivesNext (merging_of t s m) o (merging_of t' s' m')
+unfolding ordered
+gives t s m t' s' m' None us vs ws takes turn slack mark =
+    (rw (takes.0, takes.1, takes.2), rw (turn.left, slack.left, mark.left) takes.3, omega (arith, turn.done takes.0, slack.done takes.1, mark.done takes.2))
+gives t s m t' s' m' (Some e) us vs ws takes turn slack mark =
+    rw (turn.left, slack.left, mark.left) takes
+
+pub gives-turn : (t s m t' s' m' : Merging) → Stands t s m → IsLeading Turn (first_of t.left) (first_of s.left) (first_of m.left) → Looks t t' (drop 1 t.left) → Looks s s' s.left → Looks m m' m.left → GivesNext (merging_of t s m) (first_of t.left) (merging_of t' s' m')
+gives-turn t s m t' s' m' stands lead turn slack mark =
+    gives t s m t' s' m' (first_of t.left) (drop 1 t.left) s.left m.left (takes-first t.left s.left m.left stands.turn stands.slack stands.mark lead.0 lead.1) turn slack mark
+
+pub gives-slack : (t s m t' s' m' : Merging) → Stands t s m → IsLeading Slack (first_of t.left) (first_of s.left) (first_of m.left) → Looks t t' t.left → Looks s s' (drop 1 s.left) → Looks m m' m.left → GivesNext (merging_of t s m) (first_of s.left) (merging_of t' s' m')
+gives-slack t s m t' s' m' stands lead turn slack mark =
+    gives t s m t' s' m' (first_of s.left) t.left (drop 1 s.left) m.left
+    (takes-second t.left s.left m.left (first_of s.left) (takes-first s.left t.left m.left stands.slack stands.turn stands.mark lead.0 lead.1)) turn slack mark
+
+pub gives-mark : (t s m t' s' m' : Merging) → Stands t s m → IsLeading Mark (first_of t.left) (first_of s.left) (first_of m.left) → Looks t t' t.left → Looks s s' s.left → Looks m m' (drop 1 m.left) → GivesNext (merging_of t s m) (first_of m.left) (merging_of t' s' m')
+gives-mark t s m t' s' m' stands lead turn slack mark =
+    gives t s m t' s' m' (first_of m.left) t.left s.left (drop 1 m.left)
+    (takes-third t.left s.left m.left (first_of m.left) (takes-first m.left t.left s.left stands.mark stands.turn stands.slack lead.0 lead.1)) turn slack mark
+
+-- what is known of the tracks afterwards
+pub stands-after : (t s m t' s' m' : Merging) (us vs ws : List Event) → Stands t s m → IsAscending us → IsAscending vs → IsAscending ws → Looks t t' us → Looks s s' vs → Looks m m' ws → Stands t' s' m'
+stands-after t s m t' s' m' us vs ws stands up-us up-vs up-ws turn slack mark =
+    let few = stands.few in
+    record {
+      turn = rw turn.left up-us;
+      slack = rw slack.left up-vs;
+      mark = rw mark.left up-ws;
+      turn_given = turn.within;
+      slack_given = slack.within;
+      mark_given = mark.within;
+      few = rw (turn.all, slack.all, mark.all) few;
+    }

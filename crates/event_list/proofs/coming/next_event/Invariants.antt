@@ -1,0 +1,13 @@
+use Rattle.std.proofs.Common.{◌≡◌, ◌+◌}
+use Rattle.event_list.specs.Workings.Coming.{events_ahead, cells_ahead}
+use Rattle.event_list.proofs.coming.next_event.Given as goal
+
+-- no event was ahead in the cells so far
+abbrev pub invariant-loop-found : goal.invariant-loop-found
+invariant-loop-found g l = record {
+  events : events_ahead l.search ≡ events_ahead l.fn.search;
+  cells : l.given + cells_ahead l.search ≡ l.fn.given + cells_ahead l.fn.search;
+}
+
+abbrev pub decreases-loop-found : goal.decreases-loop-found
+decreases-loop-found g l = cells_ahead l.search

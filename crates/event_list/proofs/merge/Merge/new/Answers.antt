@@ -1,0 +1,25 @@
+use Rattle.std.proofs.Common.{arith}
+use Rattle.std.specs.Prelude.{Some}
+use Rattle.event_list.proofs.ComingLemmas.{ahead-ascending, merged-ahead, cells-ahead}
+use Rattle.event_list.proofs.merge.Merge.new.Goals as goal
+
+pub invariant_of-result : goal.invariant_of-result
+invariant_of-result g c =
+    let cells = cells-ahead c.args.turn c.args.slack c.args.mark in
+    record {
+      turn = rw c.new.ensures.left (ahead-ascending (Some c.args.turn));
+      slack = rw c.new-2.ensures.left (ahead-ascending c.args.slack);
+      mark = rw c.new-3.ensures.left (ahead-ascending c.args.mark);
+      turn_given = omega arith;
+      slack_given = omega arith;
+      mark_given = omega arith;
+      few = omega arith;
+    }
+
+pub returns-clause-left : goal.returns-clause-left
+returns-clause-left g c =
+    rw (c.new.ensures.left, c.new-2.ensures.left, c.new-3.ensures.left) (merged-ahead c.args.turn c.args.slack c.args.mark c.requires.slack_at c.requires.mark_at)
+
+pub returns-clause-all : goal.returns-clause-all
+returns-clause-all g c =
+    let cells = cells-ahead c.args.turn c.args.slack c.args.mark in omega arith

@@ -1,0 +1,9 @@
+use Rattle.std.proofs.Common.{◌≡◌, ◌++◌, length}
+use Rattle.event_list.proofs.tests.taken.Given as goal
+
+-- the events so far and those that are left are all events
+abbrev pub invariant-loop-event : goal.invariant-loop-event
+invariant-loop-event g l = l.events.items ++ l.merge.left ≡ l.fn.merge.left
+
+abbrev pub decreases-loop-event : goal.decreases-loop-event
+decreases-loop-event g l = length l.merge.left

@@ -1,0 +1,25 @@
+use Rattle.std.proofs.Common.{w32, FitsSigned, rules, arith}
+use Rattle.std.proofs.lemmas.Int.{ints, clamps, to_z-of_z}
+use Rattle.event_list.proofs.widening.greatest_add.Goals as goal
+
+pub returns-in-Some-clause-exact : goal.returns-in-Some-clause-exact
+returns-in-Some-clause-exact c =
+    let high : FitsSigned w32 c.args.basis.now.high.add = search rules in
+    let low : FitsSigned w32 c.args.basis.now.low.add = search rules in
+    let first : FitsSigned w32 c.max-most.result = search rules in
+    let flood : FitsSigned w32 c.in-Some.slack.flood_add = search rules in
+    let second : FitsSigned w32 c.max.result = search rules in
+    let ebb : FitsSigned w32 c.in-Some.slack.ebb_add = search rules in
+    let third : FitsSigned w32 c.max-in-Some.result = search rules in
+    let a = simp to_z-of_z at c.max-most.ensures.value in
+    let b = simp to_z-of_z at c.max.ensures.value in
+    let d = simp to_z-of_z at c.max-in-Some.ensures.value in
+    rw (c.in-Some.is, to_z-of_z w32 c.max-in-Some.result third, d, b, a)
+
+pub returns-in-Some-clause-size : goal.returns-in-Some-clause-size
+returns-in-Some-clause-size c =
+    let slack = c.requires.slack c.in-Some.slack c.in-Some.is in
+    let first = c.max-most.ensures.value in
+    let second = c.max.ensures.value in
+    let third = c.max-in-Some.ensures.value in
+    omega (arith, ints, clamps)

@@ -1,0 +1,129 @@
+-- The events of a station (this project).
+use Rattle.std.specs.Prelude.{◌≡◌, ℕ, ◌≤◌, ℤ, ◌-ℤ◌, unsigned_abs, IsTrue, List, ◌∷◌, ◌++◌, flat_map, length, sum_by, Option, Some, None, option_map, option_to_list}
+use Rattle.std.specs.Option.{ForSome}
+use Rattle.curve_law.specs.declared.cell.Cell.{Cell}
+use Rattle.curve_law.specs.declared.event.Event.{Event}
+use Rattle.curve_law.specs.declared.tracks.Tracks.{Tracks}
+use Rattle.curve_law.specs.declared.verdict.Verdict.TheVariants.{Accepted}
+use Rattle.curve_law.specs.Cells.{all_minutes, turns}
+use Rattle.curve_law.specs.Cover.{cover}
+use Rattle.curve_law.specs.Meaning.{Meaning, IsMinute, IsSpan, IsLawful, AgreeOver}
+use Rattle.curve_law.specs.Track.{plain_list}
+use Rattle.curve_law.specs.Verdicts.{verdict}
+use Rattle.harmonics_text.specs.declared.book.Units.{Units}
+use Rattle.station_table.specs.declared.basis.Basis.{Basis}
+use Rattle.event_list.specs.declared.span.Span.{Span}
+use Rattle.event_list.specs.Order.{ordered}
+use Rattle.event_list.specs.Shifts.{widened_of, moved_within}
+use Rattle.event_list.specs.Words.{has_word}
+
+abbrev pub minutes_in : Span → ℕ
+minutes_in s = unsigned_abs (s.end -ℤ s.begin)
+
+-- ---- the events of the curves that are followed
+
+-- the curves that are followed at a station: its turns, its slack water and its passing of a mark
+pub record Followed : Type 0 where
+  pub turn : Meaning
+  pub slack : Option Meaning
+  pub mark : Option Meaning
+
+abbrev pub curves_of : Followed → List Meaning
+curves_of f = f.turn ∷ (option_to_list f.slack ++ option_to_list f.mark)
+
+-- the plain list of a curve over a span
+abbrev pub events_over : Span → Meaning → List Event
+events_over s c = plain_list c.track s.begin (minutes_in s)
+
+-- the plain lists of the reference's curves over the widened span, each event moved and scaled, those within the span kept, in order
+unfoldable pub station_events : Followed → Basis → ℤ → ℤ → List Event
+station_events f b begin end =
+    ordered (moved_within b begin end (flat_map (events_over (widened_of b begin end)) (curves_of f)))
+
+-- ---- the events in cells
+
+abbrev pub tracks_of : Tracks → List (List Cell)
+tracks_of t = t.turn ∷ (option_to_list t.slack ++ option_to_list t.mark)
+
+-- the events in the cells of all tracks, which begin at one minute, in order
+unfoldable pub merged_of : ℤ → Tracks → List Event
+merged_of begin t = ordered (flat_map (turns begin) (tracks_of t))
+
+-- the number of cells of all tracks
+unfoldable pub cells_in : Tracks → ℕ
+cells_in t = sum_by length (tracks_of t)
+
+-- the cells of the followed curves by the rule
+abbrev pub cover_over : Span → Meaning → List Cell
+cover_over s c = cover c s.begin (minutes_in s)
+
+abbrev pub covers_of : Followed → Span → Tracks
+covers_of f s = record {
+  turn = cover_over s f.turn;
+  slack = option_map (cover_over s) f.slack;
+  mark = option_map (cover_over s) f.mark;
+}
+
+unfoldable pub cell_count : Followed → Span → ℕ
+cell_count f s = cells_in (covers_of f s)
+
+-- ---- what is asked of curves and cells
+
+-- each track has at most 6,000,000 minutes
+pub record AreShort (t : Tracks) : Type 0 where
+  pub turn : all_minutes t.turn ≤ 6000000
+  pub slack : ForSome t.slack (λ cells. all_minutes cells ≤ 6000000)
+  pub mark : ForSome t.mark (λ cells. all_minutes cells ≤ 6000000)
+
+-- a curve's law holds, and it tells the span
+pub record IsKnown (s : Span) (c : Meaning) : Type 0 where
+  pub lawful : IsLawful c
+  pub span : IsSpan c s.begin (minutes_in s)
+
+pub record AreKnown (f : Followed) (s : Span) : Type 0 where
+  pub turn : IsKnown s f.turn
+  pub slack : ForSome f.slack (IsKnown s)
+  pub mark : ForSome f.mark (IsKnown s)
+
+-- the levels that a curve's events may carry are at most 11,000,000,000 millionths in size
+abbrev pub HasLevels : Meaning → Type 0
+HasLevels c = (m : ℤ) → IsMinute c m → unsigned_abs (c.track.note m) ≤ 11000000000
+
+pub record AllHaveLevels (f : Followed) : Type 0 where
+  pub turn : HasLevels f.turn
+  pub slack : ForSome f.slack HasLevels
+  pub mark : ForSome f.mark HasLevels
+
+-- a track is there exactly where its curve is followed, and is accepted over the span
+abbrev pub IsAccepted : Span → Option Meaning → Option (List Cell) → Type 0
+IsAccepted s None None = Unit {0}
+IsAccepted s None (Some cells) = ⊥
+IsAccepted s (Some c) None = ⊥
+IsAccepted s (Some c) (Some cells) = verdict c s.begin (minutes_in s) cells ≡ Accepted
+
+pub record AreAccepted (f : Followed) (s : Span) (t : Tracks) : Type 0 where
+  pub turn : verdict f.turn s.begin (minutes_in s) t.turn ≡ Accepted
+  pub slack : IsAccepted s f.slack t.slack
+  pub mark : IsAccepted s f.mark t.mark
+
+-- both are followed and say the same of the span, or neither is followed
+abbrev pub AgreeIfFollowed : Span → Option Meaning → Option Meaning → Type 0
+AgreeIfFollowed s None None = Unit {0}
+AgreeIfFollowed s None (Some d) = ⊥
+AgreeIfFollowed s (Some c) None = ⊥
+AgreeIfFollowed s (Some c) (Some d) = AgreeOver c d s.begin (minutes_in s)
+
+pub record AllAgree (f g : Followed) (s : Span) : Type 0 where
+  pub turn : AgreeOver f.turn g.turn s.begin (minutes_in s)
+  pub slack : AgreeIfFollowed s f.slack g.slack
+  pub mark : AgreeIfFollowed s f.mark g.mark
+
+-- the events of a curve have words, whichever of its two kinds they have
+pub record IsNamed (units : Units) (c : Meaning) : Type 0 where
+  pub rising : IsTrue (has_word units c.track.rising)
+  pub falling : IsTrue (has_word units c.track.falling)
+
+pub record AreNamed (units : Units) (f : Followed) : Type 0 where
+  pub turn : IsNamed units f.turn
+  pub slack : ForSome f.slack (IsNamed units)
+  pub mark : ForSome f.mark (IsNamed units)

@@ -1,0 +1,22 @@
+-- The order in which events are listed (this project).
+use Rattle.std.specs.Prelude.{Bool, ◌&&◌, ◌||◌, ◌==◌, nat_lt, int_lt, if◌then◌else◌, List, [], ◌∷◌}
+use Rattle.std.specs.Ordering.{int_eq}
+use Rattle.curve_law.specs.declared.event.Event.{Event}
+use Rattle.curve_law.specs.Verdicts.{place_of}
+
+-- the earlier minute comes first, and in one minute the kind of the lower place; the level decides only where both are the same
+abbrev pub comes_before : Event → Event → Bool
+comes_before d e =
+    int_lt d.minute e.minute
+    || (int_eq d.minute e.minute
+    && (nat_lt (place_of d.kind) (place_of e.kind)
+    || (place_of d.kind == place_of e.kind && int_lt d.level e.level)))
+
+-- an event put into its place among events that are in order
+unfoldable pub with_event : Event → List Event → List Event
+with_event e [] = e ∷ []
+with_event e (d ∷ ds) = if comes_before d e then d ∷ with_event e ds else e ∷ d ∷ ds
+
+unfoldable pub ordered : List Event → List Event
+ordered [] = []
+ordered (e ∷ es) = with_event e (ordered es)

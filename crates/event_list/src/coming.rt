@@ -1,0 +1,128 @@
+//! The events of one search, one at a time.
+
+ghost use Rattle.std.specs.Prelude.{◌≡◌, ◌+◌, ◌^◌, ◌<◌, ◌≤◌, drop, [], option_to_list};
+ghost use Rattle.curve_law.specs.Cells.{event_in};
+ghost use Rattle.event_list.specs.Workings.Coming.{cells_ahead, FindsNext, GivesEvent};
+
+use curve_law::{Cell, Curve, Event};
+use interval_search::{Found, Search};
+use std::marker::Model;
+
+/// The events that a search has still to give, where there is a search. It is asked for the next one
+/// once that is wanted.
+///
+/// Contracts see the events that are left, the number of cells that the search has given so far, and
+/// the number of all its cells.
+#[derive(Drop)]
+pub struct Coming<C: Curve> {
+    search: Option<Search<C>>,
+    event: Option<Event>,
+    given: u64,
+}
+
+impl<C: Curve> Model for Coming<C> {
+    ghost use Rattle.std.specs.Prelude.{◌+◌, ◌<◌, ◌^◌, ◌++◌, option_to_list};
+    ghost use Rattle.event_list.specs.Merging.{Merging};
+    ghost use Rattle.event_list.specs.Workings.Coming.{events_ahead, cells_ahead};
+
+    ghost Value = { Merging };
+
+    ghost view = { λ c. record {
+      left = option_to_list c.event ++ events_ahead c.search;
+      cells = c.given;
+      all = c.given + cells_ahead c.search;
+    } };
+
+    ghost invariant = { λ c. c.given + cells_ahead c.search < 2 ^ 64 };
+}
+
+impl<C: Curve> Coming<C> {
+    ghost use Rattle.event_list.specs.Workings.Coming.{events_ahead, cells_ahead, first_of};
+
+    /// The events of a search that has given no cell yet.
+    pub fn new(search: Option<Search<C>>) -> Coming<C>
+        requires { cells_ahead search < 2 ^ 64 }
+        ensures left { result.left ≡ events_ahead search }
+        ensures cells { result.cells ≡ 0 }
+        ensures all { result.all ≡ cells_ahead search }
+    {
+        Coming {
+            search,
+            event: None,
+            given: 0,
+        }
+    }
+
+    /// The first event that is left. Where there is none, all cells were given.
+    pub fn peek(&mut self) -> Option<Event>
+        ensures first { result ≡ first_of self.old.left }
+        ensures same { self.new.left ≡ self.old.left }
+        ensures all { self.new.all ≡ self.old.all }
+        ensures within { self.new.cells ≤ self.new.all }
+        ensures done { self.old.left ≡ [] → self.new.cells ≡ self.new.all }
+    {
+        if self.event.is_none() {
+            self.event = next_event(&mut self.search, &mut self.given);
+        }
+        self.event
+    }
+
+    /// The first event that is left, which is then given.
+    pub fn next(&mut self) -> Option<Event>
+        ensures first { result ≡ first_of self.old.left }
+        ensures rest { self.new.left ≡ drop 1 self.old.left }
+        ensures all { self.new.all ≡ self.old.all }
+        ensures within { self.new.cells ≤ self.new.all }
+        ensures done { self.old.left ≡ [] → self.new.cells ≡ self.new.all }
+    {
+        match self.event.take() {
+            Some(event) => Some(event),
+            None => next_event(&mut self.search, &mut self.given),
+        }
+    }
+
+    /// The number of cells that the search has given so far.
+    pub fn cells(&self) -> u64
+        ensures { result ≡ self.now.cells }
+    {
+        self.given
+    }
+}
+
+/// The next event of a search. The cells that it gives are counted.
+fn next_event<C: Curve>(search: &mut Option<Search<C>>, given: &mut u64) -> Option<Event>
+    requires { given.old + cells_ahead search.old < 2 ^ 64 }
+    ensures event { GivesEvent search.old result search.new }
+    ensures cells { given.new + cells_ahead search.new ≡ given.old + cells_ahead search.old }
+{
+    while let Some(found) = next_found(search) {
+        *given += 1;
+        if let Some(event) = event_in(found) {
+            return Some(event);
+        }
+    }
+    None
+}
+
+fn next_found<C: Curve>(search: &mut Option<Search<C>>) -> Option<Found>
+    ensures { FindsNext search.old result search.new }
+{
+    match search {
+        Some(search) => search.next(),
+        None => None,
+    }
+}
+
+/// The event in a cell that was found.
+fn event_in(found: Found) -> Option<Event>
+    ensures { option_to_list result ≡ event_in found.at found.cell }
+{
+    match found.cell {
+        Cell::Turn(kind, level) => Some(Event {
+            minute: found.at,
+            kind,
+            level,
+        }),
+        Cell::Quiet(_) | Cell::Still => None,
+    }
+}

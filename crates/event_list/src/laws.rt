@@ -1,0 +1,65 @@
+//! What follows of the events of a station.
+
+ghost use Rattle.std.specs.Prelude.{◌≡◌, ℕ, ◌+◌, ◌*◌, ◌^◌, ◌≤◌, ℤ, ◌≤ℤ◌, ◌<ℤ◌, unsigned_abs, List, All, IsTrue};
+ghost use Rattle.curve_law.specs.declared.event.Event.{Event};
+ghost use Rattle.curve_law.specs.declared.tracks.Tracks.{Tracks};
+ghost use Rattle.harmonics_text.specs.declared.book.Units.{Units};
+ghost use Rattle.station_table.specs.declared.basis.Basis.{Basis};
+ghost use Rattle.station_table.specs.Bases.{is_plain};
+ghost use Rattle.event_list.specs.declared.span.Span.{Span};
+ghost use Rattle.event_list.specs.Words.{has_word};
+ghost use Rattle.event_list.specs.Shifts.{HasOffsets, IsMovable, widened_of, shifted_of};
+ghost use Rattle.event_list.specs.Events.{minutes_in, Followed, station_events, merged_of, cells_in, covers_of, cell_count, AllHaveLevels, AreKnown, AreAccepted, AllAgree, AreNamed};
+
+/// The events of accepted cells over the widened span, merged and shifted, are the station's. So are
+/// those of the cells by the rule, which are at most three a minute.
+pub fn cells_give_the_events()
+    ensures accepted { (f : Followed) (b : Basis) (begin end : ℤ) (t : Tracks) →
+        AreKnown f (widened_of b begin end) → AreAccepted f (widened_of b begin end) t →
+        shifted_of b begin end (merged_of (widened_of b begin end).begin t) ≡ station_events f b begin end }
+    ensures covers { (f : Followed) (s : Span) → AreAccepted f s (covers_of f s) }
+    ensures exact { (f : Followed) (b : Basis) (begin end : ℤ) → AreKnown f (widened_of b begin end) →
+        shifted_of b begin end (merged_of (widened_of b begin end).begin (covers_of f (widened_of b begin end)))
+        ≡ station_events f b begin end }
+    ensures few { (f : Followed) (s : Span) → cell_count f s ≤ 3 * minutes_in s }
+{}
+
+/// Over a plain basis the widened span is the span, and the merged events are the station's as they
+/// are.
+pub fn plain_bases_move_nothing()
+    ensures span { (b : Basis) (begin end : ℤ) → IsTrue (is_plain b) →
+        widened_of b begin end ≡ record { begin = begin; end = end } }
+    ensures merged { (f : Followed) (b : Basis) (begin end : ℤ) (t : Tracks) → IsTrue (is_plain b) → begin ≤ℤ end →
+        AreKnown f (record { begin = begin; end = end }) → AreAccepted f (record { begin = begin; end = end }) t →
+        merged_of begin t ≡ station_events f b begin end }
+    ensures covers { (f : Followed) (b : Basis) (begin end : ℤ) → IsTrue (is_plain b) → begin ≤ℤ end →
+        AreKnown f (record { begin = begin; end = end }) →
+        merged_of begin (covers_of f (record { begin = begin; end = end })) ≡ station_events f b begin end }
+{}
+
+/// The events of accepted cells can be moved, where both ends of the span are from -10^12 to 10^12 and
+/// the levels of each followed curve are at most 11,000,000,000 millionths in size.
+pub fn accepted_events_can_be_moved()
+    ensures { (f : Followed) (s : Span) (t : Tracks) → s.begin ≤ℤ s.end →
+        unsigned_abs s.begin ≤ 10 ^ 12 → unsigned_abs s.end ≤ 10 ^ 12 →
+        AreKnown f s → AllHaveLevels f → AreAccepted f s t → All IsMovable (merged_of s.begin t) }
+{}
+
+/// Each event of a station lies in its span, and has a word where each followed curve's kinds have
+/// one.
+pub fn events_are_named()
+    ensures within { (f : Followed) (b : Basis) (begin end : ℤ) →
+        All (λ e. (begin ≤ℤ e.minute) × (e.minute <ℤ end)) (station_events f b begin end) }
+    ensures named { (units : Units) (f : Followed) (b : Basis) (begin end : ℤ) → AreNamed units f →
+        All (λ e. IsTrue (has_word units e.kind)) (station_events f b begin end) }
+    ensures small { (b : Basis) (begin end : ℤ) (events : List Event) → HasOffsets b → All IsMovable events →
+        All (λ e. unsigned_abs e.level ≤ 1110000000000) (shifted_of b begin end events) }
+{}
+
+/// Curves that say the same of the widened span have the same events there, and the same number of
+/// cells, whatever they say elsewhere.
+pub fn agreeing_curves_have_one_list()
+    ensures events { (f g : Followed) (b : Basis) (begin end : ℤ) → AllAgree f g (widened_of b begin end) →
+        station_events f b begin end ≡ station_events g b begin end }
+    ensures cells { (f g : Followed) (s : Span) → AllAgree f g s → cell_count f s ≡ cell_count g s }
+{}

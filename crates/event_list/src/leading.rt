@@ -1,0 +1,43 @@
+//! Which track's event comes first.
+
+ghost use Rattle.std.specs.Prelude.{◌≡◌};
+ghost use Rattle.event_list.specs.Workings.Coming.{leads, IsLeading};
+
+use crate::rank::comes_before;
+use curve_law::Event;
+
+/// The track with the first event.
+#[derive(Clone, Copy)]
+pub enum Leading {
+    Turn,
+    Slack,
+    Mark,
+}
+
+/// The track whose event comes first, if any has one.
+pub fn leading_of(turn: Option<Event>, slack: Option<Event>, mark: Option<Event>) -> Leading
+    ensures { IsLeading result turn slack mark }
+{
+    if leads(turn, slack) {
+        if leads(turn, mark) {
+            Leading::Turn
+        } else {
+            Leading::Mark
+        }
+    } else if leads(slack, mark) {
+        Leading::Slack
+    } else {
+        Leading::Mark
+    }
+}
+
+/// Whether the second event, if it is there, doesn't come before the first.
+fn leads(first: Option<Event>, second: Option<Event>) -> bool
+    ensures { result ≡ leads first second }
+{
+    match (first, second) {
+        (_, None) => true,
+        (None, Some(_)) => false,
+        (Some(a), Some(b)) => !comes_before(&b, &a),
+    }
+}

@@ -1,0 +1,76 @@
+//! The events of a station's searches, one at a time.
+
+ghost use Rattle.std.specs.Prelude.{◌≡◌, ◌^◌, ◌<◌};
+ghost use Rattle.std.specs.Option.{ForSome};
+ghost use Rattle.event_list.specs.Events.{merged_of, cells_in};
+ghost use Rattle.event_list.specs.Merging.{tracks_left, GivesNext};
+
+use crate::coming::Coming;
+use crate::leading::{Leading, leading_of};
+use curve_law::{Curve, Event};
+use interval_search::Search;
+use std::marker::Model;
+
+/// The events of a station's searches in order, one at a time. It takes no memory, and asks a search
+/// for its next event once that is wanted.
+///
+/// Contracts see the events that are left, the number of cells that the searches have given so far,
+/// and the number of all their cells.
+#[derive(Drop)]
+pub struct Merge<A: Curve, B: Curve> {
+    turn: Coming<A>,
+    slack: Coming<B>,
+    mark: Coming<B>,
+}
+
+impl<A: Curve, B: Curve> Model for Merge<A, B> {
+    ghost use Rattle.event_list.specs.Merging.{Merging};
+    ghost use Rattle.event_list.specs.Workings.Coming.{Stands, merging_of};
+
+    ghost Value = { Merging };
+
+    ghost view = { λ m. merging_of m.turn m.slack m.mark };
+
+    ghost invariant = { λ m. Stands m.turn m.slack m.mark };
+}
+
+impl<A: Curve, B: Curve> Merge<A, B> {
+    /// A merge of searches that stand at one minute, have given no cell yet, and have fewer than 2^64
+    /// cells together. A track without a search isn't followed.
+    pub fn new(turn: Search<A>, slack: Option<Search<B>>, mark: Option<Search<B>>) -> Merge<A, B>
+        requires slack_at { ForSome slack (λ search. search.at ≡ turn.at) }
+        requires mark_at { ForSome mark (λ search. search.at ≡ turn.at) }
+        requires few { cells_in (tracks_left turn slack mark) < 2 ^ 64 }
+        ensures left { result.left ≡ merged_of turn.at (tracks_left turn slack mark) }
+        ensures cells { result.cells ≡ 0 }
+        ensures all { result.all ≡ cells_in (tracks_left turn slack mark) }
+    {
+        Merge {
+            turn: Coming::new(Some(turn)),
+            slack: Coming::new(slack),
+            mark: Coming::new(mark),
+        }
+    }
+
+    /// The next event; none where no event is left, and then the searches have given all their cells.
+    pub fn next(&mut self) -> Option<Event>
+        ensures next { GivesNext self.old result self.new }
+        ensures all { self.new.all ≡ self.old.all }
+    {
+        let turn = self.turn.peek();
+        let slack = self.slack.peek();
+        let mark = self.mark.peek();
+        match leading_of(turn, slack, mark) {
+            Leading::Turn => self.turn.next(),
+            Leading::Slack => self.slack.next(),
+            Leading::Mark => self.mark.next(),
+        }
+    }
+
+    /// How many cells the searches have given so far.
+    pub fn cells(&self) -> u64
+        ensures { result ≡ self.now.cells }
+    {
+        self.turn.cells() + self.slack.cells() + self.mark.cells()
+    }
+}

@@ -1,0 +1,23 @@
+//! The events of all tracks.
+
+ghost use Rattle.std.specs.Prelude.{◌≡◌, ◌^◌, ◌≤◌, unsigned_abs, IfOk};
+ghost use Rattle.event_list.specs.Events.{AreShort, merged_of};
+
+use crate::rank::in_order;
+use crate::turning::{add_followed_events, add_track_events};
+use curve_law::{Events, Tracks};
+use std::alloc::{AllocError, Global};
+
+/// The events in the cells of all tracks, in order. The cells of each track begin at the same minute,
+/// from -10^12 to 10^12, and have at most 6,000,000 minutes together.
+pub fn merged(alloc: Global, tracks: &Tracks, begin: i64) -> Result<Events, AllocError>
+    requires few { AreShort tracks.now }
+    requires begin { unsigned_abs begin ≤ 10 ^ 12 }
+    ensures { IfOk result (λ events. events ≡ merged_of begin tracks.now) }
+{
+    let mut events = Vec::new(alloc);
+    add_track_events(&mut events, &tracks.turn, begin)?;
+    add_followed_events(&mut events, &tracks.slack, begin)?;
+    add_followed_events(&mut events, &tracks.mark, begin)?;
+    Ok(Events::from_vec(in_order(events)))
+}

@@ -1,0 +1,86 @@
+//! An event of the reference, moved and scaled.
+
+ghost use Rattle.std.specs.Prelude.{◌≡◌, ◌+◌, ◌*◌, ◌^◌, ◌≤◌, ◌+ℤ◌, ◌*ℤ◌, unsigned_abs};
+ghost use Rattle.station_table.specs.Offsets.{IsOffset, IsAdd};
+ghost use Rattle.decimal_text.specs.Rounding.{rounded_of};
+ghost use Rattle.event_list.specs.Shifts.{HasOffsets, IsMovable, later_by, offset_of, scaled, moved};
+
+use curve_law::{Event, Kind};
+use decimal_text::rounded;
+use station_table::{Basis, Offset};
+
+/// The station's event of which an event of the reference tells: later by the add of its kind's
+/// offset, and its level times the factor, rounded to millionths of the unit, and then the plus.
+pub fn moved(basis: &Basis, event: &Event) -> Event
+    requires offsets { HasOffsets basis.now }
+    requires event { IsMovable event.now }
+    ensures { result ≡ moved basis.now event.now }
+{
+    let offset = offset_of(basis, event.kind);
+    Event {
+        minute: later(event.minute, offset.add),
+        kind: event.kind,
+        level: scaled(offset, event.level),
+    }
+}
+
+fn offset_of(basis: &Basis, kind: Kind) -> Offset
+    requires { HasOffsets basis.now }
+    ensures exact { result ≡ offset_of basis.now kind }
+    ensures range { IsOffset result }
+{
+    match (kind, basis.slack) {
+        (Kind::Low, _) => basis.low,
+        (Kind::FloodBegins, Some(slack)) => later_by(slack.flood_add),
+        (Kind::EbbBegins, Some(slack)) => later_by(slack.ebb_add),
+        _ => basis.high,
+    }
+}
+
+/// What moves an event and leaves its level as it is.
+fn later_by(add: i32) -> Offset
+    requires { IsAdd add }
+    ensures exact { result ≡ later_by add }
+    ensures range { IsOffset result }
+{
+    Offset {
+        add,
+        ..Offset::USUAL
+    }
+}
+
+fn later(minute: i64, add: i32) -> i64
+    requires minute { unsigned_abs minute ≤ 10 ^ 12 }
+    requires add { IsAdd add }
+    ensures { result ≡ minute +ℤ add }
+{
+    minute + i64::from(add)
+}
+
+fn scaled(offset: Offset, level: i64) -> i64
+    requires range { IsOffset offset }
+    requires level { unsigned_abs level ≤ 11000000000 }
+    ensures { result ≡ scaled offset level }
+{
+    raised(
+        rounded(product(level, offset.times), 1_000_000),
+        offset.plus,
+    )
+}
+
+fn product(level: i64, times: i64) -> i128
+    requires level { unsigned_abs level ≤ 11000000000 }
+    requires times { unsigned_abs times ≤ 100000000 }
+    ensures exact { result ≡ level *ℤ times }
+    ensures size { unsigned_abs result ≤ 11000000000 * 100000000 }
+{
+    i128::from(level) * i128::from(times)
+}
+
+fn raised(level: i128, plus: i64) -> i64
+    requires level { unsigned_abs level ≤ 2000000000000 }
+    requires plus { unsigned_abs plus ≤ 10000000000 }
+    ensures { result ≡ level +ℤ plus }
+{
+    level as i64 + plus
+}

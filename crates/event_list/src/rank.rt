@@ -1,0 +1,44 @@
+//! The order of events.
+
+ghost use Rattle.std.specs.Prelude.{◌≡◌};
+ghost use Rattle.curve_law.specs.Verdicts.{place_of};
+ghost use Rattle.event_list.specs.Order.{comes_before, ordered};
+
+use curve_law::{Event, Kind};
+
+/// What events are sorted by: the minute, the place of the kind, and the level.
+fn rank(event: &Event) -> (i64, u8, i64)
+    ensures { result ≡ record { 0 = event.now.minute; 1 = place_of event.now.kind; 2 = event.now.level } }
+{
+    (event.minute, place(event.kind), event.level)
+}
+
+/// The place of a kind among those of one minute.
+fn place(kind: Kind) -> u8
+    ensures { result ≡ place_of kind }
+{
+    match kind {
+        Kind::High => 0,
+        Kind::Low => 1,
+        Kind::FloodBegins => 2,
+        Kind::EbbBegins => 3,
+        Kind::MarkRising => 4,
+        Kind::MarkFalling => 5,
+    }
+}
+
+/// Whether the first event stands before the second one.
+pub fn comes_before(first: &Event, second: &Event) -> bool
+    ensures { result ≡ comes_before first.now second.now }
+{
+    rank(first) < rank(second)
+}
+
+/// The events in their order.
+pub fn in_order(events: Vec<Event>) -> Vec<Event>
+    ensures { result.items ≡ ordered events.items }
+{
+    let mut events = events;
+    events.sort_unstable_by_key(|event| rank(event));
+    events
+}

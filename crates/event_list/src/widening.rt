@@ -1,0 +1,54 @@
+//! The span of the reference from which a station's events come.
+
+ghost use Rattle.std.specs.Prelude.{◌≡◌, ◌+◌, ◌^◌, ◌≤◌, ◌-ℤ◌, ◌≤ℤ◌, unsigned_abs};
+ghost use Rattle.event_list.specs.Shifts.{HasOffsets, greatest_add, least_add, widened_of};
+ghost use Rattle.event_list.specs.Events.{minutes_in};
+
+use crate::span::Span;
+use station_table::Basis;
+
+/// The span of the reference from which every event of the station's span comes: `begin` less the
+/// most and `end` less the least minutes by which the basis moves an event. Both are from -10^12 to
+/// 10^12, and `begin` isn't later. It takes no memory.
+pub fn widened(basis: &Basis, begin: i64, end: i64) -> Span
+    requires forward { begin ≤ℤ end }
+    requires begin { unsigned_abs begin ≤ 10 ^ 12 }
+    requires end { unsigned_abs end ≤ 10 ^ 12 }
+    requires offsets { HasOffsets basis.now }
+    ensures exact { result ≡ widened_of basis.now begin end }
+    ensures forward { result.begin ≤ℤ result.end }
+    ensures begin_near { unsigned_abs (result.begin -ℤ begin) ≤ 1440 }
+    ensures end_near { unsigned_abs (result.end -ℤ end) ≤ 1440 }
+    ensures few { minutes_in result ≤ unsigned_abs (end -ℤ begin) + 2880 }
+{
+    Span {
+        begin: begin - i64::from(greatest_add(basis)),
+        end: end - i64::from(least_add(basis)),
+    }
+}
+
+fn greatest_add(basis: &Basis) -> i32
+    requires { HasOffsets basis.now }
+    ensures exact { result ≡ greatest_add basis.now }
+    ensures high { basis.now.high.add ≤ℤ result }
+    ensures size { unsigned_abs result ≤ 1440 }
+{
+    let most = basis.high.add.max(basis.low.add);
+    match basis.slack {
+        Some(slack) => most.max(slack.flood_add).max(slack.ebb_add),
+        None => most,
+    }
+}
+
+fn least_add(basis: &Basis) -> i32
+    requires { HasOffsets basis.now }
+    ensures exact { result ≡ least_add basis.now }
+    ensures high { result ≤ℤ basis.now.high.add }
+    ensures size { unsigned_abs result ≤ 1440 }
+{
+    let least = basis.high.add.min(basis.low.add);
+    match basis.slack {
+        Some(slack) => least.min(slack.flood_add).min(slack.ebb_add),
+        None => least,
+    }
+}

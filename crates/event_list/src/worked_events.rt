@@ -1,0 +1,53 @@
+//! Events of stations that were worked out by hand.
+
+ghost use Rattle.std.specs.Prelude.{◌≡◌, pos, negsuc, [], ◌∷◌, ◌++◌};
+ghost use Rattle.curve_law.specs.declared.kind.Kind.{Kind};
+ghost use Rattle.event_list.specs.Order.{ordered};
+ghost use Rattle.event_list.specs.Shifts.{moved, shifted_of, widened_of};
+ghost use Rattle.event_list.specs.Events.{cell_count, cells_in, merged_of, station_events};
+ghost use Rattle.event_list.specs.Worked.{dock, event, gate, harbour, lines, marks, slacks, tracks, waters};
+
+/// The span of the dock's and the gate's reference, and the pier's events as the dock, the gate and
+/// the harbour have them: the dock's first high comes from the day before, and its last falls out.
+#[tactic(auto, unfolding(decimal_text::specs::Rounding::rounded_of, crate::specs::Order::with_event, crate::specs::Order::ordered, crate::specs::Shifts::shifted_of))]
+pub fn worked_shifts()
+    ensures dock_span { widened_of dock (pos 0) (pos 1440) ≡ record { begin = negsuc 29; end = pos 1450 } }
+    ensures gate_span { widened_of gate (pos 0) (pos 1440) ≡ record { begin = negsuc 29; end = pos 1450 } }
+    ensures half { moved dock (event (pos 0) Kind.Low (pos 5)) ≡ event (negsuc 9) Kind.Low (pos 5) }
+    ensures half_below { moved dock (event (pos 0) Kind.Low (negsuc 4)) ≡ event (negsuc 9) Kind.Low (negsuc 4) }
+    ensures dock { shifted_of dock (pos 0) (pos 1440) waters
+        ≡ event (pos 29) Kind.High (pos 1199958) ∷ event (pos 350) Kind.Low (negsuc 899999)
+        ∷ event (pos 749) Kind.High (pos 1199958) ∷ event (pos 1070) Kind.Low (negsuc 899999) ∷ [] }
+    ensures gate { shifted_of gate (pos 0) (pos 1440) (waters ++ slacks)
+        ≡ event (pos 29) Kind.High (pos 1199958) ∷ event (pos 174) Kind.EbbBegins (pos 8727)
+        ∷ event (pos 350) Kind.Low (negsuc 899999) ∷ event (pos 545) Kind.FloodBegins (pos 0)
+        ∷ event (pos 749) Kind.High (pos 1199958) ∷ event (pos 894) Kind.EbbBegins (pos 8727)
+        ∷ event (pos 1070) Kind.Low (negsuc 899999) ∷ event (pos 1265) Kind.FloodBegins (pos 0) ∷ [] }
+    ensures harbour { shifted_of harbour (pos 0) (pos 720) (waters ++ marks)
+        ≡ event (pos 29) Kind.High (pos 2499924) ∷ event (pos 149) Kind.MarkFalling (pos 1515076)
+        ∷ event (pos 390) Kind.Low (negsuc 1499999) ∷ event (pos 630) Kind.MarkRising (pos 1500000) ∷ [] }
+    ensures ends_before_it { shifted_of dock (pos 29) (pos 350) waters ≡ event (pos 29) Kind.High (pos 1199958) ∷ [] }
+{}
+
+/// Events in order, and those of three tracks with their cells.
+#[tactic(auto, unfolding(curve_law::specs::Cells::turns, crate::specs::Order::with_event, crate::specs::Order::ordered, crate::specs::Events::merged_of, crate::specs::Events::cells_in))]
+pub fn worked_orders()
+    ensures one_minute { ordered (event (pos 5) Kind.MarkFalling (pos 0) ∷ event (pos 5) Kind.Low (pos 9)
+        ∷ event (pos 4) Kind.EbbBegins (pos 8) ∷ event (pos 5) Kind.FloodBegins (negsuc 0) ∷ [])
+        ≡ event (pos 4) Kind.EbbBegins (pos 8) ∷ event (pos 5) Kind.Low (pos 9)
+        ∷ event (pos 5) Kind.FloodBegins (negsuc 0) ∷ event (pos 5) Kind.MarkFalling (pos 0) ∷ [] }
+    ensures merged { merged_of (pos 10) tracks
+        ≡ event (pos 10) Kind.MarkRising (pos 5) ∷ event (pos 12) Kind.High (pos 7)
+        ∷ event (pos 12) Kind.MarkFalling (pos 5) ∷ event (pos 13) Kind.Low (pos 6)
+        ∷ event (pos 13) Kind.EbbBegins (pos 0) ∷ event (pos 16) Kind.FloodBegins (pos 1) ∷ [] }
+    ensures cells { cells_in tracks ≡ 14 }
+{}
+
+/// The events of two lines, at the dock and without offsets, and their cells.
+#[tactic(auto, unfolding(decimal_text::specs::Rounding::rounded_of, curve_law::specs::Track::minutes, curve_law::specs::Track::plain_list, curve_law::specs::Cover::keeps_side, curve_law::specs::Cover::is_quiet, curve_law::specs::Cover::unit_cell, curve_law::specs::Cover::split_within, curve_law::specs::Cover::split, curve_law::specs::Cover::cover_within, curve_law::specs::Cover::cover, crate::specs::Order::with_event, crate::specs::Order::ordered, crate::specs::Events::station_events, crate::specs::Events::cells_in, crate::specs::Events::cell_count))]
+pub fn worked_stations()
+    ensures dock { station_events lines dock (negsuc 9) (pos 32)
+        ≡ event (negsuc 7) Kind.Low (pos 2) ∷ event (pos 31) Kind.High (pos 100001) ∷ [] }
+    ensures dock_earlier { station_events lines dock (negsuc 9) (pos 31) ≡ event (negsuc 7) Kind.Low (pos 2) ∷ [] }
+    ensures cells { cell_count lines (record { begin = pos 0; end = pos 8 }) ≡ 8 }
+{}
