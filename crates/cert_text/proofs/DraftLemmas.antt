@@ -1,17 +1,16 @@
 -- A draft and the lines that it was read from: a certificate begins with them.
-use Rattle.std.proofs.Common.{◌≡◌, ◌≢◌, ℕ, zero, suc, ◌<◌, ◌≤◌, Bool, true, false, cond, List, [], ◌∷◌, ◌++◌, codes, map, length, get_or, drop, Option, Some, None, ℤ, pos, negsuc, ◌⊎◌, inl, inr, refl, sym, ap, ◌∙◌, subst, append-nil, append_assoc, lit<, lit≤, arith}
-use Rattle.std.specs.Prelude.{is_some, All, IfSome, option_and_then}
+use Rattle.std.proofs.Common.{◌≡◌, ◌≢◌, ℕ, zero, suc, ◌<◌, ◌≤◌, Bool, true, false, cond, List, [], ◌∷◌, ◌++◌, codes, map, get_or, drop, Some, None, pos, ◌⊎◌, inl, refl, sym, ap, ◌∙◌, subst, append-nil, append_assoc, lit<, lit≤, arith}
+use Rattle.std.specs.Prelude.{is_some, All, IfSome}
 use Rattle.std.specs.List.{AllByRecursion}
 use Rattle.std.specs.Option.{option_map}
-use Rattle.std.specs.Str.{bytes_eq, IsUtf8}
-use Rattle.std.proofs.lemmas.Bool.{false≢true}
+use Rattle.std.specs.Str.{bytes_eq}
 use Rattle.std.proofs.lemmas.Int.{ints}
 use Rattle.std.proofs.lemmas.List.{map_push}
 use Rattle.std.proofs.lemmas.List.Elements.{All-nil, All-from_recursion, recursion_from_All}
-use Rattle.std.proofs.lemmas.Option.{cond_some, same_Some, option_and_then_some}
+use Rattle.std.proofs.lemmas.Option.{cond_some, same_Some}
 use Rattle.std.proofs.lemmas.Str.{IsUtf8-from_ascii}
 use Rattle.curve_law.specs.declared.cell.Cell.{Cell}
-use Rattle.zone_time.specs.Moments.{IsMoment, moment_text}
+use Rattle.zone_time.specs.Moments.{IsMoment}
 use Rattle.cert_text.specs.declared.certificate.Certificate.{Certificate}
 use Rattle.cert_text.specs.declared.track_name.TrackName.{TrackName}
 use Rattle.cert_text.specs.declared.track_name.TrackName.TheVariants as tracks

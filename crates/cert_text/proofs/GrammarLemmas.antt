@@ -1,17 +1,16 @@
 -- The lines of a certificate spell it, and no others do.
-use Rattle.std.proofs.Common.{◌≡◌, ℕ, ◌≤◌, List, [], ◌∷◌, ◌++◌, codes, map, length, Option, Some, None, ℤ, ◌⊎◌, inl, inr, refl, sym, ap, ◌∙◌, subst}
-use Rattle.std.specs.Prelude.{is_some, decimal, All, IfSome}
+use Rattle.std.proofs.Common.{◌≡◌, ℕ, List, [], ◌∷◌, map, Option, Some, None, ℤ, ◌⊎◌, inl, inr, refl, ap, ◌∙◌}
+use Rattle.std.specs.Prelude.{is_some, All, IfSome}
 use Rattle.std.specs.List.{AllByRecursion, AllZip}
 use Rattle.std.proofs.lemmas.List.Elements.{recursion_from_All, All-from_recursion}
 use Rattle.curve_law.specs.declared.cell.Cell.{Cell}
 use Rattle.curve_law.specs.declared.cell.Cell.TheVariants as cells
-use Rattle.zone_time.specs.Moments.{IsMoment}
 use Rattle.cert_text.specs.declared.certificate.Certificate.{Certificate}
 use Rattle.cert_text.specs.declared.track_name.TrackName.{TrackName}
 use Rattle.cert_text.specs.declared.track_name.TrackName.TheVariants.{Turn, Slack, Mark}
 use Rattle.cert_text.specs.Certificates.{IsMark, IsCellOf, IsCertificate}
-use Rattle.cert_text.specs.Lines.{title_of, station_line_of, begin_line_of, end_line_of, mark_line_of, heading_of, cell_line_of, last_line, track_lines_of, lines_if_there, body_lines_of, lines_of, head_lines_of}
-use Rattle.cert_text.specs.Spelling.{SpellsVersion, SpellsMark, SpellsCell, SpellsTrack, SpellsSlack, SpellsCrossings, SpellsTracks, Spells}
+use Rattle.cert_text.specs.Lines.{title_of, station_line_of, begin_line_of, end_line_of, mark_line_of, heading_of, cell_line_of, last_line, track_lines_of, lines_if_there, body_lines_of, lines_of}
+use Rattle.cert_text.specs.Spelling.{SpellsVersion, SpellsMark, SpellsCell, SpellsTrack, SpellsSlack, SpellsCrossings, Spells}
 
 -- ---- a certificate's lines spell it
 

@@ -1,8 +1,9 @@
 -- How long the text of a certificate is.
-use Rattle.std.proofs.Common.{◌≡◌, ℕ, ◌+◌, ◌*◌, ◌<◌, ◌≤◌, List, [], ◌∷◌, ◌++◌, codes, map, length, Option, Some, None, ℤ, pos, ◌⊎◌, inl, inr, refl, sym, ap, ◌∙◌, append_assoc, length-append, arith}
+use Rattle.std.proofs.Common.{◌≡◌, ℕ, suc, ◌+◌, ◌*◌, ◌<◌, ◌≤◌, List, [], ◌∷◌, ◌++◌, codes, map, length, get_or, Option, Some, None, ℤ, pos, negsuc, ◌⊎◌, inl, inr, refl, sym, ap, ◌∙◌, append_assoc, length-append, lit<, arith}
 use Rattle.std.specs.Prelude.{unsigned_abs, unwrap_or, decimal, All, IfSome}
 use Rattle.std.specs.Fmt.{signed_decimal}
 use Rattle.std.specs.List.{AllByRecursion}
+use Rattle.std.proofs.lemmas.Fmt.{length-decimal-le}
 use Rattle.std.proofs.lemmas.List.Concat.{flat_map-append}
 use Rattle.std.proofs.lemmas.List.Elements.{recursion_from_All}
 use Rattle.curve_law.specs.declared.cell.Cell.{Cell}
@@ -14,8 +15,8 @@ use Rattle.cert_text.specs.declared.certificate.Certificate.{Certificate}
 use Rattle.cert_text.specs.declared.track_name.TrackName.{TrackName}
 use Rattle.cert_text.specs.declared.track_name.TrackName.TheVariants.{Turn, Slack, Mark}
 use Rattle.cert_text.specs.Tracks.{track_word, kind_word}
-use Rattle.cert_text.specs.Certificates.{IsMark, IsCell, IsCellOf, IsCertificate, cell_count}
-use Rattle.cert_text.specs.Lines.{title_of, station_line_of, begin_line_of, end_line_of, mark_line_of, heading_of, front_of, cell_line_of, last_line, head_lines_of, track_lines_of, lines_if_there, body_lines_of, lines_of, ended, joined, certificate_text}
+use Rattle.cert_text.specs.Certificates.{IsMark, IsCell, IsCellOf, IsCertificate, HasUsualLevel, HasUsualLevels, cell_count}
+use Rattle.cert_text.specs.Lines.{title_of, station_line_of, begin_line_of, end_line_of, mark_line_of, heading_of, front_of, cell_line_of, last_line, head_lines_of, track_lines_of, lines_if_there, ended, joined, certificate_text}
 use Rattle.cert_text.proofs.NumberLemmas.{length-signed}
 use Rattle.cert_text.proofs.TextLemmas.{length-moment_text}
 
@@ -86,23 +87,22 @@ cell_short (cells.Turn kind level) h = omega (arith, length-ended (front_of kind
 joined-cons : (line : List ℕ) (lines : List (List ℕ)) → length (joined (line ∷ lines)) ≡ length line + 1 + length (joined lines)
 joined-cons line lines = omega (arith, length-append (ended line) (joined lines), length-ended line)
 
-cell_of_track : (track : TrackName) (c : Cell) → IsCellOf track c → IsCell c
-cell_of_track track (cells.Quiet n) h = h
-cell_of_track track cells.Still h = h
-cell_of_track track (cells.Turn kind level) h = h.1
+-- a cell whose line has at most so many bytes
+abbrev IsShort : ℕ → Cell → Type 0
+IsShort most c = length (ended (cell_line_of c)) ≤ most
 
-cells_short : (track : TrackName) (cs : List Cell) → AllByRecursion (IsCellOf track) cs → length (joined (map cell_line_of cs)) ≤ 24 * length cs
-cells_short track [] h = omega arith
-cells_short track (c ∷ cs) h =
-    omega (arith, joined-cons (cell_line_of c) (map cell_line_of cs), length-ended (cell_line_of c), cell_short c (cell_of_track track c h.0), cells_short track cs h.1)
+cells_short : (most : ℕ) (cs : List Cell) → AllByRecursion (IsShort most) cs → length (joined (map cell_line_of cs)) ≤ most * length cs
+cells_short most [] h = omega arith
+cells_short most (c ∷ cs) h =
+    omega (arith, joined-cons (cell_line_of c) (map cell_line_of cs), length-ended (cell_line_of c), h.0, cells_short most cs h.1)
 
-track_short : (track : TrackName) (cs : List Cell) → All (IsCellOf track) cs → length (joined (track_lines_of track cs)) ≤ 12 + 24 * length cs
-track_short track cs h =
-    omega (arith, joined-cons (heading_of track) (map cell_line_of cs), heading_short track, cells_short track cs (recursion_from_All (IsCellOf track) cs h))
+track_short : (most : ℕ) (track : TrackName) (cs : List Cell) → All (IsShort most) cs → length (joined (track_lines_of track cs)) ≤ 12 + most * length cs
+track_short most track cs h =
+    omega (arith, joined-cons (heading_of track) (map cell_line_of cs), heading_short track, cells_short most cs (recursion_from_All (IsShort most) cs h))
 
-there_short : (track : TrackName) (o : Option (List Cell)) → IfSome o (All (IsCellOf track)) → length (joined (lines_if_there track o)) ≤ 12 + 24 * length (unwrap_or o [])
-there_short track None h = omega arith
-there_short track (Some cs) h = track_short track cs h
+there_short : (most : ℕ) (track : TrackName) (o : Option (List Cell)) → IfSome o (All (IsShort most)) → length (joined (lines_if_there track o)) ≤ 12 + most * length (unwrap_or o [])
+there_short most track None h = omega arith
+there_short most track (Some cs) h = track_short most track cs h
 
 head_short : (c : Certificate) → IsCertificate c → length (joined (head_lines_of c)) ≤ 495
 head_short c h =
@@ -124,8 +124,9 @@ last_short : length (ended last_line) ≡ 5
 unfolding last_line
 last_short = refl
 
-pub text_short : (c : Certificate) → IsCertificate c → length (certificate_text c) ≤ 536 + 24 * cell_count c
-text_short c h =
+-- where no cell's line is longer
+tracks_short : (most : ℕ) (c : Certificate) → IsCertificate c → All (IsShort most) c.tracks.turn → IfSome c.tracks.slack (All (IsShort most)) → IfSome c.tracks.mark (All (IsShort most)) → length (certificate_text c) ≤ 536 + most * cell_count c
+tracks_short most c h turn_short slack_short crossings_short =
     let head = joined (head_lines_of c) in let turn = joined (track_lines_of Turn c.tracks.turn) in
     let slack = joined (lines_if_there Slack c.tracks.slack) in let crossings = joined (lines_if_there Mark c.tracks.mark) in
     omega (
@@ -136,8 +137,50 @@ text_short c h =
       length-append (head ++ turn) slack,
       length-append head turn,
       head_short c h,
-      track_short Turn c.tracks.turn h.turn,
-      there_short Slack c.tracks.slack h.slack,
-      there_short Mark c.tracks.mark h.crossings,
+      track_short most Turn c.tracks.turn turn_short,
+      there_short most Slack c.tracks.slack slack_short,
+      there_short most Mark c.tracks.mark crossings_short,
       last_short,
     )
+
+cell_of_track : (track : TrackName) (c : Cell) → IsCellOf track c → IsCell c
+cell_of_track track (cells.Quiet n) h = h
+cell_of_track track cells.Still h = h
+cell_of_track track (cells.Turn kind level) h = h.1
+
+track_cells : (track : TrackName) (cs : List Cell) → All (IsCellOf track) cs → All (IsShort 24) cs
+track_cells track cs h = λ k d few. cell_short (get_or cs k d) (cell_of_track track (get_or cs k d) (h k d few))
+
+cells_there : (track : TrackName) (o : Option (List Cell)) → IfSome o (All (IsCellOf track)) → IfSome o (All (IsShort 24))
+cells_there track None h = h
+cells_there track (Some cs) h = track_cells track cs h
+
+pub text_short : (c : Certificate) → IsCertificate c → length (certificate_text c) ≤ 536 + 24 * cell_count c
+text_short c h =
+    tracks_short 24 c h (track_cells Turn c.tracks.turn h.turn) (cells_there Slack c.tracks.slack h.slack) (cells_there Mark c.tracks.mark h.crossings)
+
+-- ---- of usual ones
+
+length-level : (z : ℤ) → unsigned_abs z ≤ 11000000000 → length (signed_decimal z) ≤ 12
+length-level (pos n) h = omega (arith, length-decimal-le 11 n (lit< tt) (omega arith) (omega arith))
+length-level (negsuc n) h = omega (arith, length-decimal-le 11 (suc n) (lit< tt) (omega arith) (omega arith))
+
+pub usual_cell_short : (c : Cell) → IsCell c → HasUsualLevel c → length (ended (cell_line_of c)) ≤ 21
+unfolding cell_line_of
+usual_cell_short (cells.Quiet n) h usual = omega (arith, length-ended (codes "q " ++ decimal n), length-append (codes "q ") (decimal n), length-signed (pos n) (omega (arith, h.1)))
+usual_cell_short cells.Still h usual = omega arith
+usual_cell_short (cells.Turn kind level) h usual = omega (arith, length-ended (front_of kind ++ signed_decimal level), length-append (front_of kind) (signed_decimal level), front_short kind, length-level level usual)
+
+usual_cells : (track : TrackName) (cs : List Cell) → All (IsCellOf track) cs → All HasUsualLevel cs → All (IsShort 21) cs
+usual_cells track cs h usual = λ k d few. usual_cell_short (get_or cs k d) (cell_of_track track (get_or cs k d) (h k d few)) (usual k d few)
+
+usual_there : (track : TrackName) (o : Option (List Cell)) → IfSome o (All (IsCellOf track)) → IfSome o (All HasUsualLevel) → IfSome o (All (IsShort 21))
+usual_there track None h usual = h
+usual_there track (Some cs) h usual = usual_cells track cs h usual
+
+pub usual_short : (c : Certificate) → IsCertificate c → HasUsualLevels c → length (certificate_text c) ≤ 536 + 21 * cell_count c
+usual_short c h usual =
+    tracks_short 21 c h (usual_cells Turn c.tracks.turn h.turn usual.turn) (usual_there Slack c.tracks.slack h.slack usual.slack) (usual_there Mark c.tracks.mark h.crossings usual.crossings)
+
+pub usual_fits : (c : Certificate) → IsCertificate c → HasUsualLevels c → cell_count c ≤ 15819840 → length (certificate_text c) < 333000000
+usual_fits c h usual few = omega (arith, usual_short c h usual, few)

@@ -1,11 +1,11 @@
 -- What is read of a line is what the line says, and no other line says it.
-use Rattle.std.proofs.Common.{◌≡◌, ◌≢◌, ℕ, zero, suc, ◌+◌, ◌<◌, ◌≤◌, Bool, true, false, cond, eqb, List, [], ◌∷◌, ◌++◌, codes, length, get_or, take, drop, Option, Some, None, ℤ, pos, negsuc, ◌⊎◌, inl, inr, refl, sym, ap, ◌∙◌, subst, take-append-drop, arith}
-use Rattle.std.specs.Prelude.{unsigned_abs, decimal, not, ◌&&◌, All, IfSome, option_and_then}
+use Rattle.std.proofs.Common.{◌≡◌, ◌≢◌, ℕ, ◌<◌, ◌≤◌, Bool, true, false, cond, List, [], ◌∷◌, ◌++◌, codes, length, get_or, take, drop, Option, Some, None, ℤ, pos, negsuc, ◌⊎◌, inl, inr, refl, sym, ap, ◌∙◌, subst, take-append-drop, arith}
+use Rattle.std.specs.Prelude.{unsigned_abs, decimal, ◌&&◌, IfSome, option_and_then}
 use Rattle.std.specs.Fmt.{signed_decimal}
 use Rattle.std.specs.List.{list_all}
-use Rattle.std.specs.Option.{option_map, option_or}
+use Rattle.std.specs.Option.{option_or}
 use Rattle.std.specs.Str.{IsUtf8, is_utf8, bytes_eq}
-use Rattle.std.proofs.lemmas.Bool.{ltb-true, leb-true, lt-ltb, le-leb, and_parts, and_from, eqb-true, eqb-false, ne_eqb, not-true, not_from_false}
+use Rattle.std.proofs.lemmas.Bool.{ltb-true, leb-true, lt-ltb, le-leb, and_parts, and_from, eqb-false, ne_eqb, not-true, not_from_false}
 use Rattle.std.proofs.lemmas.List.{take_at, drop_at}
 use Rattle.std.proofs.lemmas.List.Sums.{AllPass-from_list_all, list_all-from_AllPass}
 use Rattle.std.proofs.lemmas.Option.{cond_some, same_Some, option_and_then_some}
@@ -22,7 +22,7 @@ use Rattle.cert_text.specs.declared.track_name.TrackName.{TrackName}
 use Rattle.cert_text.specs.declared.track_name.TrackName.TheVariants.{Turn, Slack, Mark}
 use Rattle.cert_text.specs.Tracks.{track_of, track_word, kind_word}
 use Rattle.cert_text.specs.Certificates.{IsStationName, IsMark, IsLevel, IsCellOf}
-use Rattle.cert_text.specs.Lines.{title_of, station_line_of, begin_line_of, end_line_of, mark_line_of, heading_of, front_of, cell_line_of, last_line}
+use Rattle.cert_text.specs.Lines.{title_of, station_line_of, mark_line_of, heading_of, front_of, cell_line_of, last_line}
 use Rattle.cert_text.specs.Workings.LineReading.{after, size_of, number_of, version_of, is_name_byte, named, station_of, moment_after, mark_within, mark_of, quiet_for, quiet_of, turn_of, first_kind, second_kind, cell_of}
 use Rattle.cert_text.proofs.OptionLemmas.{option_map_some, option_or_some}
 use Rattle.cert_text.proofs.NumberLemmas.{size_is, size_of-decimal, number_is, number_of-signed, first_digit}

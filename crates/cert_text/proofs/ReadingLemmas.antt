@@ -1,5 +1,5 @@
 -- Reading bytes gives the certificate whose text they are, or the line of the first fault.
-use Rattle.std.proofs.Common.{◌≡◌, ℕ, ◌+◌, ◌<◌, ◌≤◌, Bool, true, false, cond, eqb, List, [], ◌∷◌, ◌++◌, length, take, drop, Option, Some, None, Result, Ok, Err, ◌⊎◌, inl, inr, refl, sym, ap, ◌∙◌, subst, add-zero, append-nil, append_assoc, take-append-drop, length-append, arith}
+use Rattle.std.proofs.Common.{◌≡◌, ℕ, ◌+◌, ◌<◌, ◌≤◌, true, false, cond, eqb, List, [], ◌∷◌, ◌++◌, length, take, drop, Some, None, Result, Ok, Err, ◌⊎◌, inl, inr, refl, sym, ap, ◌∙◌, subst, add-zero, append-nil, append_assoc, take-append-drop, length-append, arith}
 use Rattle.std.specs.Prelude.{◌&&◌, IfOk}
 use Rattle.std.specs.Option.{ok_or}
 use Rattle.std.proofs.lemmas.Bool.{and_parts, eqb-true, cases_order}
@@ -19,7 +19,7 @@ use Rattle.cert_text.specs.Certificates.{IsCertificate}
 use Rattle.cert_text.specs.Lines.{lines_of, ended, joined, certificate_text}
 use Rattle.cert_text.specs.Spelling.{Spells, IsTextOf, BeginsFor, IsFaultLine, Refuses, Reads}
 use Rattle.cert_text.specs.Readings.{certificate_of, wants_memory}
-use Rattle.cert_text.specs.Workings.Drafts.{start, next, is_lf, pieces, TakesFault, placed, certificate_in, is_done, finished, read_from}
+use Rattle.cert_text.specs.Workings.Drafts.{start, next, pieces, TakesFault, placed, certificate_in, is_done, finished, read_from}
 use Rattle.cert_text.proofs.DraftLemmas.{Knows, said_at, front, certificate_known}
 use Rattle.cert_text.proofs.RunLemmas.{run, run-append, reached_from_start, final, run-lines_of, certificate_in-final}
 use Rattle.cert_text.proofs.CutLemmas.{lines_free, are_free_front, AreFree, pieces-joined, bytes_of_pieces, cut, some_piece}

@@ -1,5 +1,5 @@
 -- A draft after many lines: reading the lines of a certificate leaves the certificate.
-use Rattle.std.proofs.Common.{◌≡◌, ℕ, ◌+◌, ◌≤◌, Bool, true, false, cond, List, [], ◌∷◌, ◌++◌, codes, map, length, Option, Some, None, ℤ, pos, ◌⊎◌, inl, inr, refl, sym, ap, ◌∙◌, subst, append-nil, append_assoc}
+use Rattle.std.proofs.Common.{◌≡◌, ℕ, Bool, true, false, List, [], ◌∷◌, ◌++◌, codes, map, Option, Some, None, ℤ, refl, sym, ap, ◌∙◌, subst, append-nil, append_assoc}
 use Rattle.std.specs.Prelude.{is_some, unwrap_or, All, IfSome, option_and_then}
 use Rattle.std.specs.List.{AllByRecursion}
 use Rattle.std.specs.Str.{bytes_eq}
@@ -16,7 +16,7 @@ use Rattle.cert_text.specs.declared.draft.Draft.{Draft}
 use Rattle.cert_text.specs.Tracks.{track_word}
 use Rattle.cert_text.specs.Certificates.{IsCellOf, IsCertificate}
 use Rattle.cert_text.specs.Lines.{begin_line_of, end_line_of, heading_of, cell_line_of, last_line, track_lines_of, lines_if_there, lines_of}
-use Rattle.cert_text.specs.Workings.LineReading.{moment_after, cell_of}
+use Rattle.cert_text.specs.Workings.LineReading.{moment_after}
 use Rattle.cert_text.specs.Workings.Drafts.{start, next, after_slack, if_there, certificate_in}
 use Rattle.cert_text.proofs.LineLemmas.{version_of-title, station_of-line, moment_after-text, mark_of-line, cell_of-line, heading_no_cell, last_no_cell}
 use Rattle.cert_text.proofs.DraftLemmas.{Knows, knows_start, said_at, step}

@@ -1,7 +1,7 @@
 -- Lines cut from bytes, and how long a moment's text is.
 use Rattle.std.proofs.Common.{◌≡◌, ℕ, ◌+◌, ◌<◌, ◌≤◌, true, false, cond, ltb, List, [], ◌∷◌, length, take, drop, Option, Some, None, ℤ, refl, arith}
 use Rattle.std.specs.Prelude.{position}
-use Rattle.std.specs.List.{position_or_len, before_first, after_first}
+use Rattle.std.specs.List.{position_or_len}
 use Rattle.std.proofs.lemmas.Bool.{ltb-true, ltb-false}
 use Rattle.std.proofs.lemmas.List.{drop-drop}
 use Rattle.std.proofs.lemmas.List.Splits.{slice_split_first, slice_split_none}

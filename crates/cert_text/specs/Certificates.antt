@@ -48,6 +48,18 @@ pub record IsCertificate (c : Certificate) : Type 0 where
   pub crossings : IfSome c.tracks.mark (All (IsCellOf Mark))
   pub marked : is_some c.tracks.mark ≡ is_some c.mark
 
+-- an event's level is at most 11,000 units in size: a station's datum is at most 10,000, and its waves sum to at most 1,000
+abbrev pub HasUsualLevel : Cell → Type 0
+HasUsualLevel (cells.Quiet n) = Unit {0}
+HasUsualLevel cells.Still = Unit {0}
+HasUsualLevel (cells.Turn kind level) = unsigned_abs level ≤ 11000000000
+
+-- and so each event's in all tracks
+pub record HasUsualLevels (c : Certificate) : Type 0 where
+  pub turn : All HasUsualLevel c.tracks.turn
+  pub slack : IfSome c.tracks.slack (All HasUsualLevel)
+  pub crossings : IfSome c.tracks.mark (All HasUsualLevel)
+
 -- how many cells its tracks have
 abbrev pub cell_count : Certificate → ℕ
 cell_count c = length c.tracks.turn + length (unwrap_or c.tracks.slack []) + length (unwrap_or c.tracks.mark [])

@@ -1,11 +1,11 @@
 //! What follows of the grammar.
 
-ghost use Rattle.std.specs.Prelude.{◌≡◌, ◌≢◌, ℕ, ◌+◌, ◌*◌, ◌≤◌, List, ◌++◌, length, Ok, Err};
+ghost use Rattle.std.specs.Prelude.{◌≡◌, ◌≢◌, ℕ, ◌+◌, ◌*◌, ◌<◌, ◌≤◌, List, ◌++◌, length, Ok, Err};
 ghost use Rattle.curve_law.specs.declared.cell.Cell.{Cell};
 ghost use Rattle.cert_text.specs.declared.certificate.Certificate.{Certificate};
 ghost use Rattle.cert_text.specs.declared.fault.CertFault.{CertFault};
 ghost use Rattle.cert_text.specs.declared.track_name.TrackName.{TrackName};
-ghost use Rattle.cert_text.specs.Certificates.{IsCell, IsCertificate, cell_count};
+ghost use Rattle.cert_text.specs.Certificates.{IsCell, IsCertificate, HasUsualLevel, HasUsualLevels, cell_count};
 ghost use Rattle.cert_text.specs.Lines.{cell_line_of, last_line, head_lines_of, track_lines_of, lines_if_there, lines_of, ended, joined, certificate_text};
 ghost use Rattle.cert_text.specs.Spelling.{Spells, IsTextOf, IsFaultLine, Reads};
 ghost use Rattle.cert_text.specs.Readings.{certificate_of};
@@ -33,6 +33,16 @@ pub fn texts_come_in_parts()
     ensures cell { (cell : Cell) → IsCell cell → length (ended (cell_line_of cell)) ≤ 24 }
     ensures short { (c : Certificate) → IsCertificate c →
         length (certificate_text c) ≤ 536 + 24 * cell_count c }
+{}
+
+/// With levels of at most 11,000 units in size a cell has at most 21 bytes. Three tracks of 5,273,280
+/// single minutes, more than the longest span has, are shorter than 333,000,000 bytes.
+pub fn certificates_are_short()
+    ensures cell { (cell : Cell) → IsCell cell → HasUsualLevel cell → length (ended (cell_line_of cell)) ≤ 21 }
+    ensures short { (c : Certificate) → IsCertificate c → HasUsualLevels c →
+        length (certificate_text c) ≤ 536 + 21 * cell_count c }
+    ensures fits { (c : Certificate) → IsCertificate c → HasUsualLevels c → cell_count c ≤ 15819840 →
+        length (certificate_text c) < 333000000 }
 {}
 
 /// Reading by lines goes by the grammar for all bytes, and never tells of want of memory: it gives

@@ -25,7 +25,10 @@ mod writing;
 
 pub use certificate::Certificate;
 pub use fault::CertFault;
-pub use laws::{certificates_have_one_text, readings_go_by_the_grammar, texts_come_in_parts};
+pub use laws::{
+    certificates_are_short, certificates_have_one_text, readings_go_by_the_grammar,
+    texts_come_in_parts,
+};
 pub use line_writing::{
     begin_line, cell_line, end_line, heading_line, last_line, mark_line, title_line,
 };

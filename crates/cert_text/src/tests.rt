@@ -217,6 +217,7 @@ fn other_lines_are_written(rt: HostRuntime) {
 fn laws_and_rows_stand(_rt: HostRuntime) {
     certificates_have_one_text();
     texts_come_in_parts();
+    certificates_are_short();
     readings_go_by_the_grammar();
     worked_texts();
     worked_readings();

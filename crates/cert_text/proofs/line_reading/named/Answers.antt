@@ -1,5 +1,4 @@
-use Rattle.std.proofs.Common.{◌≡◌, ◌<◌, ◌∙◌, ap, sym, Some, length, arith}
-use Rattle.std.proofs.lemmas.Bool.{eqb-false}
+use Rattle.std.proofs.Common.{◌<◌, ◌∙◌, ap, sym, Some, length, arith}
 use Rattle.cert_text.proofs.LineLemmas.{named_yes, named_no}
 use Rattle.cert_text.proofs.line_reading.named.Goals as goal
 
