@@ -1,1 +1,6 @@
 pub mod Lines
+pub mod Listings
+pub mod Records
+pub mod StationLists
+pub mod Workings
+pub mod Worked

@@ -1,6 +1,6 @@
 //! Levels as text.
 
-ghost use Rattle.std.specs.Prelude.{◌≡◌, ◌+◌, ◌≤◌, ◌++◌, length, replicate};
+ghost use Rattle.std.specs.Prelude.{◌≡◌, ◌+◌, ◌≤◌, [], ◌++◌, length, replicate};
 ghost use Rattle.arrayvec.specs.ArrayString.{array_string_len};
 ghost use Rattle.decimal_text.specs.Rounding.{rounded_of};
 ghost use Rattle.listing.specs.Lines.{level_text, padded};
@@ -8,14 +8,22 @@ ghost use Rattle.listing.specs.Lines.{level_text, padded};
 use arrayvec::ArrayString;
 use decimal_text::{rounded, write};
 
-/// Appends a level, given in millionths, in hundredths and right in 9 places.
+/// Writes a level, given in millionths, in hundredths, as `-1.00`. It takes no memory.
+pub fn write_level(level: i64, out: &mut ArrayString<24>)
+    requires { out.old.bytes ≡ [] }
+    ensures { out.new.bytes ≡ level_text level }
+{
+    write(hundredths(level), 2, out);
+}
+
+/// Appends the same right in 9 places.
 pub(crate) fn push_level(level: i64, out: &mut ArrayString<96>)
     requires { array_string_len out.old + 24 ≤ 96 }
     ensures bytes { out.new.bytes ≡ out.old.bytes ++ padded 9 (level_text level) }
     ensures short { array_string_len out.new ≤ array_string_len out.old + 24 }
 {
     let mut text = ArrayString::new();
-    write(hundredths(level), 2, &mut text);
+    write_level(level, &mut text);
     push_right(text.as_str(), out);
 }
 

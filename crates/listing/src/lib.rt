@@ -1,17 +1,33 @@
-//! Listings of events, line by line.
+//! Listings of events and levels, line by line, as comma-separated values, and of stations.
 //!
 //! A line of a listing has the local time with its label, the level in hundredths of the unit, the
-//! unit and the event's name: [`event_line`]. `specs/Lines.antt` has its layout.
+//! unit and the event's name: [`event_line`]. [`plain_events`] puts such lines below the station's
+//! name, [`csv_events`] the same events into records; both are likewise for levels, and
+//! [`clock_text`] begins with the level now. [`stations_text`] lists a book's stations and a table's.
+//! `specs/` has the layouts.
 #![tactic(auto)]
 
+mod clock;
 mod level;
 mod lines;
+mod plain;
+mod records;
+mod row;
+mod rows;
+mod stations;
 mod unit;
 mod worked;
 
+pub use clock::clock_text;
+pub use level::write_level;
 pub use lines::{event_line, height_line};
+pub use plain::{plain_events, plain_heights};
+pub use records::{csv_events, csv_heights};
+pub use row::Row;
+pub use rows::Rows;
+pub use stations::stations_text;
 pub use unit::unit_text;
-pub use worked::{worked_levels, worked_lines};
+pub use worked::{worked_levels, worked_lines, worked_listings, worked_records, worked_stations};
 
 #[cfg(test)]
 mod tests;

@@ -1,106 +1,300 @@
+ghost use Rattle.std.specs.Prelude.{All, IfOk, IsTrue};
+ghost use Rattle.listing.specs.Listings.{IsListed};
+ghost use Rattle.zone_time.specs.Zones.{IsZone, InZoneYears};
+
 use super::*;
 use arrayvec::ArrayString;
-use curve_law::{Event, Kind};
-use harmonics_text::Units;
-use zone_time::{Label, Local};
+use curve_law::{Event, Events, Kind};
+use decimal_text::Text;
+use harmonics_text::{Units, read_book};
+use station_table::read_offsets;
+use std::alloc::{AllocError, Global};
+use std::test::Fail;
+use zone_time::{Label, Local, Zone};
 
-const BEHIND: Label = Label::Minutes(-300);
+fn is_in_years(minute: i64) -> bool
+    ensures { IsTrue result → InZoneYears minute }
+{
+    (-1_035_069_120..=3_855_733_919).contains(&minute)
+}
 
-const AHEAD: Label = Label::Minutes(345);
+fn is_row(row: &Row) -> bool
+    ensures { IsTrue result → InZoneYears row.now.minute }
+{
+    is_in_years(row.minute)
+}
 
-#[test]
-fn events_have_lines(rt: HostRuntime) {
-    for (minute, label, kind, level, line) in [
-        (
-            15791400,
-            Label::Utc,
-            Kind::Low,
-            -1000000,
-            "2000-01-10 06:00 UTC      -1.00 feet  Low Tide\n",
-        ),
-        (
-            15791759,
-            Label::Utc,
-            Kind::High,
-            999962,
-            "2000-01-10 11:59 UTC       1.00 feet  High Tide\n",
-        ),
-        (
-            15792120,
-            Label::Utc,
-            Kind::Low,
-            -1000000,
-            "2000-01-10 18:00 UTC      -1.00 feet  Low Tide\n",
-        ),
-        (
-            15792479,
-            Label::Utc,
-            Kind::High,
-            999962,
-            "2000-01-10 23:59 UTC       1.00 feet  High Tide\n",
-        ),
-        (
-            15791100,
-            BEHIND,
-            Kind::Low,
-            -1000000,
-            "2000-01-10 01:00 -05:00      -1.00 feet  Low Tide\n",
-        ),
-        (
-            15791159,
-            AHEAD,
-            Kind::MarkFalling,
-            508711,
-            "2000-01-10 01:59 +05:45       0.51 feet  Mark Falling\n",
-        ),
-        (
-            15791400,
-            Label::Utc,
-            Kind::MarkRising,
-            -4999,
-            "2000-01-10 06:00 UTC       0.00 feet  Mark Rising\n",
-        ),
-    ] {
-        let local = Local { minute, label };
+fn is_listed(units: Units, event: &Event) -> bool
+    ensures { IsTrue result → IsListed units event.now }
+{
+    let is_named = match units {
+        Units::Feet | Units::Meters => {
+            !matches!(event.kind, Kind::FloodBegins | Kind::EbbBegins)
+        }
+        Units::Knots => true,
+        Units::KnotsSquared => false,
+    };
+    is_named && is_in_years(event.minute)
+}
+
+// Minutes, kinds and levels as events, where they can be listed.
+fn events_of(alloc: Global, units: Units, items: &[(i64, Kind, i64)]) -> Result<Events, AllocError>
+    ensures { IfOk result (All (IsListed units)) }
+{
+    let mut events = Vec::new(alloc);
+    for &(minute, kind, level) in items {
         let event = Event {
             minute,
             kind,
             level,
         };
-        let mut out = ArrayString::new();
-        if (0..=4223371679).contains(&minute)
-            && (label == Label::Utc || label == BEHIND || label == AHEAD)
-            && is_of_tide(kind)
-        {
-            event_line(&local, &event, Units::Feet, &mut out);
+        if is_listed(units, &event) {
+            events.push(event)?;
         }
-        assert_eq!(rt; out.as_str(), line);
+    }
+    Ok(Events::from_vec(events))
+}
+
+fn rows_of(alloc: Global, items: &[(i64, i64)]) -> Result<Rows, AllocError>
+    ensures { IfOk result (All (λ row. InZoneYears row.minute)) }
+{
+    let mut rows = Vec::new(alloc);
+    for &(minute, level) in items {
+        let row = Row { minute, level };
+        if is_row(&row) {
+            rows.push(row)?;
+        }
+    }
+    Ok(Rows::from_vec(rows))
+}
+
+// The zone that is so many minutes ahead of universal time, which it is where that is 0.
+fn zone_of(ahead: i32) -> Zone
+    ensures { IsZone result }
+{
+    if ahead == 0 || !(-1560..=1560).contains(&ahead) {
+        Zone::Utc
+    } else {
+        Zone::Fixed(ahead)
     }
 }
 
-fn is_of_tide(kind: Kind) -> bool {
-    !matches!(kind, Kind::FloodBegins | Kind::EbbBegins)
+const TIDE: &[(i64, Kind, i64)] = &[
+    (15791400, Kind::Low, -1000000),
+    (15791759, Kind::High, 999962),
+    (15792120, Kind::Low, -1000000),
+    (15792479, Kind::High, 999962),
+];
+
+const CURRENT: &[(i64, Kind, i64)] = &[
+    (15791219, Kind::EbbBegins, 8727),
+    (15791400, Kind::Low, -1000000),
+    (15791460, Kind::MarkRising, -500000),
+    (15791580, Kind::FloodBegins, 0),
+];
+
+// A station, its unit, the minutes that a clock is ahead, events, and both listings of them.
+const EVENTS: &[(&str, Units, i32, &[(i64, Kind, i64)], &str, &str)] = &[
+    (
+        "Pier",
+        Units::Feet,
+        0,
+        TIDE,
+        "Pier\n\
+        2000-01-10 06:00 UTC      -1.00 feet  Low Tide\n\
+        2000-01-10 11:59 UTC       1.00 feet  High Tide\n\
+        2000-01-10 18:00 UTC      -1.00 feet  Low Tide\n\
+        2000-01-10 23:59 UTC       1.00 feet  High Tide\n",
+        "station,moment,local,event,level,units\n\
+        Pier,2000-01-10T06:00Z,2000-01-10 06:00,Low Tide,-1.000000,feet\n\
+        Pier,2000-01-10T11:59Z,2000-01-10 11:59,High Tide,0.999962,feet\n\
+        Pier,2000-01-10T18:00Z,2000-01-10 18:00,Low Tide,-1.000000,feet\n\
+        Pier,2000-01-10T23:59Z,2000-01-10 23:59,High Tide,0.999962,feet\n",
+    ),
+    (
+        "Pier, \"old\"",
+        Units::Meters,
+        345,
+        &[(15792479, Kind::High, 999962)],
+        "Pier, \"old\"\n2000-01-11 05:44 +05:45       1.00 meters  High Tide\n",
+        "station,moment,local,event,level,units\n\
+        \"Pier, \"\"old\"\"\",2000-01-10T23:59Z,2000-01-11 05:44,High Tide,0.999962,meters\n",
+    ),
+    (
+        "Gaté",
+        Units::Knots,
+        -300,
+        CURRENT,
+        "Gaté\n\
+        2000-01-09 21:59 -05:00       0.01 knots  Slack Ebb Begins\n\
+        2000-01-10 01:00 -05:00      -1.00 knots  Max Ebb\n\
+        2000-01-10 02:00 -05:00      -0.50 knots  Mark Rising\n\
+        2000-01-10 04:00 -05:00       0.00 knots  Slack Flood Begins\n",
+        "station,moment,local,event,level,units\n\
+        Gaté,2000-01-10T02:59Z,2000-01-09 21:59,Slack Ebb Begins,0.008727,knots\n\
+        Gaté,2000-01-10T06:00Z,2000-01-10 01:00,Max Ebb,-1.000000,knots\n\
+        Gaté,2000-01-10T07:00Z,2000-01-10 02:00,Mark Rising,-0.500000,knots\n\
+        Gaté,2000-01-10T09:00Z,2000-01-10 04:00,Slack Flood Begins,0.000000,knots\n",
+    ),
+    (
+        "Pier",
+        Units::Feet,
+        0,
+        &[],
+        "Pier\n",
+        "station,moment,local,event,level,units\n",
+    ),
+];
+
+#[test]
+fn events_are_listed(rt: HostRuntime) -> Result<(), Fail> {
+    let alloc = rt.alloc();
+    for &(name, units, ahead, items, plain, csv) in EVENTS {
+        let name = Text::from_str(alloc, name)?;
+        let events = events_of(alloc, units, items)?;
+        let zone = zone_of(ahead);
+        let text = plain_events(alloc, &name, units, &events, &zone)?;
+        assert_eq!(rt; text.as_slice(), plain.as_bytes());
+        let text = csv_events(alloc, &name, units, &events, &zone)?;
+        assert_eq!(rt; text.as_slice(), csv.as_bytes());
+    }
+    Ok(())
+}
+
+// The minutes that a clock is ahead, levels, and both listings of them.
+const HEIGHTS: &[(i32, &[(i64, i64)], &str, &str)] = &[
+    (
+        -300,
+        &[(15791040, 1000000), (15791400, -1000000)],
+        "Pier\n\
+        2000-01-09 19:00 -05:00       1.00 feet\n\
+        2000-01-10 01:00 -05:00      -1.00 feet\n",
+        "station,moment,local,level,units\n\
+        Pier,2000-01-10T00:00Z,2000-01-09 19:00,1.000000,feet\n\
+        Pier,2000-01-10T06:00Z,2000-01-10 01:00,-1.000000,feet\n",
+    ),
+    (
+        0,
+        &[(15778380, 3004334)],
+        "Pier\n2000-01-01 05:00 UTC       3.00 feet\n",
+        "station,moment,local,level,units\n\
+        Pier,2000-01-01T05:00Z,2000-01-01 05:00,3.004334,feet\n",
+    ),
+];
+
+#[test]
+fn heights_are_listed(rt: HostRuntime) -> Result<(), Fail> {
+    let alloc = rt.alloc();
+    let name = Text::from_str(alloc, "Pier")?;
+    for &(ahead, items, plain, csv) in HEIGHTS {
+        let rows = rows_of(alloc, items)?;
+        let zone = zone_of(ahead);
+        let text = plain_heights(alloc, &name, Units::Feet, &rows, &zone)?;
+        assert_eq!(rt; text.as_slice(), plain.as_bytes());
+        let text = csv_heights(alloc, &name, Units::Feet, &rows, &zone)?;
+        assert_eq!(rt; text.as_slice(), csv.as_bytes());
+    }
+    Ok(())
+}
+
+// Whether the level rises, the minutes that a clock is ahead, events, and what the clock tells.
+const CLOCKS: &[(bool, i32, &[(i64, Kind, i64)], &str)] = &[
+    (
+        false,
+        0,
+        TIDE,
+        "Pier\n\
+        Now 2000-01-10 03:00 UTC       0.00 feet  Falling\n\
+        2000-01-10 06:00 UTC      -1.00 feet  Low Tide\n\
+        2000-01-10 11:59 UTC       1.00 feet  High Tide\n\
+        2000-01-10 18:00 UTC      -1.00 feet  Low Tide\n\
+        2000-01-10 23:59 UTC       1.00 feet  High Tide\n",
+    ),
+    (
+        true,
+        -300,
+        &[],
+        "Pier\nNow 2000-01-09 22:00 -05:00       0.00 feet  Rising\n",
+    ),
+];
+
+#[test]
+fn clocks_are_told(rt: HostRuntime) -> Result<(), Fail> {
+    let alloc = rt.alloc();
+    let name = Text::from_str(alloc, "Pier")?;
+    for &(rising, ahead, items, expected) in CLOCKS {
+        let events = events_of(alloc, Units::Feet, items)?;
+        let zone = zone_of(ahead);
+        let text = clock_text(
+            alloc,
+            &name,
+            Units::Feet,
+            15791220,
+            0,
+            rising,
+            &events,
+            &zone,
+        )?;
+        assert_eq!(rt; text.as_slice(), expected.as_bytes());
+    }
+    Ok(())
+}
+
+const BOOK: &[u8] = b"1\nS2 30\n1999\n1\nS2\n0\n*END*\n1\nS2\n1\n*END*\n\
+    Pier\n0:00 :UTC\n0 feet\nS2 1 0\n\
+    Gate\n0:00 :UTC\n0 knots^2\nS2 1 0\n\
+    Pier\n0:00 :UTC\n0 meters\nS2 1 0\n";
+
+const TABLE: &[u8] = b"name,reference,high_add,low_add,high_times,low_times,high_plus,low_plus\n\
+    Dock,Pier,0:30,-0:10,1.1,0.9,0.1,0\n\
+    \"Outer, east\",Gate,,,,,,\n\
+    Lost,Nowhere,,,,,,\n\
+    Pier,Dock,,,,,,\n";
+
+#[test]
+fn stations_are_listed(rt: HostRuntime) -> Result<(), Fail> {
+    let alloc = rt.alloc();
+    let book = read_book(alloc, BOOK).ok().ok_or("a book")?;
+    let table = read_offsets(alloc, TABLE).ok().ok_or("a table")?;
+    let text = stations_text(alloc, &book, &table)?;
+    let expected = "Ref feet Pier\n\
+        Ref knots^2 Gate\n\
+        Ref meters Pier\n\
+        Sub feet Dock (Pier)\n\
+        Sub knots^2 Outer, east (Gate)\n\
+        Sub - Lost (Nowhere)\n\
+        Sub - Pier (Dock)\n";
+    assert_eq!(rt; text.as_slice(), expected.as_bytes());
+    Ok(())
 }
 
 #[test]
-fn heights_have_lines(rt: HostRuntime) {
+fn levels_are_rounded(rt: HostRuntime) {
     for (level, units, line) in [
-        (1000000, Units::Feet, "2000-01-10 00:00 UTC       1.00 feet"),
         (
             -15000,
             Units::Meters,
-            "2000-01-10 00:00 UTC      -0.02 meters",
+            "2000-01-10 00:00 +05:45      -0.02 meters",
         ),
-        (14999, Units::Knots, "2000-01-10 00:00 UTC       0.01 knots"),
+        (
+            14999,
+            Units::Knots,
+            "2000-01-10 00:00 +05:45       0.01 knots",
+        ),
+        (
+            -4999,
+            Units::Feet,
+            "2000-01-10 00:00 +05:45       0.00 feet",
+        ),
         (
             i64::MIN,
             Units::KnotsSquared,
-            "2000-01-10 00:00 UTC  -9223372036854.78 knots^2",
+            "2000-01-10 00:00 +05:45  -9223372036854.78 knots^2",
         ),
     ] {
         let local = Local {
             minute: 15791040,
-            label: Label::Utc,
+            label: Label::Minutes(345),
         };
         let mut out = ArrayString::new();
         height_line(&local, level, units, &mut out);
@@ -108,4 +302,7 @@ fn heights_have_lines(rt: HostRuntime) {
     }
     worked_lines();
     worked_levels();
+    worked_listings();
+    worked_records();
+    worked_stations();
 }

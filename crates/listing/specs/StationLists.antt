@@ -1,0 +1,31 @@
+-- The list of stations: those of a book, and those that a table makes of them (the layout of XTide's list of locations).
+use Rattle.std.specs.Prelude.{ℕ, List, ◌++◌, codes, Option, Some, None, option_map, find}
+use Rattle.std.specs.List.{flat_map}
+use Rattle.std.specs.Str.{bytes_eq}
+use Rattle.harmonics_text.specs.declared.book.Book.{Book}
+use Rattle.harmonics_text.specs.declared.book.Station.{Station}
+use Rattle.harmonics_text.specs.declared.book.Units.{Units}
+use Rattle.station_table.specs.declared.offsets.Offsets.{Offsets}
+use Rattle.listing.specs.Lines.{text_of_unit}
+
+-- the unit of the first station of that name
+abbrev pub unit_in : List Station → List ℕ → Option Units
+unit_in stations name = option_map (λ station. station.units) (find (λ station. bytes_eq name station.name) stations)
+
+-- a unit, or `-` where there is none
+abbrev pub unit_or_dash : Option Units → List ℕ
+unit_or_dash None = codes "-"
+unit_or_dash (Some units) = text_of_unit units
+
+abbrev pub reference_line : Station → List ℕ
+reference_line station = codes "Ref " ++ text_of_unit station.units ++ codes " " ++ station.name ++ codes "\n"
+
+-- a subordinate station has the unit of its reference
+abbrev pub subordinate_line : List Station → Offsets → List ℕ
+subordinate_line stations row =
+    codes "Sub " ++ unit_or_dash (unit_in stations row.reference) ++ codes " " ++ row.name
+    ++ codes " (" ++ row.reference ++ codes ")\n"
+
+-- a line for each station of the book, and then one for each row of the table
+unfoldable pub stations_text_of : Book → List Offsets → List ℕ
+stations_text_of book table = flat_map reference_line book.stations ++ flat_map (subordinate_line book.stations) table

@@ -1,0 +1,17 @@
+-- The units of stations by their names.
+use Rattle.std.specs.Prelude.{◌≡◌, ℕ, List, Option}
+use Rattle.std.specs.Borrow.{Bor}
+use Rattle.std.specs.BTreeMap.{BTreeMap, get_by}
+use Rattle.std.specs.Cmp.Lexicographic.{slice_cmp}
+use Rattle.std.specs.Ordering.{nat_cmp}
+use Rattle.harmonics_text.specs.declared.book.Station.{Station}
+use Rattle.harmonics_text.specs.declared.book.Units.{Units}
+use Rattle.listing.specs.StationLists.{unit_in}
+
+-- what a map has for a name
+abbrev pub unit_for : BTreeMap (Bor (List ℕ)) Units → List ℕ → Option Units
+unit_for units name = get_by (λ key. slice_cmp nat_cmp name key.now) units
+
+-- a map has the unit of the first station of each name
+abbrev pub AreUnitsOf : List Station → BTreeMap (Bor (List ℕ)) Units → Type 0
+AreUnitsOf stations units = (name : List ℕ) → unit_for units name ≡ unit_in stations name

@@ -1,0 +1,69 @@
+//! What a station's clock tells.
+
+ghost use Rattle.std.specs.Prelude.{◌≡◌, ◌++◌, All, IfOk, OnOk};
+ghost use Rattle.listing.specs.Listings.{IsListed, clock_text_of, direction_of, now_line_of};
+ghost use Rattle.zone_time.specs.Zones.{IsZone, InZoneYears};
+
+use crate::lines::height_line;
+use crate::plain::{name_line, push_events};
+use arrayvec::ArrayString;
+use curve_law::Events;
+use decimal_text::{Bytes, Text};
+use harmonics_text::Units;
+use std::alloc::{AllocError, Global};
+use zone_time::Zone;
+
+/// The station's name, a line such as `Now 2000-01-10 03:00 UTC       0.00 feet  Falling`, and the
+/// line of each event, as [`event_line`](crate::event_line) has it.
+///
+/// The level is in millionths of the unit. Each event has a [`word`](event_list::word) in that unit,
+/// and each minute is of the years from 2 to 9300 or of the day before them.
+#[tactic(auto, unfolding(crate::specs::Listings::clock_text_of))]
+pub fn clock_text(
+    alloc: Global,
+    name: &Text,
+    units: Units,
+    now: i64,
+    level: i64,
+    rising: bool,
+    events: &Events,
+    zone: &Zone,
+) -> Result<Bytes, AllocError>
+    requires zone { IsZone zone.now }
+    requires now { InZoneYears now }
+    requires listed { All (IsListed units) events.now }
+    ensures { IfOk result (λ text. text ≡ clock_text_of name.now units now level rising events.now zone.now) }
+{
+    let mut text = name_line(alloc, name)?;
+    push_now(&mut text, units, now, level, rising, zone)?;
+    push_events(&mut text, units, events.as_slice(), zone)?;
+    Ok(Bytes::from_vec(text))
+}
+
+fn push_now(
+    text: &mut Vec<u8>,
+    units: Units,
+    now: i64,
+    level: i64,
+    rising: bool,
+    zone: &Zone,
+) -> Result<(), AllocError>
+    requires zone { IsZone zone.now }
+    requires now { InZoneYears now }
+    ensures { OnOk result (text.new.items ≡ text.old.items ++ now_line_of zone.now units now level rising) }
+{
+    let local = zone.local(now)?;
+    let mut height = ArrayString::new();
+    height_line(&local, level, units, &mut height);
+    text.extend_from_slice(b"Now ")?;
+    text.extend_from_slice(height.as_str().as_bytes())?;
+    text.extend_from_slice(b"  ")?;
+    text.extend_from_slice(direction(rising).as_bytes())?;
+    text.extend_from_slice(b"\n")
+}
+
+fn direction(rising: bool) -> &'static str
+    ensures { result.now ≡ direction_of rising }
+{
+    if rising { "Rising" } else { "Falling" }
+}

@@ -1,0 +1,112 @@
+//! Listings in lines.
+
+ghost use Rattle.std.specs.Prelude.{◌≡◌, ◌++◌, All, IfOk, OnOk, codes};
+ghost use Rattle.std.specs.List.{flat_map};
+ghost use Rattle.listing.specs.Listings.{IsListed, event_line_in, row_line_in, plain_events_of, plain_heights_of};
+ghost use Rattle.zone_time.specs.Zones.{IsZone, InZoneYears};
+
+use crate::lines::{event_line, height_line};
+use crate::row::Row;
+use crate::rows::Rows;
+use arrayvec::ArrayString;
+use curve_law::{Event, Events};
+use decimal_text::{Bytes, Text};
+use harmonics_text::Units;
+use std::alloc::{AllocError, Global};
+use zone_time::Zone;
+
+/// The station's name, and the line of each event in the zone's local time, as [`event_line`] has it.
+///
+/// Each event has a [`word`](event_list::word) in that unit, and a minute of the years from 2 to
+/// 9300 or of the day before them.
+#[tactic(auto, unfolding(crate::specs::Listings::plain_events_of))]
+pub fn plain_events(
+    alloc: Global,
+    name: &Text,
+    units: Units,
+    events: &Events,
+    zone: &Zone,
+) -> Result<Bytes, AllocError>
+    requires zone { IsZone zone.now }
+    requires listed { All (IsListed units) events.now }
+    ensures { IfOk result (λ text. text ≡ plain_events_of name.now units events.now zone.now) }
+{
+    let mut text = name_line(alloc, name)?;
+    push_events(&mut text, units, events.as_slice(), zone)?;
+    Ok(Bytes::from_vec(text))
+}
+
+/// The station's name, and the line of each level in the zone's local time, as [`height_line`] has
+/// it, with LF. The minutes are of the years from 2 to 9300 or of the day before them.
+#[tactic(auto, unfolding(crate::specs::Listings::plain_heights_of))]
+pub fn plain_heights(
+    alloc: Global,
+    name: &Text,
+    units: Units,
+    rows: &Rows,
+    zone: &Zone,
+) -> Result<Bytes, AllocError>
+    requires zone { IsZone zone.now }
+    requires listed { All (λ row. InZoneYears row.minute) rows.now }
+    ensures { IfOk result (λ text. text ≡ plain_heights_of name.now units rows.now zone.now) }
+{
+    let mut text = name_line(alloc, name)?;
+    for row in rows.as_slice() {
+        push_row(&mut text, units, row, zone)?;
+    }
+    Ok(Bytes::from_vec(text))
+}
+
+/// The line of a name, which a listing begins with.
+pub(crate) fn name_line(alloc: Global, name: &Text) -> Result<Vec<u8>, AllocError>
+    ensures { IfOk result (λ text. text.items ≡ name.now ++ codes "\n") }
+{
+    let mut text = Vec::from_slice(alloc, name.as_str().as_bytes())?;
+    text.push(b'\n')?;
+    Ok(text)
+}
+
+/// Appends a line for each event.
+pub(crate) fn push_events(
+    text: &mut Vec<u8>,
+    units: Units,
+    events: &[Event],
+    zone: &Zone,
+) -> Result<(), AllocError>
+    requires zone { IsZone zone.now }
+    requires listed { All (IsListed units) events.now }
+    ensures { OnOk result (text.new.items ≡ text.old.items ++ flat_map (event_line_in zone.now units) events.now) }
+{
+    for event in events {
+        push_event(text, units, event, zone)?;
+    }
+    Ok(())
+}
+
+fn push_event(
+    text: &mut Vec<u8>,
+    units: Units,
+    event: &Event,
+    zone: &Zone,
+) -> Result<(), AllocError>
+    requires zone { IsZone zone.now }
+    requires listed { IsListed units event.now }
+    ensures { OnOk result (text.new.items ≡ text.old.items ++ event_line_in zone.now units event.now) }
+{
+    let local = zone.local(event.minute)?;
+    let mut line = ArrayString::new();
+    event_line(&local, event, units, &mut line);
+    text.extend_from_slice(line.as_str().as_bytes())
+}
+
+fn push_row(text: &mut Vec<u8>, units: Units, row: &Row, zone: &Zone) -> Result<(), AllocError>
+    requires zone { IsZone zone.now }
+    requires minute { InZoneYears row.now.minute }
+    ensures { OnOk result (text.new.items ≡ text.old.items ++ row_line_in zone.now units row.now) }
+{
+    let local = zone.local(row.minute)?;
+    let mut line = ArrayString::new();
+    height_line(&local, row.level, units, &mut line);
+    line.push('\n');
+    text.extend_from_slice(line.as_str().as_bytes())
+}
