@@ -1,0 +1,2 @@
+mod DayLemmas
+mod PageLemmas

@@ -1,0 +1,114 @@
+//! The calendar.
+
+ghost use Rattle.std.specs.Prelude.{◌≡◌, ◌++◌, ◌≤ℤ◌, All, IfOk, OnOk};
+ghost use Rattle.std.specs.List.{flat_map};
+ghost use Rattle.calendar_sheet.specs.Calendars.{calendar_text_of, entry_in};
+ghost use Rattle.calendar_sheet.specs.Workings.Dates.{line_of_page};
+ghost use Rattle.listing.specs.Listings.{IsListed};
+ghost use Rattle.zone_time.specs.Dates.{IsDay, date_text};
+ghost use Rattle.zone_time.specs.Zones.{IsZone, InZoneYears};
+
+use crate::days::MINUTES_OF_DAY;
+use crate::page::Page;
+use crate::pages::pages_shown;
+use arrayvec::ArrayString;
+use curve_law::{Event, Events};
+use decimal_text::{Bytes, Text};
+use event_list::word;
+use harmonics_text::Units;
+use listing::write_level;
+use std::alloc::{AllocError, Global};
+use zone_time::{Zone, write_clock, write_date};
+
+/// The station's name, and a line such as
+/// `2000-01-10  06:00 -1.00 Low Tide  11:59 1.00 High Tide` for each date in the zone's local time,
+/// from the least to the greatest date of `begin`, `end - 1` and the events. An empty span has no
+/// date.
+///
+/// `begin` isn't after `end`. Each event has a [`word`] in that unit, and each minute is of the years
+/// from 2 to 9300 or of the day before them.
+pub fn calendar_text(
+    alloc: Global,
+    name: &Text,
+    units: Units,
+    events: &Events,
+    zone: &Zone,
+    begin: i64,
+    end: i64,
+) -> Result<Bytes, AllocError>
+    requires zone { IsZone zone.now }
+    requires listed { All (IsListed units) events.now }
+    requires begin { InZoneYears begin }
+    requires end { InZoneYears end }
+    requires forward { begin ≤ℤ end }
+    ensures { IfOk result (λ text. text ≡ calendar_text_of name.now units events.now zone.now begin end) }
+{
+    let pages = pages_shown(alloc, events.as_slice(), zone, begin, end)?;
+    let mut text = Vec::from_slice(alloc, name.as_str().as_bytes())?;
+    text.push(b'\n')?;
+    push_pages(&mut text, units, pages.as_slice(), zone)?;
+    Ok(Bytes::from_vec(text))
+}
+
+fn push_pages(
+    text: &mut Vec<u8>,
+    units: Units,
+    pages: &[Page],
+    zone: &Zone,
+) -> Result<(), AllocError>
+    requires zone { IsZone zone.now }
+    requires days { All (λ page. IsDay page.day) pages.now }
+    requires listed { All (λ page. All (IsListed units) page.events) pages.now }
+    ensures { OnOk result (text.new.items ≡ text.old.items ++ flat_map (line_of_page zone.now units) pages.now) }
+{
+    for page in pages {
+        push_page(text, units, page, zone)?;
+    }
+    Ok(())
+}
+
+fn push_page(text: &mut Vec<u8>, units: Units, page: &Page, zone: &Zone) -> Result<(), AllocError>
+    requires zone { IsZone zone.now }
+    requires day { IsDay page.now.day }
+    requires listed { All (IsListed units) page.now.events }
+    ensures { OnOk result (text.new.items ≡ text.old.items ++ line_of_page zone.now units page.now) }
+{
+    push_date(text, page.day())?;
+    for event in page.events() {
+        push_entry(text, units, event, zone)?;
+    }
+    text.push(b'\n')?;
+    Ok(())
+}
+
+fn push_date(text: &mut Vec<u8>, day: i64) -> Result<(), AllocError>
+    requires { IsDay day }
+    ensures { OnOk result (text.new.items ≡ text.old.items ++ date_text day) }
+{
+    let mut date = ArrayString::<10>::new();
+    write_date(day, &mut date);
+    text.extend_from_slice(date.as_str().as_bytes())
+}
+
+fn push_entry(
+    text: &mut Vec<u8>,
+    units: Units,
+    event: &Event,
+    zone: &Zone,
+) -> Result<(), AllocError>
+    requires zone { IsZone zone.now }
+    requires listed { IsListed units event.now }
+    ensures { OnOk result (text.new.items ≡ text.old.items ++ entry_in zone.now units event.now) }
+{
+    let local = zone.local(event.minute)?;
+    let mut level = ArrayString::new();
+    write_level(event.level, &mut level);
+    let mut entry = ArrayString::<56>::new();
+    entry.push_str("  ");
+    write_clock(local.minute.rem_euclid(MINUTES_OF_DAY) as u32, &mut entry);
+    entry.push(' ');
+    entry.push_str(level.as_str());
+    entry.push(' ');
+    entry.push_str(word(units, event.kind, event.level).text());
+    text.extend_from_slice(entry.as_str().as_bytes())
+}

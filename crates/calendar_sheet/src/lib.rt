@@ -1,0 +1,18 @@
+//! The calendar of a station's events, with a line for each local date.
+//!
+//! [`calendar_text`] puts the events of a span below the station's name, each on the line of its date
+//! in the zone's local time. A date without an event has a line too. `specs/Calendars.antt` has the
+//! layout.
+#![tactic(auto)]
+
+mod calendar;
+mod days;
+mod page;
+mod pages;
+mod worked;
+
+pub use calendar::calendar_text;
+pub use worked::worked_calendars;
+
+#[cfg(test)]
+mod tests;

@@ -1,0 +1,82 @@
+//! Events by their dates.
+
+ghost use Rattle.std.specs.Prelude.{◌≡◌, pos, ◌-ℤ◌, ◌≤ℤ◌, All, IfOk, map};
+ghost use Rattle.calendar_sheet.specs.Calendars.{day_in, days_shown, days_through};
+ghost use Rattle.calendar_sheet.specs.Workings.Dates.{AreDays, IsAmong, empty_page, page_of, pages_of};
+ghost use Rattle.zone_time.specs.Dates.{IsDay};
+ghost use Rattle.zone_time.specs.Zones.{IsZone, InZoneYears};
+
+use crate::days::{Days, days_of, local_day};
+use crate::page::Page;
+use curve_law::Event;
+use std::alloc::{AllocError, Global};
+use zone_time::Zone;
+
+/// A page for each date from the least to the greatest one of a span and of events, with the events
+/// on it. An empty span has no page. Each event is gone over twice.
+pub fn pages_shown(
+    alloc: Global,
+    events: &[Event],
+    zone: &Zone,
+    begin: i64,
+    end: i64,
+) -> Result<Vec<Page>, AllocError>
+    requires zone { IsZone zone.now }
+    requires years { All (λ event. InZoneYears event.minute) events.now }
+    requires begin { InZoneYears begin }
+    requires end { InZoneYears end }
+    requires forward { begin ≤ℤ end }
+    ensures exact { IfOk result (λ pages. pages.items ≡ map (page_of zone.now events.now) (days_shown zone.now events.now begin end)) }
+    ensures days { IfOk result (λ pages. All (λ page. IsDay page.day) pages.items) }
+{
+    if begin == end {
+        return Ok(Vec::new(alloc));
+    }
+    let days = days_of(events, zone, begin, end)?;
+    pages_of(alloc, events, zone, days)
+}
+
+/// A page for each day, with the events on it.
+fn pages_of(
+    alloc: Global,
+    events: &[Event],
+    zone: &Zone,
+    days: Days,
+) -> Result<Vec<Page>, AllocError>
+    requires zone { IsZone zone.now }
+    requires days { AreDays days.first days.last }
+    requires years { All (λ event. InZoneYears event.minute) events.now }
+    requires among { All (IsAmong zone.now days.first days.last) events.now }
+    ensures exact { IfOk result (λ pages. pages.items ≡ pages_of zone.now events.now days.first days.last) }
+    ensures days { IfOk result (λ pages. All (λ page. IsDay page.day) pages.items) }
+{
+    let mut pages = empty_pages(alloc, days)?;
+    for event in events {
+        let place = place_of(event, zone, days)?;
+        pages[place].push(*event)?;
+    }
+    Ok(pages)
+}
+
+fn empty_pages(alloc: Global, days: Days) -> Result<Vec<Page>, AllocError>
+    requires days { AreDays days.first days.last }
+    ensures { IfOk result (λ pages. pages.items ≡ map empty_page (days_through days.first days.last)) }
+{
+    let mut pages = Vec::new(alloc);
+    for place in 0..days.count() {
+        pages.push(Page::new(alloc, days.day_at(place)))?;
+    }
+    Ok(pages)
+}
+
+/// How many days after the first one an event's date comes.
+fn place_of(event: &Event, zone: &Zone, days: Days) -> Result<usize, AllocError>
+    requires zone { IsZone zone.now }
+    requires days { AreDays days.first days.last }
+    requires year { InZoneYears event.now.minute }
+    requires among { IsAmong zone.now days.first days.last event.now }
+    ensures { IfOk result (λ place. pos place ≡ day_in zone.now event.now.minute -ℤ days.first) }
+{
+    let day = local_day(zone, event.minute)?;
+    Ok(days.place_of(day))
+}
