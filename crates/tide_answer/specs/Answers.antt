@@ -1,122 +1,209 @@
--- The answer to a question over a book of harmonic constants (this project).
-use Rattle.std.specs.Prelude.{ℕ, ℤ, pos, ◌+ℤ◌, ◌-ℤ◌, int_lt, ◌&&◌, false, if◌then◌else◌, List, ◌++◌, codes, Result, Ok, Err, slice_get}
-use Rattle.std.specs.List.{flat_map}
+-- The answer to a question over a book of harmonic constants and a table of offsets (this project).
+use Rattle.std.specs.Prelude.{ℕ, ◌+◌, ◌/◌, ℤ, pos, ◌+ℤ◌, ◌-ℤ◌, ◌*ℤ◌, int_lt, nat_lt, unsigned_abs, Bool, true, false, ◌==◌, if◌then◌else◌, List, ◌++◌, map, codes, Option, Some, None, Result, Ok, Err}
+use Rattle.std.specs.List.{range_with_len}
 use Rattle.std.specs.Option.{ok_or}
-use Rattle.curve_law.specs.Track.{Track}
+use Rattle.cert_text.specs.declared.certificate.Certificate.{Certificate}
+use Rattle.cert_text.specs.declared.fault.CertFault.{CertFault}
+use Rattle.cert_text.specs.Lines.{certificate_text}
+use Rattle.cert_text.specs.Readings.{certificate_of}
+use Rattle.calendar_sheet.specs.Calendars.{calendar_text_of}
+use Rattle.curve_law.specs.declared.event.Event.{Event}
 use Rattle.decimal_text.specs.Expected.{◌>>=◌}
+use Rattle.event_list.specs.Shifts.{widened_of, scaled}
 use Rattle.harmonics_text.specs.declared.book.Book.{Book}
-use Rattle.harmonics_text.specs.declared.book.Station.{Station}
 use Rattle.harmonics_text.specs.declared.book.Units.{Units}
-use Rattle.harmonics_text.specs.declared.book.Units.TheVariants.{Feet, Meters, Knots, KnotsSquared}
-use Rattle.listing.specs.Lines.{text_of_unit}
+use Rattle.listing.specs.declared.row.Row.{Row}
+use Rattle.listing.specs.Listings.{plain_events_of, plain_heights_of, clock_text_of}
+use Rattle.listing.specs.Records.{csv_events_of, csv_heights_of}
+use Rattle.listing.specs.StationLists.{stations_text_of}
 use Rattle.question.specs.declared.command.Command.{Command}
-use Rattle.question.specs.declared.command.Command.TheVariants.{Predict, Stations}
+use Rattle.question.specs.declared.command.Command.TheVariants.{Predict, Certify, Check, Heights, Calendar, Clock, Stations, Sample, Trial}
+use Rattle.question.specs.declared.question.Layout.{Layout}
+use Rattle.question.specs.declared.question.Layout.TheVariants.{Plain, Csv}
 use Rattle.question.specs.declared.question.Question.{Question}
-use Rattle.station_curve.specs.declared.fault.CurveFault.{CurveFault}
-use Rattle.station_curve.specs.Curves.{curve_of}
+use Rattle.rate_bound.specs.declared.version.Version.{Version}
+use Rattle.rate_bound.specs.declared.version.Version.TheVariants.{First, Second}
+use Rattle.sample_tides.specs.File.{sample_of}
 use Rattle.station_curve.specs.Schureman.{predicted_slope, predicted_millionths}
-use Rattle.station_curve.specs.Waves.{Tide}
 use Rattle.station_table.specs.declared.basis.Basis.{Basis}
-use Rattle.station_table.specs.declared.finding.FindFault.{FindFault}
 use Rattle.station_table.specs.declared.offsets.Offsets.{Offsets}
-use Rattle.station_table.specs.Bases.{basis_of, is_plain}
-use Rattle.year_blend.specs.Years.{year_start_of}
+use Rattle.station_table.specs.Bases.{is_equal}
 use Rattle.zone_time.specs.declared.zone.Zone.{Zone}
-use Rattle.tide_answer.specs.declared.text.Answer.{Answer}
+use Rattle.tide_answer.specs.declared.asked.Asked.{Asked}
 use Rattle.tide_answer.specs.declared.given.Given.{Given}
+use Rattle.tide_answer.specs.declared.reach.Reach.TheVariants.{Events, Levels}
 use Rattle.tide_answer.specs.declared.refusal.Refusal.{Refusal}
-use Rattle.tide_answer.specs.declared.refusal.Refusal.TheVariants.{NotBuilt, NoStation, Hydraulic, BackwardSpan, OutOfYears, SpanTooLong}
-use Rattle.tide_answer.specs.Asking.{Asked, asked_by, has_minute, is_built}
-use Rattle.tide_answer.specs.Faults.{refusal_of_curve, refusal_of_find}
-use Rattle.tide_answer.specs.Listings.{turns, listing_of}
-
--- the most minutes of a span
-abbrev pub span_limit : ℤ
-span_limit = pos 5270400
+use Rattle.tide_answer.specs.declared.refusal.Refusal.TheVariants.{NotBuilt, NoStation, LevelNotHere, TooManyRows}
+use Rattle.tide_answer.specs.declared.rejection.Rejection.{Rejection}
+use Rattle.tide_answer.specs.declared.text.Answer.{Answer}
+use Rattle.tide_answer.specs.Asking.{asked_by, asked_from, asked_in, is_built}
+use Rattle.tide_answer.specs.Faults.{refusal_of_cert}
+use Rattle.tide_answer.specs.Following.{followed_by, events_of, tracks_of, cells_of}
+use Rattle.tide_answer.specs.Rejections.{rejection_of, rejection_line}
+use Rattle.tide_answer.specs.Sites.{Site, site_in}
+use Rattle.tide_answer.specs.Trials.{trial_of}
 
 -- directly after the words: what isn't built as yet
 unfoldable pub built : Question → Result (Unit {0}) Refusal
 built question = if is_built question then Ok tt else Err NotBuilt
 
--- ---- The steps of a question about a station's span, in the order of refusals
+-- a text for which no cells are counted
+abbrev pub text_alone : List ℕ → Answer
+text_alone text = record { text = text; rejected = false; cells = 0 }
 
--- its unit: currents are left out as yet, and hydraulic ones for good
-abbrev pub tide_unit : Units → Result Units Refusal
-tide_unit Feet = Ok Feet
-tide_unit Meters = Ok Meters
-tide_unit Knots = Err NotBuilt
-tide_unit KnotsSquared = Err Hydraulic
+-- a text of events, with the cells of the curves that they come from
+abbrev pub text_of_events : Book → Site → Asked → List ℕ → Answer
+text_of_events book site asked text = record { text = text; rejected = false; cells = cells_of book site asked }
 
--- a span that isn't backward, of the file's years
-unfoldable pub span_in : Book → ℤ → ℤ → Result (Unit {0}) Refusal
-span_in book begin end =
-    if int_lt end begin then Err BackwardSpan
-    else if has_minute book begin && has_minute book end then Ok tt
-    else Err (OutOfYears (year_start_of book.first_year) (year_start_of (book.first_year +ℤ pos book.years)))
+-- ---- events
 
--- a tide within the limits
-abbrev pub tide_from : Result Tide CurveFault → Result Tide Refusal
-tide_from (Ok tide) = Ok tide
-tide_from (Err fault) = Err (refusal_of_curve fault)
+abbrev pub events_text : Layout → List ℕ → Units → List Event → Zone → List ℕ
+events_text Plain name units events zone = plain_events_of name units events zone
+events_text Csv name units events zone = csv_events_of name units events zone
 
--- a span that isn't too long
-unfoldable pub length_in : ℤ → ℤ → Result (Unit {0}) Refusal
-length_in begin end =
-    if int_lt span_limit (end -ℤ begin) then Err (SpanTooLong (end -ℤ begin)) else Ok tt
+unfoldable pub predicted : Book → List Offsets → List ℕ → Asked → Layout → Zone → Result Answer Refusal
+predicted book table name asked layout zone = do
+  site ← site_in Events book table name asked
+  Ok (text_of_events book site asked (events_text layout name site.station.units (events_of book site asked) zone))
 
--- the station, where its span has an answer
-unfoldable pub found_at : Book → Station → ℤ → ℤ → Result Station Refusal
-found_at book station begin end = do
-  units ← tide_unit station.units
-  span ← span_in book begin end
-  tide ← tide_from (curve_of book station)
-  few ← length_in begin end
-  Ok station
+unfoldable pub on_calendar : Book → List Offsets → List ℕ → Asked → Zone → Result Answer Refusal
+on_calendar book table name asked zone = do
+  site ← site_in Events book table name asked
+  Ok (text_of_events book site asked
+      (calendar_text_of name site.station.units (events_of book site asked) zone asked.begin asked.end))
 
--- the basis of a name: a station of the book, as yet
-abbrev pub basis_from : Result Basis FindFault → Result Basis Refusal
-basis_from (Ok basis) = Ok basis
-basis_from (Err fault) = Err (refusal_of_find fault)
+-- ---- certificates
 
-abbrev pub plain_basis : Basis → Result (Unit {0}) Refusal
-plain_basis basis = if is_plain basis then Ok tt else Err NotBuilt
+-- the certificate of a station's events: the cells of the second version
+abbrev pub certificate_by : Book → Site → List ℕ → Asked → Certificate
+certificate_by book site name asked = record {
+  version = 2;
+  station = name;
+  begin = asked.begin;
+  end = asked.end;
+  mark = asked.mark;
+  tracks = tracks_of book site asked;
+}
 
-unfoldable pub found : Book → List Offsets → Asked → Result Station Refusal
-found book table asked = do
-  basis ← basis_from (basis_of book table asked.name)
-  plain ← plain_basis basis
-  station ← ok_or (slice_get book.stations basis.station) NoStation
-  found_at book station asked.begin asked.end
+unfoldable pub certified : Book → List Offsets → List ℕ → Asked → Result Answer Refusal
+certified book table name asked = do
+  site ← site_in Events book table name asked
+  Ok (text_of_events book site asked (certificate_text (certificate_by book site name asked)))
 
--- ---- The texts
+abbrev pub certificate_from : Result Certificate CertFault → Result Certificate Refusal
+certificate_from (Ok cert) = Ok cert
+certificate_from (Err fault) = Err (refusal_of_cert fault)
 
--- high and low waters by every constituent of the book
-abbrev pub turns_of : Book → Station → Track
-turns_of book station = turns (predicted_slope book station) (predicted_millionths book station)
+abbrev pub version_of : Certificate → Version
+version_of cert = if cert.version == 1 then First else Second
 
-unfoldable pub predicted : Book → List Offsets → Asked → Zone → Result (List ℕ) Refusal
-predicted book table asked zone =
-    found book table asked
-    >>= λ station. Ok (listing_of asked.name station.units (turns_of book station) asked.begin asked.end zone)
+-- a valid certificate is accepted, and the events follow that its own question has
+abbrev pub judged : Book → Site → Certificate → Zone → Option Rejection → Answer
+judged book site cert zone None =
+    text_alone (codes "Accepted\n" ++ plain_events_of cert.station site.station.units (events_of book site (asked_in cert)) zone)
+judged book site cert zone (Some rejection) = record { text = rejection_line rejection; rejected = true; cells = 0 }
 
-abbrev pub predicted_by : Book → List Offsets → Question → Zone → Result (List ℕ) Refusal
-predicted_by book table question zone = ok_or (asked_by question) NoStation >>= λ asked. predicted book table asked zone
+unfoldable pub checked : Book → List Offsets → List ℕ → Zone → Result Answer Refusal
+checked book table bytes zone = do
+  cert ← certificate_from (certificate_of bytes)
+  site ← site_in Events book table cert.station (asked_in cert)
+  Ok (judged book site cert zone (rejection_of (followed_by (version_of cert) book site cert.mark) (widened_of site.basis cert.begin cert.end) cert.tracks))
 
--- a station in the list of a book's stations
-abbrev pub station_line_of : Station → List ℕ
-station_line_of station = codes "Ref " ++ text_of_unit station.units ++ codes " " ++ station.name ++ codes "\n"
+-- ---- levels
 
-unfoldable pub stations_of : Book → List ℕ
-stations_of book = flat_map station_line_of book.stations
+-- a level is asked only where highs and lows have the same offsets
+abbrev pub level_in : Basis → Result (Unit {0}) Refusal
+level_in basis = if is_equal basis then Ok tt else Err LevelNotHere
 
-abbrev pub text_of : Command → Book → List Offsets → Question → Given → Result (List ℕ) Refusal
-text_of Predict book table question given = predicted_by book table question given.zone
-text_of Stations book table question given = Ok (stations_of book)
-text_of _ book table question given = Err NotBuilt
+-- the station's level at a minute, from the reference's at the minute that is moved there
+abbrev pub level_at : Book → Site → ℤ → ℤ
+level_at book site minute = scaled site.basis.high (predicted_millionths book site.station (minute -ℤ site.basis.high.add))
+
+-- how many minutes there are from the begin to the end, the end included, by steps
+abbrev pub row_count : ℤ → ℤ → ℤ → ℕ
+row_count begin end step = unsigned_abs (end -ℤ begin) / unsigned_abs step + 1
+
+-- the most heights of a list
+abbrev pub row_limit : ℕ
+row_limit = 100000
+
+unfoldable pub rows_in : ℤ → ℤ → ℤ → Result (Unit {0}) Refusal
+rows_in begin end step =
+    if nat_lt row_limit (row_count begin end step) then Err (TooManyRows (pos (row_count begin end step))) else Ok tt
+
+abbrev pub row_at : Book → Site → ℤ → ℤ → ℕ → Row
+row_at book site begin step place =
+    let minute = begin +ℤ (step *ℤ pos place) in record { minute = minute; level = level_at book site minute }
+
+abbrev pub rows_of : Book → Site → ℤ → ℤ → ℤ → List Row
+rows_of book site begin end step = map (row_at book site begin step) (range_with_len 0 (row_count begin end step))
+
+abbrev pub heights_text : Layout → List ℕ → Units → List Row → Zone → List ℕ
+heights_text Plain name units rows zone = plain_heights_of name units rows zone
+heights_text Csv name units rows zone = csv_heights_of name units rows zone
+
+unfoldable pub heights : Book → List Offsets → List ℕ → Asked → ℤ → Layout → Zone → Result Answer Refusal
+heights book table name asked step layout zone = do
+  site ← site_in Levels book table name asked
+  level ← level_in site.basis
+  few ← rows_in asked.begin asked.end step
+  Ok (text_alone (heights_text layout name site.station.units (rows_of book site asked.begin asked.end step) zone))
+
+-- the level and its direction at a minute, and the events of the day from there on
+abbrev pub is_rising_at : Book → Site → ℤ → Bool
+is_rising_at book site minute = int_lt (pos 0) (predicted_slope book site.station (minute -ℤ site.basis.high.add))
+
+unfoldable pub on_clock : Book → List Offsets → List ℕ → ℤ → Zone → Result Answer Refusal
+on_clock book table name now zone = do
+  site ← site_in Events book table name (asked_from now)
+  level ← level_in site.basis
+  Ok (text_of_events book site (asked_from now)
+      (clock_text_of name site.station.units now (level_at book site now) (is_rising_at book site now)
+      (events_of book site (asked_from now)) zone))
+
+-- ---- all of them
+
+-- what a question names of a station, where it names it
+abbrev pub named_by : {A : Type 0} → Option A → Result A Refusal
+named_by said = ok_or said NoStation
+
+unfoldable pub asks_span : Question → (List ℕ → Asked → Result Answer Refusal) → Result Answer Refusal
+asks_span question next = do
+  name ← named_by question.station
+  asked ← named_by (asked_by question)
+  next name asked
+
+unfoldable pub asks_name : Question → (List ℕ → Result Answer Refusal) → Result Answer Refusal
+asks_name question next = do
+  name ← named_by question.station
+  next name
+
+abbrev pub text_by : Command → Book → List Offsets → Question → Given → Result Answer Refusal
+text_by Predict book table question given =
+    asks_span question (λ name asked. predicted book table name asked question.layout given.zone)
+text_by Certify book table question given = asks_span question (λ name asked. certified book table name asked)
+text_by Check book table question given = checked book table given.certificate given.zone
+text_by Heights book table question given =
+    asks_span question (λ name asked. heights book table name asked question.step question.layout given.zone)
+text_by Calendar book table question given =
+    asks_span question (λ name asked. on_calendar book table name asked given.zone)
+text_by Clock book table question given =
+    asks_name question (λ name. on_clock book table name given.now given.zone)
+text_by Stations book table question given = Ok (text_alone (stations_text_of book table))
+text_by _ book table question given = Err NotBuilt
 
 -- the answer to a question over a book and a table that were read, or the first refusal
 unfoldable pub answered : Book → List Offsets → Question → Given → Result Answer Refusal
 answered book table question given = do
   is ← built question
-  text ← text_of question.command book table question given
-  Ok (record { text = text; rejected = false })
+  text_by question.command book table question given
+
+-- what a command that reads no file gives for a seed
+abbrev pub text_from : Command → Option ℕ → Result Answer Refusal
+text_from Sample (Some seed) = Ok (text_alone (sample_of seed))
+text_from Trial (Some seed) = trial_of seed >>= λ text. Ok (text_alone text)
+text_from _ _ = Err NotBuilt
+
+-- the answer to a question that names no file, or the first refusal
+unfoldable pub answered_alone : Question → Result Answer Refusal
+answered_alone question = text_from question.command question.seed

@@ -2,6 +2,8 @@
 use Rattle.std.specs.Prelude.{ℕ, ℤ, ◌<◌, Bool, true, false, List, [], ◌++◌, length, codes, decimal, slice_get}
 use Rattle.std.specs.Option.{option_map_or}
 use Rattle.std.specs.Fmt.{signed_decimal}
+use Rattle.cert_text.specs.declared.fault.CertFault.{CertFault}
+use Rattle.cert_text.specs.declared.fault.CertFault.TheVariants as cert
 use Rattle.harmonics_text.specs.declared.fault.BookFault.{BookFault}
 use Rattle.harmonics_text.specs.declared.fault.BookFault.TheVariants as form
 use Rattle.harmonics_text.specs.declared.fault.Why.{Why}
@@ -20,9 +22,9 @@ use Rattle.station_curve.specs.declared.fault.CurveFault.{CurveFault}
 use Rattle.station_curve.specs.declared.fault.CurveFault.TheVariants as curve
 use Rattle.zone_time.specs.Moments.{IsMoment, moment_text}
 use Rattle.tide_answer.specs.declared.fault.Fault.{Fault}
-use Rattle.tide_answer.specs.declared.fault.Fault.TheVariants.{Ask, TooLong, Book, Offsets, Refused}
+use Rattle.tide_answer.specs.declared.fault.Fault.TheVariants.{Ask, TooLong, Book, Offsets, BadZone, Refused}
 use Rattle.tide_answer.specs.declared.refusal.Refusal.{Refusal}
-use Rattle.tide_answer.specs.declared.refusal.Refusal.TheVariants.{NoMemory, NotBuilt, NoStation, NoReference, Hydraulic, BackwardSpan, OutOfYears, TooLarge, TooSteep, SpanTooLong}
+use Rattle.tide_answer.specs.declared.refusal.Refusal.TheVariants.{NoMemory, NotBuilt, NotACertificate, BadSample, NoStation, NoReference, Hydraulic, BackwardSpan, OutOfYears, TooLarge, TooSteep, SpanTooLong, MarkNotHere, LevelNotHere, TooManyRows}
 use Rattle.tide_answer.specs.declared.slot.Slot.{Slot}
 use Rattle.tide_answer.specs.declared.slot.Slot.TheVariants as slots
 use Rattle.tide_answer.specs.declared.status.Status.{Status}
@@ -45,6 +47,8 @@ status_of_table (table.At row why) = status.FileRefused
 abbrev pub status_of_refusal : Refusal → Status
 status_of_refusal NoMemory = status.NoMemory
 status_of_refusal NotBuilt = status.Refused
+status_of_refusal (NotACertificate line) = status.FileRefused
+status_of_refusal (BadSample line why) = status.FileRefused
 status_of_refusal NoStation = status.Refused
 status_of_refusal (NoReference row) = status.Refused
 status_of_refusal Hydraulic = status.Refused
@@ -53,12 +57,16 @@ status_of_refusal (OutOfYears first last) = status.Refused
 status_of_refusal (TooLarge year) = status.Limit
 status_of_refusal (TooSteep year) = status.Limit
 status_of_refusal (SpanTooLong minutes) = status.Limit
+status_of_refusal MarkNotHere = status.Refused
+status_of_refusal LevelNotHere = status.Refused
+status_of_refusal (TooManyRows rows) = status.Limit
 
 abbrev pub status_of : Fault → Status
 status_of (Ask fault) = status_of_ask fault
 status_of (TooLong slot) = status.FileRefused
 status_of (Book fault) = status_of_form fault
 status_of (Offsets fault) = status_of_table fault
+status_of BadZone = status.FileRefused
 status_of (Refused refusal) = status_of_refusal refusal
 
 -- ---- lines
@@ -115,6 +123,8 @@ years_line first last =
 unfoldable pub refusal_line : List Row → Refusal → List ℕ
 refusal_line rows NoMemory = codes "no memory\n"
 refusal_line rows NotBuilt = codes "refused: not built\n"
+refusal_line rows (NotACertificate line) = codes "certificate: line " ++ decimal line ++ codes "\n"
+refusal_line rows (BadSample line why) = file_line line why
 refusal_line rows NoStation = codes "refused: no station\n"
 refusal_line rows (NoReference place) = reference_line (reference_at rows place)
 refusal_line rows Hydraulic = codes "refused: hydraulic\n"
@@ -123,12 +133,16 @@ refusal_line rows (OutOfYears first last) = years_line first last
 refusal_line rows (TooLarge year) = codes "limit: too large in " ++ signed_decimal year ++ codes "\n"
 refusal_line rows (TooSteep year) = codes "limit: too steep in " ++ signed_decimal year ++ codes "\n"
 refusal_line rows (SpanTooLong minutes) = codes "limit: span of " ++ signed_decimal minutes ++ codes " minutes\n"
+refusal_line rows MarkNotHere = codes "refused: mark not here\n"
+refusal_line rows LevelNotHere = codes "refused: level not here\n"
+refusal_line rows (TooManyRows count) = codes "limit: " ++ signed_decimal count ++ codes " rows\n"
 
 unfoldable pub line_of : List Row → Fault → List ℕ
 line_of rows (Ask fault) = ask_line fault
 line_of rows (TooLong slot) = slot_name slot ++ codes ": too long\n"
 line_of rows (Book fault) = form_line fault
 line_of rows (Offsets fault) = table_line fault
+line_of rows BadZone = codes "zone: bad zone file\n"
 line_of rows (Refused refusal) = refusal_line rows refusal
 
 -- a refusal whose line can be written: its moments are of the years from 1 to 9999, and its row is one of the table
@@ -153,6 +167,10 @@ is_memory _ = false
 
 abbrev pub wants_memory : Fault → Bool
 wants_memory fault = is_memory (status_of fault)
+
+abbrev pub refusal_of_cert : CertFault → Refusal
+refusal_of_cert cert.NoMemory = NoMemory
+refusal_of_cert (cert.NotACertificate line) = NotACertificate line
 
 abbrev pub refusal_of_find : FindFault → Refusal
 refusal_of_find find.NoStation = NoStation

@@ -1,27 +1,37 @@
 //! The answer to a question.
 
-ghost use Rattle.std.specs.Prelude.{◌≡◌, IfErr};
+ghost use Rattle.std.specs.Prelude.{◌≡◌, IfErr, IfOk};
 ghost use Rattle.decimal_text.specs.Expected.{Gives};
 ghost use Rattle.harmonics_text.specs.Books.{IsBook};
+ghost use Rattle.listing.specs.StationLists.{stations_text_of};
+ghost use Rattle.question.specs.Asked.{IsAsked};
 ghost use Rattle.station_table.specs.Offsets.{IsTable};
-ghost use Rattle.tide_answer.specs.Answers.{answered, text_of};
-ghost use Rattle.zone_time.specs.Zones.{IsZone};
+ghost use Rattle.tide_answer.specs.Answers.{answered, text_by, text_alone, predicted, certified, heights, on_calendar, on_clock, asks_name, asks_span};
 ghost use Rattle.tide_answer.specs.Faults.{wants_memory_of_refusal, IsToldRefusal};
+ghost use Rattle.tide_answer.specs.Givens.{IsGiven};
+ghost use Rattle.zone_time.specs.Zones.{IsZone};
 
+use crate::asking::{span_named, station_named};
 use crate::built::check_built;
+use crate::calendar::list_days;
+use crate::certify::certify;
+use crate::check::check;
+use crate::clock::tell_now;
 use crate::given::Given;
+use crate::heights::list_heights;
 use crate::predict::predict;
 use crate::refusal::Refusal;
-use crate::stations::list_stations;
 use crate::text::Answer;
-use decimal_text::Bytes;
 use harmonics_text::Book;
+use listing::stations_text;
 use question::{Command, Question};
 use station_table::OffsetTable;
 use std::alloc::Global;
+use zone_time::Zone;
 
-/// The answer to a question over a book and a table, or the first refusal in their order: what isn't built, the
-/// station, its unit, the span, the limits.
+/// The answer to a question over a book and a table, or the first refusal in their order: what isn't
+/// built, a certificate's form, the station, its unit, the span, the limits, the mark, a level, the
+/// rows.
 ///
 /// # Errors
 /// Each [`Refusal`] exactly where `specs/Answers.antt` has it; [`Refusal::NoMemory`] says nothing
@@ -36,34 +46,150 @@ pub fn answer(
 ) -> Result<Answer, Refusal>
     requires book { IsBook book.now }
     requires table { IsTable table.now }
-    requires zone { IsZone given.now.zone }
+    requires asked { IsAsked question.now }
+    requires given { IsGiven given.now }
     ensures exact { Gives wants_memory_of_refusal (answered book.now table.now question.now given.entry.now) result }
     ensures told { IfErr result (IsToldRefusal table.now) }
 {
     check_built(question)?;
-    let text = text_of(alloc, book, table, question, given)?;
-    Ok(Answer {
-        text,
-        rejected: false,
-    })
+    answer_command(alloc, book, table, question, given)
 }
 
-fn text_of(
+fn answer_command(
     alloc: Global,
     book: &Book,
     table: &OffsetTable,
     question: &Question,
     given: &Given,
-) -> Result<Bytes, Refusal>
+) -> Result<Answer, Refusal>
     requires book { IsBook book.now }
     requires table { IsTable table.now }
-    requires zone { IsZone given.now.zone }
-    ensures exact { Gives wants_memory_of_refusal (text_of question.now.command book.now table.now question.now given.entry.now) result }
+    requires asked { IsAsked question.now }
+    requires given { IsGiven given.now }
+    ensures exact { Gives wants_memory_of_refusal (text_by question.now.command book.now table.now question.now given.entry.now) result }
     ensures told { IfErr result (IsToldRefusal table.now) }
 {
+    let zone = &given.zone;
     match question.command {
-        Command::Predict => predict(alloc, book, table, question, &given.zone),
-        Command::Stations => Ok(list_stations(alloc, book)?),
+        Command::Predict => answer_predict(alloc, book, table, question, zone),
+        Command::Certify => answer_certify(alloc, book, table, question),
+        Command::Check => check(alloc, book, table, &given.certificate, zone),
+        Command::Heights => answer_heights(alloc, book, table, question, zone),
+        Command::Calendar => answer_calendar(alloc, book, table, question, zone),
+        Command::Clock => answer_clock(alloc, book, table, question, given),
+        Command::Stations => answer_stations(alloc, book, table),
         _ => Err(Refusal::NotBuilt),
     }
+}
+
+fn answer_predict(
+    alloc: Global,
+    book: &Book,
+    table: &OffsetTable,
+    question: &Question,
+    zone: &Zone,
+) -> Result<Answer, Refusal>
+    requires book { IsBook book.now }
+    requires table { IsTable table.now }
+    requires asked { IsAsked question.now }
+    requires zone { IsZone zone.now }
+    ensures exact { Gives wants_memory_of_refusal (asks_span question.now (λ name asked. predicted book.now table.now name asked question.now.layout zone.now)) result }
+    ensures told { IfErr result (IsToldRefusal table.now) }
+{
+    let name = station_named(question)?;
+    let asked = span_named(question)?;
+    predict(alloc, book, table, name, &asked, question.layout, zone)
+}
+
+fn answer_certify(
+    alloc: Global,
+    book: &Book,
+    table: &OffsetTable,
+    question: &Question,
+) -> Result<Answer, Refusal>
+    requires book { IsBook book.now }
+    requires table { IsTable table.now }
+    requires asked { IsAsked question.now }
+    ensures exact { Gives wants_memory_of_refusal (asks_span question.now (λ name asked. certified book.now table.now name asked)) result }
+    ensures told { IfErr result (IsToldRefusal table.now) }
+{
+    let name = station_named(question)?;
+    let asked = span_named(question)?;
+    certify(alloc, book, table, name, &asked)
+}
+
+fn answer_heights(
+    alloc: Global,
+    book: &Book,
+    table: &OffsetTable,
+    question: &Question,
+    zone: &Zone,
+) -> Result<Answer, Refusal>
+    requires book { IsBook book.now }
+    requires table { IsTable table.now }
+    requires asked { IsAsked question.now }
+    requires zone { IsZone zone.now }
+    ensures exact { Gives wants_memory_of_refusal (asks_span question.now (λ name asked. heights book.now table.now name asked question.now.step question.now.layout zone.now)) result }
+    ensures told { IfErr result (IsToldRefusal table.now) }
+{
+    let name = station_named(question)?;
+    let asked = span_named(question)?;
+    list_heights(
+        alloc,
+        book,
+        table,
+        name,
+        &asked,
+        question.step,
+        question.layout,
+        zone,
+    )
+}
+
+fn answer_calendar(
+    alloc: Global,
+    book: &Book,
+    table: &OffsetTable,
+    question: &Question,
+    zone: &Zone,
+) -> Result<Answer, Refusal>
+    requires book { IsBook book.now }
+    requires table { IsTable table.now }
+    requires asked { IsAsked question.now }
+    requires zone { IsZone zone.now }
+    ensures exact { Gives wants_memory_of_refusal (asks_span question.now (λ name asked. on_calendar book.now table.now name asked zone.now)) result }
+    ensures told { IfErr result (IsToldRefusal table.now) }
+{
+    let name = station_named(question)?;
+    let asked = span_named(question)?;
+    list_days(alloc, book, table, name, &asked, zone)
+}
+
+fn answer_clock(
+    alloc: Global,
+    book: &Book,
+    table: &OffsetTable,
+    question: &Question,
+    given: &Given,
+) -> Result<Answer, Refusal>
+    requires book { IsBook book.now }
+    requires table { IsTable table.now }
+    requires given { IsGiven given.now }
+    ensures exact { Gives wants_memory_of_refusal (asks_name question.now (λ name. on_clock book.now table.now name given.entry.now.now given.entry.now.zone)) result }
+    ensures told { IfErr result (IsToldRefusal table.now) }
+{
+    let name = station_named(question)?;
+    tell_now(alloc, book, table, name, given.now, &given.zone)
+}
+
+fn answer_stations(alloc: Global, book: &Book, table: &OffsetTable) -> Result<Answer, Refusal>
+    ensures exact { IfOk result (λ answer. answer ≡ text_alone (stations_text_of book.now table.now)) }
+    ensures memory { IfErr result (λ refusal. refusal ≡ Refusal.NoMemory) }
+{
+    let text = stations_text(alloc, book, table)?;
+    Ok(Answer {
+        text,
+        rejected: false,
+        cells: 0,
+    })
 }

@@ -21,6 +21,8 @@ pub enum Fault {
     Book(BookFault),
     /// The table of subordinate stations has no reading.
     Offsets(OffsetFault),
+    /// The zone's file has no reading.
+    BadZone,
     /// The question has no answer.
     Refused(Refusal),
 }
@@ -34,6 +36,7 @@ pub fn fault_status(fault: &Fault) -> Status
         Fault::TooLong(_) => Status::FileRefused,
         Fault::Book(form) => form_status(*form),
         Fault::Offsets(table) => table_status(*table),
+        Fault::BadZone => Status::FileRefused,
         Fault::Refused(refusal) => refusal_status(*refusal),
     }
 }
@@ -70,14 +73,19 @@ fn refusal_status(refusal: Refusal) -> Status
 {
     match refusal {
         Refusal::NoMemory => Status::NoMemory,
+        Refusal::NotACertificate { .. } | Refusal::BadSample { .. } => Status::FileRefused,
         Refusal::NotBuilt
         | Refusal::NoStation
         | Refusal::NoReference { .. }
         | Refusal::Hydraulic
         | Refusal::BackwardSpan
-        | Refusal::OutOfYears { .. } => Status::Refused,
-        Refusal::TooLarge { .. } | Refusal::TooSteep { .. } | Refusal::SpanTooLong { .. } =>
-            Status::Limit,
+        | Refusal::OutOfYears { .. }
+        | Refusal::MarkNotHere
+        | Refusal::LevelNotHere => Status::Refused,
+        Refusal::TooLarge { .. }
+        | Refusal::TooSteep { .. }
+        | Refusal::SpanTooLong { .. }
+        | Refusal::TooManyRows { .. } => Status::Limit,
     }
 }
 

@@ -36,6 +36,7 @@ fn fault_text(alloc: Global, fault: &Fault, table: &OffsetTable) -> Result<Strin
         Fault::TooLong(slot) => long_text(alloc, slot),
         Fault::Book(form) => form_text(alloc, form),
         Fault::Offsets(fault) => table_text(alloc, fault),
+        Fault::BadZone => String::from_str(alloc, "zone: bad zone file\n"),
         Fault::Refused(refusal) => refusal_text(alloc, refusal, table),
     }
 }
@@ -124,6 +125,8 @@ fn refusal_text(alloc: Global, refusal: Refusal, table: &OffsetTable) -> Result<
     match refusal {
         Refusal::NoMemory => String::from_str(alloc, "no memory\n"),
         Refusal::NotBuilt => String::from_str(alloc, "refused: not built\n"),
+        Refusal::NotACertificate { line } => format!(in alloc; "certificate: line {line}\n"),
+        Refusal::BadSample { line, why } => file_text(alloc, line, why),
         Refusal::NoStation => String::from_str(alloc, "refused: no station\n"),
         Refusal::NoReference { row } => reference_text(alloc, reference_at(table, row)),
         Refusal::Hydraulic => String::from_str(alloc, "refused: hydraulic\n"),
@@ -134,6 +137,9 @@ fn refusal_text(alloc: Global, refusal: Refusal, table: &OffsetTable) -> Result<
         Refusal::SpanTooLong { minutes } => {
             format!(in alloc; "limit: span of {minutes} minutes\n")
         }
+        Refusal::MarkNotHere => String::from_str(alloc, "refused: mark not here\n"),
+        Refusal::LevelNotHere => String::from_str(alloc, "refused: level not here\n"),
+        Refusal::TooManyRows { rows } => format!(in alloc; "limit: {rows} rows\n"),
     }
 }
 

@@ -1,63 +1,67 @@
-//! The high and low waters of a station over a span.
+//! The events of a station over a span.
 
-ghost use Rattle.std.specs.Prelude.{◌≡◌, IfErr};
+ghost use Rattle.std.specs.Prelude.{◌≡◌, All, IfErr, IfOk};
 ghost use Rattle.decimal_text.specs.Expected.{Gives};
 ghost use Rattle.harmonics_text.specs.Books.{IsBook};
+ghost use Rattle.listing.specs.Listings.{IsListed};
 ghost use Rattle.station_table.specs.Offsets.{IsTable};
-ghost use Rattle.zone_time.specs.Zones.{IsZone};
-ghost use Rattle.tide_answer.specs.Answers.{predicted, predicted_by};
+ghost use Rattle.tide_answer.specs.Answers.{events_text, predicted};
 ghost use Rattle.tide_answer.specs.Faults.{wants_memory_of_refusal, IsToldRefusal};
+ghost use Rattle.tide_answer.specs.Workings.Spans.{IsNear};
+ghost use Rattle.zone_time.specs.Zones.{IsZone};
 
+use crate::asked::Asked;
+use crate::following::{Listed, list_station};
 use crate::refusal::Refusal;
-use crate::span_listing::list_span;
-use crate::station::find_station;
+use crate::text::Answer;
 use decimal_text::{Bytes, Text};
 use harmonics_text::Book;
-use question::Question;
+use listing::{csv_events, plain_events};
+use question::Layout;
 use station_table::OffsetTable;
-use std::alloc::Global;
+use std::alloc::{AllocError, Global};
 use zone_time::Zone;
 
-/// The listing that answers the question, or the first refusal: the station, its unit, the span, the
-/// limits.
-#[tactic(auto, unfolding(crate::specs::Asking::asked_by))]
+/// The listing of a station's events in a span, or the first refusal: the station, its unit, the
+/// span, the limits, the mark.
 pub fn predict(
     alloc: Global,
     book: &Book,
     table: &OffsetTable,
-    question: &Question,
+    name: &Text,
+    asked: &Asked,
+    layout: Layout,
     zone: &Zone,
-) -> Result<Bytes, Refusal>
+) -> Result<Answer, Refusal>
     requires book { IsBook book.now }
     requires table { IsTable table.now }
+    requires near { IsNear asked.now }
     requires zone { IsZone zone.now }
-    ensures exact { Gives wants_memory_of_refusal (predicted_by book.now table.now question.now zone.now) result }
+    ensures exact { Gives wants_memory_of_refusal (predicted book.now table.now name.now asked.now layout zone.now) result }
     ensures told { IfErr result (IsToldRefusal table.now) }
 {
-    match (&question.station, question.begin, question.end) {
-        (Some(name), Some(begin), Some(end)) => predict_span(
-            alloc, book, table, name, begin, end, zone,
-        ),
-        _ => Err(Refusal::NoStation),
-    }
+    let listed = list_station(alloc, book, table, name, asked)?;
+    let text = list_events(alloc, layout, name, &listed, zone)?;
+    Ok(Answer {
+        text,
+        rejected: false,
+        cells: listed.cells,
+    })
 }
 
-#[tactic(auto, unfolding(crate::specs::Answers::predicted))]
-fn predict_span(
+fn list_events(
     alloc: Global,
-    book: &Book,
-    table: &OffsetTable,
+    layout: Layout,
     name: &Text,
-    begin: i64,
-    end: i64,
+    listed: &Listed,
     zone: &Zone,
-) -> Result<Bytes, Refusal>
-    requires book { IsBook book.now }
-    requires table { IsTable table.now }
+) -> Result<Bytes, AllocError>
     requires zone { IsZone zone.now }
-    ensures exact { Gives wants_memory_of_refusal (predicted book.now table.now (record { name = name.now; begin = begin; end = end }) zone.now) result }
-    ensures told { IfErr result (IsToldRefusal table.now) }
+    requires listed { All (IsListed listed.now.units) listed.now.events }
+    ensures { IfOk result (λ text. text ≡ events_text layout name.now listed.now.units listed.now.events zone.now) }
 {
-    let found = find_station(alloc, book, table, name, begin, end)?;
-    Ok(list_span(alloc, name, &found, begin, end, zone)?)
+    match layout {
+        Layout::Plain => plain_events(alloc, name, listed.units, &listed.events, zone),
+        Layout::Csv => csv_events(alloc, name, listed.units, &listed.events, zone),
+    }
 }

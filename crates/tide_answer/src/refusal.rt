@@ -1,5 +1,7 @@
 //! Why a question has no answer.
 
+use cert_text::CertFault;
+use harmonics_text::Why;
 use station_curve::CurveFault;
 use station_table::FindFault;
 use std::alloc::AllocError;
@@ -10,6 +12,10 @@ pub enum Refusal {
     NoMemory,
     /// What is asked isn't built as yet.
     NotBuilt,
+    /// What is given as a certificate is none: its first line with which no certificate goes on.
+    NotACertificate { line: u32 },
+    /// The file made from a seed isn't of the form: its first line that breaks a rule.
+    BadSample { line: u32, why: Why },
     /// Neither the book nor the table has a station of the name.
     NoStation,
     /// The book doesn't have the reference of the station's row, by its place in the table's list.
@@ -26,6 +32,12 @@ pub enum Refusal {
     TooSteep { year: i32 },
     /// The span has too many minutes.
     SpanTooLong { minutes: i64 },
+    /// A mark is asked of a station whose highs and lows have different offsets.
+    MarkNotHere,
+    /// A level is asked of such a station.
+    LevelNotHere,
+    /// More heights are asked than a list may have.
+    TooManyRows { rows: i64 },
 }
 
 impl From<AllocError> for Refusal {
@@ -36,6 +48,20 @@ impl From<AllocError> for Refusal {
 
     fn from(_: AllocError) -> Refusal {
         Refusal::NoMemory
+    }
+}
+
+impl From<CertFault> for Refusal {
+    ghost use Rattle.std.specs.Prelude.{◌≡◌};
+    ghost use Rattle.tide_answer.specs.Faults.{refusal_of_cert};
+
+    ghost from_gives = { λ cert refusal. refusal ≡ refusal_of_cert cert };
+
+    fn from(fault: CertFault) -> Refusal {
+        match fault {
+            CertFault::NoMemory => Refusal::NoMemory,
+            CertFault::NotACertificate { line } => Refusal::NotACertificate { line },
+        }
     }
 }
 

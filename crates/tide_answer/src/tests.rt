@@ -1,138 +1,119 @@
+mod rows;
+
+ghost use Rattle.std.specs.Prelude.{IfOk};
+ghost use Rattle.harmonics_text.specs.Books.{IsBook};
+ghost use Rattle.question.specs.Asked.{IsAsked};
+ghost use Rattle.station_table.specs.Offsets.{IsTable};
+ghost use Rattle.tide_answer.specs.Givens.{IsGiven};
+
 use super::*;
-use decimal_text::{Bytes, Text};
-use harmonics_text::{Book, BookFault, Why, read_book};
-use question::{AskFault, Command, Key, Layout, Question, ZoneWord};
-use station_table::{OffsetFault, OffsetTable, OffsetWhy, read_offsets};
+use decimal_text::{Bytes, Text, Words};
+use harmonics_text::{Book, BookFault, read_book};
+use question::{AskFault, Question, pairs_of_words, read_question};
+use rows::{ANSWERS, FAULTS, VERDICTS};
+use station_table::{OffsetFault, OffsetTable, read_offsets};
 use std::alloc::{AllocError, Global};
 use std::test::Fail;
 use zone_time::Zone;
 
-const PIER: &[u8] = b"1\nS2 30\n1999\n3\nS2\n0 0 0\n*END*\n3\nS2\n1 1 1\n*END*\n\
-    Pier\n0:00 :UTC\n0 feet\nS2 1 0\n";
+const PIER: &[u8] =
+    b"1\nS2 30\n1999\n3\nS2\n0 0 0\n*END*\n3\nS2\n1 1 1\n*END*\nPier\n0:00 :UTC\n0 feet\nS2 1 0\n\
+    Flow\n0:00 :UTC\n0 knots\nS2 1 0\n";
 
 const TABLE: &[u8] =
-    b"name,reference,high_add,low_add,high_times,low_times,high_plus,low_plus\nLost,Nowhere,,,,,,\n";
+    b"name,reference,high_add,low_add,high_times,low_times,high_plus,low_plus,flood_add,ebb_add\n\
+    Dock,Pier,0:30,-0:10,1.1,0.9,0.1,0,,\nOuter,Pier,0:30,0:30,2,2,0.5,0.5,,\n\
+    Lost,Nowhere,0:00,0:00,1,1,0,0,,\nGate,Flow,0:30,-0:10,1.1,0.9,0.1,0,0:05,-0:05\n";
 
-fn question(alloc: Global, command: Command, station: &str) -> Result<Question, AllocError> {
-    Ok(Question {
-        command,
-        file: None,
-        offsets: None,
-        certificate: None,
-        station: Some(Text::from_str(alloc, station)?),
-        begin: Some(15_792_479),
-        end: Some(15_792_480),
-        mark: None,
-        step: 60,
-        zone: ZoneWord::Utc,
-        layout: Layout::Plain,
-        seed: None,
-        port: 8080,
-        sheets: None,
+/// A pier and a stream of half a day, from 1999 to 2001.
+fn pier(alloc: Global) -> Result<Book, BookFault>
+    ensures { IfOk result IsBook }
+{
+    read_book(alloc, PIER)
+}
+
+/// Places that follow them.
+fn table(alloc: Global) -> Result<OffsetTable, OffsetFault>
+    ensures { IfOk result IsTable }
+{
+    read_offsets(alloc, TABLE)
+}
+
+// The words of a line, parted by '|'.
+fn words_of(alloc: Global, line: &str) -> Result<Words, AllocError> {
+    let mut words = Vec::new(alloc);
+    for word in line.split('|') {
+        words.push(Text::from_str(alloc, word)?)?;
+    }
+    Ok(Words::from_vec(words))
+}
+
+/// The question that the words of a line ask.
+fn asked(alloc: Global, line: &str) -> Result<Question, AskFault>
+    ensures { IfOk result IsAsked }
+{
+    let words = words_of(alloc, line)?;
+    let pairs = pairs_of_words(alloc, &words)?;
+    read_question(alloc, &pairs)
+}
+
+/// Universal time, a certificate's text, and three o'clock on 2000-01-10.
+fn given(alloc: Global, certificate: &str) -> Result<Given, AllocError>
+    ensures { IfOk result IsGiven }
+{
+    if certificate.len() > 1000 {
+        return Err(AllocError);
+    }
+    Ok(Given {
+        zone: Zone::Utc,
+        certificate: Bytes::from_vec(Vec::from_slice(alloc, certificate.as_bytes())?),
+        now: 15_791_220,
     })
 }
 
-// A command, a station, and the answer's text or the line of its refusal.
-const ANSWERS: &[(Command, &str, &str)] = &[
-    (
-        Command::Predict,
-        "Pier",
-        "Pier\n2000-01-10 23:59 UTC       1.00 feet  High Tide\n",
-    ),
-    (Command::Stations, "Pier", "Ref feet Pier\n"),
-    (Command::Heights, "Pier", "refused: not built\n"),
-    (Command::Predict, "Nobody", "refused: no station\n"),
-    (Command::Predict, "Lost", "refused: no reference Nowhere\n"),
-];
+// The answer's text, or the line of its refusal.
+fn told(alloc: Global, line: &str, certificate: &str) -> Result<Bytes, Fail> {
+    let book = pier(alloc)?;
+    let table = table(alloc)?;
+    let question = asked(alloc, line)?;
+    let given = given(alloc, certificate)?;
+    match answer(alloc, &book, &table, &question, &given) {
+        Ok(answer) => Ok(answer.text),
+        Err(refusal) => Ok(fault_line(alloc, &Fault::Refused(refusal), &table)?),
+    }
+}
 
 #[test]
 fn questions_have_their_answers(rt: HostRuntime) -> Result<(), Fail> {
-    let alloc = rt.alloc();
-    let (Ok(book), Ok(table)) = (read_book(alloc, PIER), read_offsets(alloc, TABLE)) else {
-        return Err(Fail::from(AllocError));
-    };
-    for &(command, station, expected) in ANSWERS {
-        let question = question(alloc, command, station)?;
-        let given = Given {
-            zone: Zone::Utc,
-            certificate: Bytes::from_vec(Vec::new(alloc)),
-            now: 0,
-        };
-        let text = match answer(alloc, &book, &table, &question, &given) {
-            Ok(answer) => answer.text,
-            Err(refusal) => fault_line(alloc, &Fault::Refused(refusal), &table)?,
-        };
+    for &(line, expected) in ANSWERS {
+        let text = told(rt.alloc(), line, "")?;
         assert_eq!(rt; text.as_slice(), expected.as_bytes());
     }
     Ok(())
 }
 
-// A fault, its status and its line.
-const FAULTS: &[(Fault, u8, &str)] = &[
-    (
-        Fault::Ask(AskFault::UnknownCommand),
-        2,
-        "words: unknown command\n",
-    ),
-    (
-        Fault::Ask(AskFault::NotAPair(1)),
-        2,
-        "words: pair 1 is not key=value\n",
-    ),
-    (
-        Fault::Ask(AskFault::UnknownKey(12)),
-        2,
-        "words: pair 12 has an unknown key\n",
-    ),
-    (
-        Fault::Ask(AskFault::RepeatedKey(3)),
-        2,
-        "words: pair 3 repeats a key\n",
-    ),
-    (
-        Fault::Ask(AskFault::BadValue(4)),
-        2,
-        "words: pair 4 has a bad value\n",
-    ),
-    (
-        Fault::Ask(AskFault::MissingKey(Key::Sheets)),
-        2,
-        "words: sheets is missing\n",
-    ),
-    (Fault::TooLong(Slot::Zone), 3, "zone: too long\n"),
-    (
-        Fault::Book(BookFault::At {
-            line: 16,
-            why: Why::CutShort,
-        }),
-        3,
-        "file: line 16: cut short (11)\n",
-    ),
-    (
-        Fault::Offsets(OffsetFault::At {
-            row: 2,
-            why: OffsetWhy::HalfSlack,
-        }),
-        3,
-        "offsets: row 2: half slack (8)\n",
-    ),
-    (
-        Fault::Refused(Refusal::Hydraulic),
-        4,
-        "refused: hydraulic\n",
-    ),
-    (
-        Fault::Refused(Refusal::SpanTooLong { minutes: 5_270_401 }),
-        5,
-        "limit: span of 5270401 minutes\n",
-    ),
-    (
-        Fault::Refused(Refusal::TooSteep { year: 1999 }),
-        5,
-        "limit: too steep in 1999\n",
-    ),
-    (Fault::Refused(Refusal::NoMemory), 8, "no memory\n"),
-];
+#[test]
+fn certificates_are_judged(rt: HostRuntime) -> Result<(), Fail> {
+    for &(certificate, expected) in VERDICTS {
+        let text = told(rt.alloc(), "check|file=f|certificate=c", certificate)?;
+        assert_eq!(rt; text.as_slice(), expected.as_bytes());
+    }
+    Ok(())
+}
+
+#[test]
+fn seeds_have_their_trials(rt: HostRuntime) -> Result<(), Fail> {
+    let alloc = rt.alloc();
+    let question = asked(alloc, "trial|seed=0")?;
+    match answer_alone(alloc, &question) {
+        Ok(answer) => assert_eq!(rt; answer.text.as_slice(), TRIAL),
+        Err(_) => return Err(Fail::from(AllocError)),
+    }
+    Ok(())
+}
+
+const TRIAL: &[u8] = b"seed 0\nstations 40\nminutes 4285440\nevents 10902\ncells 325629\n\
+    quiet 237516\naccepted 40\n";
 
 #[test]
 fn faults_have_their_lines(rt: HostRuntime) -> Result<(), Fail> {
@@ -149,7 +130,11 @@ fn faults_have_their_lines(rt: HostRuntime) -> Result<(), Fail> {
 }
 
 #[test]
-fn rows_stand(_rt: HostRuntime) {
+fn laws_and_rows_stand(_rt: HostRuntime) {
     worked_lines();
     worked_spans();
+    worked_rows();
+    worked_levels();
+    certified_is_accepted();
+    accepted_is_true();
 }

@@ -8,4 +8,7 @@ pub struct Answer {
     pub text: Bytes,
     /// A certificate was judged and isn't valid: the text says why.
     pub rejected: bool,
+    /// How many cells the asked tracks are cut into, where the answer lists events: each track over
+    /// the whole span of the reference.
+    pub cells: u64,
 }

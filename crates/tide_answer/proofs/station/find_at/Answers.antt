@@ -1,51 +1,58 @@
-use Rattle.std.proofs.Common.{FitsSigned, w64}
-use Rattle.std.proofs.lemmas.Int.{to_z-of_z}
+use Rattle.std.proofs.Common.{refl}
 use Rattle.std.proofs.lemmas.Result.{err_from_is_err_and}
-use Rattle.tide_answer.proofs.FoundLemmas.{refused_length, found_whole}
-use Rattle.tide_answer.proofs.SpanLemmas.{book_years, file_minute}
+use Rattle.tide_answer.proofs.FoundLemmas.{HasCurve, refused_span, refused_curve, refused_length, refused_mark, found_whole}
+use Rattle.tide_answer.proofs.SpanLemmas.{book_years, has_offsets}
+use Rattle.tide_answer.specs.Sites.{Site}
 use Rattle.tide_answer.proofs.station.find_at.Goals as goal
 
-pub check_length-requires-clause-begin : goal.check_length-requires-clause-begin
-check_length-requires-clause-begin c =
-    let f : FitsSigned w64 c.args.begin = c.ranges.begin in
-    let g : FitsSigned w64 c.args.end = c.ranges.end in
-    let span = simp to_z-of_z at c.in_ok-check_span.ensures.span in
-    simp to_z-of_z (file_minute _ _ _ (book_years _ c.requires.book) span.begins)
+pub check_span-requires-clause-offsets : goal.check_span-requires-clause-offsets
+check_span-requires-clause-offsets c = has_offsets _ _ c.requires.basis
 
-pub check_length-requires-clause-end : goal.check_length-requires-clause-end
-check_length-requires-clause-end c =
-    let f : FitsSigned w64 c.args.begin = c.ranges.begin in
-    let g : FitsSigned w64 c.args.end = c.ranges.end in
-    let span = simp to_z-of_z at c.in_ok-check_span.ensures.span in
-    simp to_z-of_z (file_minute _ _ _ (book_years _ c.requires.book) span.ends)
+pub returns-in_err-check_span-clause-exact : goal.returns-in_err-check_span-clause-exact
+returns-in_err-check_span-clause-exact c =
+    let p = err_from_is_err_and c.from_residual-in_err-check_span.result c.from_residual-in_err-check_span.ensures.1 in
+    let site : Site = record { basis = c.args.basis; station = c.args.station.now } in
+    rw (p.1, p.2) (refused_span _ c.args.reach c.args.book.now site c.args.asked.now c.in_ok-units.units _ c.in_ok-units.ensures.exact c.in_err-check_span.ensures.exact)
+
+pub returns-in_err-curve-clause-exact : goal.returns-in_err-curve-clause-exact
+returns-in_err-curve-clause-exact c =
+    let p = err_from_is_err_and c.from_residual-in_err-curve.result c.from_residual-in_err-curve.ensures.1 in
+    let site : Site = record { basis = c.args.basis; station = c.args.station.now } in
+    rw (p.1, p.2) (refused_curve _ c.args.reach c.args.book.now site c.args.asked.now c.in_ok-units.units _ c.in_ok-units.ensures.exact c.in_ok-check_span.ensures.exact c.in_err-curve.ensures.exact)
 
 pub returns-in_err-check_length-clause-exact : goal.returns-in_err-check_length-clause-exact
 returns-in_err-check_length-clause-exact c =
-    let f : FitsSigned w64 c.args.begin = c.ranges.begin in
-    let g : FitsSigned w64 c.args.end = c.ranges.end in
-    let span = simp to_z-of_z at c.in_ok-check_span.ensures.exact in
-    let length = simp to_z-of_z at c.in_err-check_length.ensures.exact in
     let p = err_from_is_err_and c.from_residual-in_err-check_length.result c.from_residual-in_err-check_length.ensures.1 in
-    rw (p.1, p.2)
-    (refused_length _ c.args.book.now c.args.station.now c.args.begin c.args.end c.in_ok-units.units c.in_ok-curve.curve _
-    c.in_ok-units.ensures.exact span c.in_ok-curve.ensures.exact length)
+    let site : Site = record { basis = c.args.basis; station = c.args.station.now } in
+    let has : HasCurve c.args.reach c.args.book.now site c.args.asked.now c.in_ok-units.units c.in_ok-curve.curve =
+    record { unit = c.in_ok-units.ensures.exact; span = c.in_ok-check_span.ensures.exact; curve = c.in_ok-curve.ensures.exact } in
+    rw (p.1, p.2) (refused_length _ c.args.reach c.args.book.now site c.args.asked.now c.in_ok-units.units c.in_ok-curve.curve _ has c.in_err-check_length.ensures.exact)
+
+pub returns-in_err-check_mark-clause-exact : goal.returns-in_err-check_mark-clause-exact
+returns-in_err-check_mark-clause-exact c =
+    let p = err_from_is_err_and c.from_residual-in_err-check_mark.result c.from_residual-in_err-check_mark.ensures.1 in
+    let site : Site = record { basis = c.args.basis; station = c.args.station.now } in
+    let has : HasCurve c.args.reach c.args.book.now site c.args.asked.now c.in_ok-units.units c.in_ok-curve.curve =
+    record { unit = c.in_ok-units.ensures.exact; span = c.in_ok-check_span.ensures.exact; curve = c.in_ok-curve.ensures.exact } in
+    rw (p.1, p.2) (refused_mark _ c.args.reach c.args.book.now site c.args.asked.now c.in_ok-units.units c.in_ok-curve.curve _ has c.in_ok-check_length.ensures.exact c.in_err-check_mark.ensures.exact)
 
 pub returns-clause-exact : goal.returns-clause-exact
 returns-clause-exact c =
-    let f : FitsSigned w64 c.args.begin = c.ranges.begin in
-    let g : FitsSigned w64 c.args.end = c.ranges.end in
-    let span = simp to_z-of_z at c.in_ok-check_span.ensures.exact in
-    let inside = simp to_z-of_z at c.in_ok-check_span.ensures.span in
-    let length = simp to_z-of_z at c.in_ok-check_length.ensures.exact in
-    let years = c.in_ok-curve.ensures.years in (
-      c.args.station.now,
-      found_whole c.args.book.now c.args.station.now c.args.begin c.args.end c.in_ok-units.units c.in_ok-curve.curve
-          c.in_ok-units.ensures.exact span c.in_ok-curve.ensures.exact length,
+    let site : Site = record { basis = c.args.basis; station = c.args.station.now } in
+    let has : HasCurve c.args.reach c.args.book.now site c.args.asked.now c.in_ok-units.units c.in_ok-curve.curve =
+    record { unit = c.in_ok-units.ensures.exact; span = c.in_ok-check_span.ensures.exact; curve = c.in_ok-curve.ensures.exact } in (
+      site,
+      found_whole c.args.reach c.args.book.now site c.args.asked.now c.in_ok-units.units c.in_ok-curve.curve has c.in_ok-check_length.ensures.exact c.in_ok-check_mark.ensures.exact,
       record {
+        basis = refl;
+        sound = c.requires.basis;
         units = c.in_ok-units.ensures.same;
-        tide = c.in_ok-units.ensures.tide;
+        levels = c.in_ok-units.ensures.levels;
         predicts = c.in_ok-curve.ensures.predicts;
-        years = rw (years.0, years.1) (book_years _ c.requires.book);
-        span = rw (years.0, years.1) inside;
+        gentle = c.in_ok-curve.ensures.gentle;
+        years = book_years _ c.requires.book;
+        span = c.in_ok-check_span.ensures.span;
+        few = c.in_ok-check_length.ensures.few;
+        mark = c.in_ok-check_mark.ensures.here;
       },
     )

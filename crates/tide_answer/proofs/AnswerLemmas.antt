@@ -1,0 +1,91 @@
+-- What the answer to a question comes to by its steps.
+use Rattle.std.proofs.Common.{◌≡◌, ℕ, ℤ, Bool, true, false, List, Some, Result, Ok, Err, ◌≤◌, unsigned_abs, refl, arith}
+use Rattle.std.proofs.lemmas.Int.{ints}
+use Rattle.decimal_text.specs.Expected.{Excused, Gives}
+use Rattle.calendar_sheet.specs.Calendars.{calendar_text_of}
+use Rattle.harmonics_text.specs.declared.book.Book.{Book}
+use Rattle.question.specs.declared.question.Layout.{Layout}
+use Rattle.question.specs.declared.question.Question.{Question}
+use Rattle.question.specs.Asked.{IsAsked}
+use Rattle.station_table.specs.declared.offsets.Offsets.{Offsets}
+use Rattle.zone_time.specs.declared.zone.Zone.{Zone}
+use Rattle.zone_time.specs.Moments.{IsMoment}
+use Rattle.tide_answer.specs.declared.asked.Asked.{Asked}
+use Rattle.tide_answer.specs.declared.following.Listed.{Listed}
+use Rattle.tide_answer.specs.declared.reach.Reach.TheVariants.{Events}
+use Rattle.tide_answer.specs.declared.refusal.Refusal.{Refusal}
+use Rattle.tide_answer.specs.declared.text.Answer.{Answer}
+use Rattle.tide_answer.specs.Answers.{asks_name, asks_span, events_text, named_by, predicted, on_calendar}
+use Rattle.tide_answer.specs.Asking.{asked_by}
+use Rattle.tide_answer.specs.Faults.{wants_memory_of_refusal}
+use Rattle.tide_answer.specs.Sites.{Site, site_in}
+use Rattle.tide_answer.specs.Workings.Curves.{IsSiteList}
+use Rattle.tide_answer.specs.Workings.Spans.{IsNear}
+use Rattle.tide_answer.proofs.FoundLemmas.{excused_then}
+
+-- ---- events
+
+pub predicted_whole : (book : Book) (table : List Offsets) (name : List ℕ) (asked : Asked) (layout : Layout) (zone : Zone) (site : Site) (listed : Listed) (text : List ℕ) → site_in Events book table name asked ≡ Ok site → IsSiteList book asked site listed → text ≡ events_text layout name listed.units listed.events zone → predicted book table name asked layout zone ≡ Ok (record { text = text; rejected = false; cells = listed.cells })
+unfolding predicted
+predicted_whole book table name asked layout zone site listed text found list is =
+    rw (found, is, list.units, list.events, list.cells) refl
+
+pub predicted_refused : (memory : Bool) (book : Book) (table : List Offsets) (name : List ℕ) (asked : Asked) (layout : Layout) (zone : Zone) (refusal : Refusal) → Excused memory (site_in Events book table name asked) refusal → Excused memory (predicted book table name asked layout zone) refusal
+unfolding predicted
+predicted_refused memory book table name asked layout zone refusal excused =
+    excused_then memory (site_in Events book table name asked) _ refusal excused
+
+pub calendar_whole : (book : Book) (table : List Offsets) (name : List ℕ) (asked : Asked) (zone : Zone) (site : Site) (listed : Listed) (text : List ℕ) → site_in Events book table name asked ≡ Ok site → IsSiteList book asked site listed → text ≡ calendar_text_of name listed.units listed.events zone asked.begin asked.end → on_calendar book table name asked zone ≡ Ok (record { text = text; rejected = false; cells = listed.cells })
+unfolding on_calendar
+calendar_whole book table name asked zone site listed text found list is =
+    rw (found, is, list.units, list.events, list.cells) refl
+
+pub calendar_refused : (memory : Bool) (book : Book) (table : List Offsets) (name : List ℕ) (asked : Asked) (zone : Zone) (refusal : Refusal) → Excused memory (site_in Events book table name asked) refusal → Excused memory (on_calendar book table name asked zone) refusal
+unfolding on_calendar
+calendar_refused memory book table name asked zone refusal excused =
+    excused_then memory (site_in Events book table name asked) _ refusal excused
+
+-- ---- what a question names
+
+pub asks_whole : (question : Question) (next : List ℕ → Asked → Result Answer Refusal) (name : List ℕ) (asked : Asked) → named_by question.station ≡ Ok name → named_by (asked_by question) ≡ Ok asked → asks_span question next ≡ next name asked
+unfolding asks_span
+asks_whole question next name asked named spans = rw (named, spans) refl
+
+excused_by : {A : Type 0} (memory : Bool) (expected : Result A Refusal) (refusal : Refusal) → expected ≡ Err refusal → Excused memory expected refusal
+excused_by true expected refusal e = tt
+excused_by false expected refusal e = e
+
+pub asks_no_name : (memory : Bool) (question : Question) (next : List ℕ → Asked → Result Answer Refusal) (refusal : Refusal) → named_by question.station ≡ Err refusal → Excused memory (asks_span question next) refusal
+unfolding asks_span
+asks_no_name memory question next refusal none = excused_by memory _ refusal (rw none refl)
+
+pub asks_no_span : (memory : Bool) (question : Question) (next : List ℕ → Asked → Result Answer Refusal) (name : List ℕ) (refusal : Refusal) → named_by question.station ≡ Ok name → named_by (asked_by question) ≡ Err refusal → Excused memory (asks_span question next) refusal
+unfolding asks_span
+asks_no_span memory question next name refusal named none = excused_by memory _ refusal (rw (named, none) refl)
+
+-- the answer to what a question names is the question's
+pub gives_asked : (question : Question) (next : List ℕ → Asked → Result Answer Refusal) (name : List ℕ) (asked : Asked) (result : Result Answer Refusal) → named_by question.station ≡ Ok name → named_by (asked_by question) ≡ Ok asked → Gives wants_memory_of_refusal (next name asked) result → Gives wants_memory_of_refusal (asks_span question next) result
+gives_asked question next name asked result named spans gives = rw (asks_whole question next name asked named spans) gives
+
+pub gives_named : (question : Question) (next : List ℕ → Result Answer Refusal) (name : List ℕ) (result : Result Answer Refusal) → named_by question.station ≡ Ok name → Gives wants_memory_of_refusal (next name) result → Gives wants_memory_of_refusal (asks_name question next) result
+unfolding asks_name
+gives_named question next name result named gives = rw named gives
+
+pub names_none : (memory : Bool) (question : Question) (next : List ℕ → Result Answer Refusal) (refusal : Refusal) → named_by question.station ≡ Err refusal → Excused memory (asks_name question next) refusal
+unfolding asks_name
+names_none memory question next refusal none = excused_by memory _ refusal (rw none refl)
+
+-- ---- what a question asks is near
+
+pub moment_near : (m : ℤ) → IsMoment m → unsigned_abs m ≤ 20000000000
+moment_near m is =
+    let first = is.first in
+    let last = is.last in
+    omega (arith, ints)
+
+pub asked_near : (question : Question) (begin end : ℤ) → IsAsked question → question.begin ≡ Some begin → question.end ≡ Some end → IsNear (record { begin = begin; end = end; mark = question.mark })
+asked_near question begin end is begins ends = record {
+  begin = moment_near begin (is.begin begin begins);
+  end = moment_near end (is.end end ends);
+  mark = is.mark;
+}

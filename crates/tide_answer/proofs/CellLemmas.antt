@@ -1,0 +1,89 @@
+-- The cells of a track's curve may stand in the track.
+use Rattle.std.proofs.Common.{◌≡◌, ℕ, suc, ◌≤◌, ◌==◌, ℤ, pos, ◌+ℤ◌, Bool, true, false, ◌&&◌, cond, nat_le, List, [], ◌∷◌, All, refl, ap, ◌∙◌, arith}
+use Rattle.std.specs.Prelude.{unsigned_abs}
+use Rattle.std.specs.Ordering.{int_eq}
+use Rattle.std.proofs.lemmas.Bool.Decides.{nat_tests, Decides-int_eq, Decides-eqb}
+use Rattle.std.proofs.lemmas.Int.{ints}
+use Rattle.std.proofs.lemmas.List.Elements.{All-nil, All-cons}
+use Rattle.cert_text.specs.declared.track_name.TrackName.{TrackName}
+use Rattle.cert_text.specs.Tracks.{track_of}
+use Rattle.cert_text.specs.Certificates.{IsCellOf}
+use Rattle.curve_law.specs.declared.cell.Cell.{Cell}
+use Rattle.curve_law.specs.declared.cell.Cell.TheVariants.{Quiet, Still, Turn}
+use Rattle.curve_law.specs.declared.verdict.Verdict.{Verdict}
+use Rattle.curve_law.specs.declared.verdict.Verdict.TheVariants.{Accepted, WrongLength, NotQuiet, WrongStep, WrongLevel}
+use Rattle.curve_law.specs.Cells.{minutes_of, all_minutes}
+use Rattle.curve_law.specs.Cover.{most_minutes, is_quiet}
+use Rattle.curve_law.specs.Meaning.{Meaning, IsMinute, IsSpan}
+use Rattle.curve_law.specs.Track.{side_at, has_event, event_at}
+use Rattle.curve_law.specs.Verdicts.{same_kind, cell_verdict, or_next, cells_verdict, verdict}
+use Rattle.curve_law.proofs.VerdictLemmas.{one_kind}
+use Rattle.event_list.specs.declared.span.Span.{Span}
+use Rattle.event_list.specs.Events.{minutes_in}
+
+-- what an accepted cell says
+both_true : (a b : Bool) → (a && b) ≡ true → (a ≡ true) × (b ≡ true)
+both_true true true h = (refl, refl)
+both_true true false h = (refl, h)
+both_true false b h = (h, absurd cc)
+
+both_accepted : (v w : Verdict) → or_next v w ≡ Accepted → (v ≡ Accepted) × (w ≡ Accepted)
+both_accepted Accepted w h = (refl, h)
+both_accepted (WrongLength covered wanted) w h = cc
+both_accepted (NotQuiet cell) w h = cc
+both_accepted (WrongStep cell) w h = cc
+both_accepted (WrongLevel cell written computed) w h = cc
+
+pub accepted_if : (b : Bool) (v w : Verdict) → (w ≡ Accepted → ⊥) → cond b v w ≡ Accepted → (b ≡ true) × (v ≡ Accepted)
+accepted_if true v w unlike h = (refl, h)
+accepted_if false v w unlike h = absurd (unlike h)
+
+-- the levels of its events, and the track that they stand in
+pub record IsOf (track : TrackName) (c : Meaning) : Type 0 where
+  pub rising : track_of c.track.rising ≡ track
+  pub falling : track_of c.track.falling ≡ track
+  pub small : (m : ℤ) → IsMinute c m → unsigned_abs (c.track.note m) ≤ 11000000000
+
+event_track : (track : TrackName) (c : Meaning) (above : Bool) → IsOf track c → track_of (cond above c.track.falling c.track.rising) ≡ track
+event_track track c true is = is.falling
+event_track track c false is = is.rising
+
+quiet_length : (c : Meaning) (a : ℤ) (n : ℕ) → is_quiet c a n ≡ true → (2 ≤ n) × (n ≤ 1024)
+unfolding is_quiet
+quiet_length c a n quiet =
+    let both = both_true _ _ quiet in
+    let length = both_true (nat_le 2 n) (nat_le n most_minutes) both.0 in
+    let least = length.0 in
+    let most = length.1 in
+    (grind (arith, nat_tests), grind (arith, nat_tests))
+
+accepted_cell : (track : TrackName) (c : Meaning) (a : ℤ) (number : ℕ) (cell : Cell) → IsOf track c → IsMinute c a → cell_verdict c a number cell ≡ Accepted → IsCellOf track cell
+unfolding cell_verdict
+accepted_cell track c a number (Quiet n) is at ok = quiet_length c a n (accepted_if (is_quiet c a n) _ (NotQuiet number) (λ e. cc) ok).0
+accepted_cell track c a number Still is at ok = tt
+accepted_cell track c a number (Turn kind level) is at ok =
+    let event = accepted_if (has_event c.track a) _ (WrongStep number) (λ e. cc) ok in
+    let alike = accepted_if (same_kind kind (event_at c.track a).kind) _ (WrongStep number) (λ e. cc) event.1 in
+    let written = accepted_if (int_eq level (c.track.note a)) _ (WrongLevel number level (c.track.note a)) (λ e. cc) alike.1 in
+    let same = one_kind kind (event_at c.track a).kind alike.0 in
+    let computed = (Decides-int_eq level (c.track.note a)).0 written.0 in
+    let small = is.small a at in
+    (ap track_of same ∙ event_track track c (side_at c.track a) is, rw computed (omega (arith, small)))
+
+accepted_cells : (track : TrackName) (c : Meaning) (a : ℤ) (number : ℕ) (cells : List Cell) → IsOf track c → IsSpan c a (all_minutes cells) → cells_verdict c a number cells ≡ Accepted → All (IsCellOf track) cells
+unfolding cells_verdict all_minutes
+accepted_cells track c a number [] is span ok = All-nil (IsCellOf track)
+accepted_cells track c a number (cell ∷ cells) is span ok =
+    let parts = both_accepted (cell_verdict c a number cell) (cells_verdict c (a +ℤ pos (minutes_of cell)) (suc number) cells) ok in
+    let first = span.first in
+    let last = span.last in
+    All-cons (IsCellOf track) cell cells
+    (accepted_cell track c a number cell is (record { first = first; last = omega (arith, ints) }) parts.0)
+    (accepted_cells track c (a +ℤ pos (minutes_of cell)) (suc number) cells is (record { first = omega (arith, ints); last = omega (arith, ints) }) parts.1)
+
+pub accepted_track : (track : TrackName) (c : Meaning) (s : Span) (cells : List Cell) → IsOf track c → IsSpan c s.begin (minutes_in s) → verdict c s.begin (minutes_in s) cells ≡ Accepted → All (IsCellOf track) cells
+unfolding verdict
+accepted_track track c s cells is span ok =
+    let whole = accepted_if (all_minutes cells == minutes_in s) _ _ (λ e. cc) ok in
+    let all : all_minutes cells ≡ minutes_in s = (Decides-eqb (all_minutes cells) (minutes_in s)).0 whole.0 in
+    accepted_cells track c s.begin 1 cells is (rw all span) whole.1

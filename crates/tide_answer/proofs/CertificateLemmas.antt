@@ -1,0 +1,122 @@
+-- The certificate that is written of a station's tracks.
+use Rattle.std.proofs.Common.{◌≡◌, ℕ, ◌^◌, ◌<◌, ◌≤◌, ℤ, Bool, true, false, List, Option, Some, None, is_some, option_map, Ok, All, refl, ap, ◌∙◌, inr}
+use Rattle.std.specs.Prelude.{unsigned_abs, IfSome}
+use Rattle.std.specs.Option.{ForSome}
+use Rattle.cert_text.specs.declared.track_name.TrackName.{TrackName}
+use Rattle.cert_text.specs.declared.track_name.TrackName.TheVariants.{Turn, Slack, Mark}
+use Rattle.cert_text.specs.Certificates.{IsCertificate, IsCellOf, IsStationName}
+use Rattle.cert_text.specs.Lines.{certificate_text}
+use Rattle.cert_text.specs.Tracks.{track_of}
+use Rattle.curve_law.specs.declared.cell.Cell.{Cell}
+use Rattle.curve_law.specs.declared.tracks.Tracks.{Tracks}
+use Rattle.curve_law.specs.Meaning.{Meaning}
+use Rattle.curve_law.proofs.AgreeLemmas.{cover-agrees}
+use Rattle.event_list.specs.declared.span.Span.{Span}
+use Rattle.event_list.specs.Events.{Followed, IsKnown, IsAccepted, AgreeIfFollowed, AllAgree, minutes_in, cover_over, covers_of, cell_count, cells_in}
+use Rattle.event_list.specs.Shifts.{widened_of}
+use Rattle.event_list.proofs.EventLemmas.{covers-accepted}
+use Rattle.harmonics_text.specs.declared.book.Book.{Book}
+use Rattle.rate_bound.specs.declared.version.Version.TheVariants.{Second}
+use Rattle.rate_bound.specs.Meanings.{turn_meaning}
+use Rattle.station_curve.specs.Levels.{millionths_of}
+use Rattle.station_curve.specs.Limits.{IsGentle}
+use Rattle.station_curve.specs.Waves.{Tide}
+use Rattle.station_table.specs.declared.offsets.Offsets.{Offsets}
+use Rattle.zone_time.specs.Moments.{IsMoment}
+use Rattle.tide_answer.specs.declared.asked.Asked.{Asked}
+use Rattle.tide_answer.specs.declared.reach.Reach.TheVariants.{Events}
+use Rattle.tide_answer.specs.declared.station.Found.{Found}
+use Rattle.tide_answer.specs.Answers.{certified}
+use Rattle.tide_answer.specs.Following.{if_asked, followed_by, tracks_of, cells_of}
+use Rattle.tide_answer.specs.Sites.{Site, site_in}
+use Rattle.tide_answer.specs.Workings.Certifying.{certificate_in}
+use Rattle.tide_answer.specs.Workings.Curves.{followed_tide, IsReady}
+use Rattle.tide_answer.specs.Workings.Spans.{IsFound}
+use Rattle.tide_answer.proofs.CellLemmas.{IsOf, accepted_track}
+use Rattle.tide_answer.proofs.FollowLemmas.{found_alike, ready_known, few_cells}
+use Rattle.tide_answer.proofs.MovableLemmas.{millionths_small}
+
+-- ---- what was found, and the site
+
+cover_if_alike : (s : Span) (c d : Option Meaning) → AgreeIfFollowed s c d → option_map (cover_over s) c ≡ option_map (cover_over s) d
+cover_if_alike s None None agree = refl
+cover_if_alike s None (Some d) agree = absurd agree
+cover_if_alike s (Some c) None agree = absurd agree
+cover_if_alike s (Some c) (Some d) agree = ap (λ (cells : List Cell). Some cells) (cover-agrees c d s.begin (minutes_in s) agree)
+
+covers_alike : (f g : Followed) (s : Span) → AllAgree f g s → covers_of f s ≡ covers_of g s
+covers_alike f g s agree =
+    let turn = cover-agrees f.turn g.turn s.begin (minutes_in s) agree.turn in
+    let slack = cover_if_alike s f.slack g.slack agree.slack in
+    let mark = cover_if_alike s f.mark g.mark agree.mark in
+    rw (turn, slack, mark) refl
+
+pub tracks_alike : (book : Book) (asked : Asked) (site : Site) (found : Found) (tracks : Tracks) → IsFound Events book asked site found → tracks ≡ covers_of (followed_tide Second found asked.mark) (widened_of found.basis asked.begin asked.end) → tracks ≡ tracks_of book site asked
+unfolding tracks_of
+tracks_alike book asked site found tracks is same =
+    same ∙ covers_alike _ _ _ (found_alike Second book asked site found asked.mark is)
+    ∙ ap (λ b. covers_of (followed_by Second book site asked.mark) (widened_of b asked.begin asked.end)) is.basis
+
+-- ---- how many cells
+
+pub tracks_few : (asked : Asked) (found : Found) (tracks : Tracks) → IsReady asked found → tracks ≡ covers_of (followed_tide Second found asked.mark) (widened_of found.basis asked.begin asked.end) → cells_in tracks < 2 ^ 64
+tracks_few asked found tracks ready same = rw same (few_cells asked found ready)
+
+-- ---- the parts lie within their ranges
+
+if_some : (P : ℤ → Type 0) (o : Option ℤ) → ForSome o P → IfSome o P
+if_some P (Some x) holds = holds x refl
+if_some P None holds = tt
+
+of_notes : (track : TrackName) (tide : Tide) (c : Meaning) → IsGentle tide → c.first ≡ (turn_meaning Second tide).first → c.last ≡ (turn_meaning Second tide).last → c.track.note ≡ millionths_of tide → track_of c.track.rising ≡ track → track_of c.track.falling ≡ track → IsOf track c
+of_notes track tide c gentle first last note rising falling = record {
+  rising = rising;
+  falling = falling;
+  small = λ m minute. rw note (millionths_small tide m gentle (record { least = rw first at minute.first; most = rw last at minute.last }));
+}
+
+of_if_asked : (asks : Bool) (c : Meaning) → IsOf Slack c → ForSome (if_asked asks c) (IsOf Slack)
+of_if_asked true c is x e = let same : c ≡ x = cc in rw (← same) is
+of_if_asked false c is x e = absurd cc
+
+of_if_marked : (mark : Option ℤ) (f : ℤ → Meaning) → ((level : ℤ) → IsOf Mark (f level)) → ForSome (option_map f mark) (IsOf Mark)
+of_if_marked (Some level) f is x e = let same : f level ≡ x = cc in rw (← same) (is level)
+of_if_marked None f is x e = absurd cc
+
+track_sound : (track : TrackName) (s : Span) (curve : Option Meaning) (cells : Option (List Cell)) → ForSome curve (IsOf track) → ForSome curve (IsKnown s) → IsAccepted s curve cells → IfSome cells (All (IsCellOf track))
+track_sound track s None None of known accepted = tt
+track_sound track s None (Some cells) of known accepted = absurd accepted
+track_sound track s (Some c) None of known accepted = absurd accepted
+track_sound track s (Some c) (Some cells) of known accepted = accepted_track track c s cells (of c refl) (known c refl).span accepted
+
+marked_alike : (mark : Option ℤ) (f : ℤ → Meaning) (g : Meaning → List Cell) → is_some (option_map g (option_map f mark)) ≡ is_some mark
+marked_alike (Some level) f g = refl
+marked_alike None f g = refl
+
+pub certificate_sound : (name : List ℕ) (asked : Asked) (found : Found) (tracks : Tracks) → IsStationName name → IsMoment asked.begin → IsMoment asked.end → IsReady asked found → tracks ≡ covers_of (followed_tide Second found asked.mark) (widened_of found.basis asked.begin asked.end) → IsCertificate (certificate_in name asked tracks)
+unfolding followed_tide
+certificate_sound name asked found tracks named begin end ready same =
+    let s = widened_of found.basis asked.begin asked.end in
+    let f = followed_tide Second found asked.mark in
+    let known = ready_known Second asked found ready in
+    let accepted = covers-accepted f s in
+    let gentle = ready.gentle in
+    rw same (record {
+      version = inr refl;
+      station = named;
+      begin = begin;
+      end = end;
+      mark = if_some (λ level. unsigned_abs level ≤ 10000000000) asked.mark ready.mark;
+      turn = accepted_track Turn f.turn s (cover_over s f.turn) (of_notes Turn found.curve f.turn gentle refl refl refl refl refl) known.turn.span accepted.turn;
+      slack = track_sound Slack s f.slack (option_map (cover_over s) f.slack) (of_if_asked _ _ (of_notes Slack found.curve _ gentle refl refl refl refl refl)) known.slack accepted.slack;
+      crossings = track_sound Mark s f.mark (option_map (cover_over s) f.mark) (of_if_marked asked.mark _ (λ level. of_notes Mark found.curve _ gentle refl refl refl refl refl)) known.mark accepted.mark;
+      marked = marked_alike asked.mark _ (cover_over s);
+    })
+
+-- ---- the answer
+
+pub certified_whole : (book : Book) (table : List Offsets) (name : List ℕ) (asked : Asked) (site : Site) (found : Found) (tracks : Tracks) (text : List ℕ) (cells : ℕ) → site_in Events book table name asked ≡ Ok site → IsFound Events book asked site found → tracks ≡ covers_of (followed_tide Second found asked.mark) (widened_of found.basis asked.begin asked.end) → text ≡ certificate_text (certificate_in name asked tracks) → cells ≡ cells_in tracks → certified book table name asked ≡ Ok (record { text = text; rejected = false; cells = cells })
+unfolding certified cells_of cell_count tracks_of
+certified_whole book table name asked site found tracks text cells expected is same written counted =
+    let all = tracks_alike book asked site found tracks is same in
+    rw (expected, written, counted, all) refl

@@ -1,0 +1,89 @@
+-- What is ready for a question by its steps.
+use Rattle.std.proofs.Common.{◌≡◌, ℕ, Bool, true, false, ◌&&◌, if◌then◌else◌, IsTrue, List, Option, Some, None, Ok, Err, refl, sym}
+use Rattle.decimal_text.specs.Expected.{◌>>=◌, Excused}
+use Rattle.harmonics_text.specs.declared.book.Book.{Book}
+use Rattle.question.specs.declared.command.Command.{Command}
+use Rattle.question.specs.declared.command.Command.TheVariants.{Predict, Certify}
+use Rattle.question.specs.declared.question.Layout.{Layout}
+use Rattle.question.specs.declared.question.Layout.TheVariants.{Plain, Csv}
+use Rattle.question.specs.declared.question.Question.{Question}
+use Rattle.station_table.specs.declared.offsets.Offsets.{Offsets}
+use Rattle.station_table.specs.declared.basis.Basis.{Basis}
+use Rattle.station_table.specs.Bases.{is_plain}
+use Rattle.zone_time.specs.declared.zone.Zone.{Zone}
+use Rattle.tide_answer.specs.declared.asked.Asked.{Asked}
+use Rattle.tide_answer.specs.declared.given.Given.{Given}
+use Rattle.tide_answer.specs.declared.reach.Reach.TheVariants.{Events}
+use Rattle.tide_answer.specs.declared.refusal.Refusal.{Refusal}
+use Rattle.tide_answer.specs.declared.station.Found.{Found}
+use Rattle.tide_answer.specs.Answers.{answered, built, asks_span, named_by, predicted, certified}
+use Rattle.tide_answer.specs.Asking.{asked_by}
+use Rattle.tide_answer.specs.Following.{cells_of, tracks_of}
+use Rattle.event_list.specs.Events.{cell_count}
+use Rattle.tide_answer.specs.Sites.{Site, site_in}
+use Rattle.tide_answer.specs.Streams.{can_stream, prepared, streams_by}
+use Rattle.tide_answer.specs.Workings.Spans.{IsFound}
+use Rattle.tide_answer.specs.Workings.Streaming.{form_of, stream_answer, tide_tracks}
+use Rattle.tide_answer.proofs.CertificateLemmas.{tracks_alike}
+use Rattle.tide_answer.proofs.FollowLemmas.{found_events, found_cells}
+use Rattle.tide_answer.proofs.FoundLemmas.{excused_then}
+
+-- where the name is missing
+pub refused_station : (command : Command) (book : Book) (table : List Offsets) (question : Question) (given : Given) (refusal : Refusal) → question.command ≡ command → IsTrue (can_stream command) → named_by question.station ≡ Err refusal → prepared book table question given ≡ Err refusal
+unfolding prepared answered built asks_span
+refused_station Predict book table question given refusal is can name = rw (is, name) refl
+refused_station Certify book table question given refusal is can name = rw (is, name) refl
+refused_station _ book table question given refusal is can name = absurd (let no = can in cc)
+
+pub refused_span : (command : Command) (book : Book) (table : List Offsets) (question : Question) (given : Given) (text : List ℕ) (refusal : Refusal) → question.command ≡ command → IsTrue (can_stream command) → named_by question.station ≡ Ok text → named_by (asked_by question) ≡ Err refusal → prepared book table question given ≡ Err refusal
+unfolding prepared answered built asks_span asked_by
+refused_span Predict book table question given text refusal is can name span = rw (is, name, span) refl
+refused_span Certify book table question given text refusal is can name span = rw (is, name, span) refl
+refused_span _ book table question given text refusal is can name span = absurd (let no = can in cc)
+
+pub refused_site : (command : Command) (memory : Bool) (book : Book) (table : List Offsets) (question : Question) (given : Given) (text : List ℕ) (asked : Asked) (refusal : Refusal) → question.command ≡ command → IsTrue (can_stream command) → named_by question.station ≡ Ok text → named_by (asked_by question) ≡ Ok asked → Excused memory (site_in Events book table text asked) refusal → Excused memory (prepared book table question given) refusal
+unfolding prepared answered built asks_span asked_by predicted certified
+refused_site Predict memory book table question given text asked refusal is can name span excused =
+    rw (is, name, span) (excused_then memory (site_in Events book table text asked >>= _) _ refusal (excused_then memory (site_in Events book table text asked) _ refusal excused))
+refused_site Certify memory book table question given text asked refusal is can name span excused =
+    rw (is, name, span) (excused_then memory (site_in Events book table text asked >>= _) _ refusal (excused_then memory (site_in Events book table text asked) _ refusal excused))
+refused_site _ memory book table question given text asked refusal is can name span excused = absurd (let no = can in cc)
+
+-- where it doesn't stream
+pub ready_none : (command : Command) (book : Book) (table : List Offsets) (question : Question) (given : Given) (text : List ℕ) (asked : Asked) (site : Site) → question.command ≡ command → IsTrue (can_stream command) → named_by question.station ≡ Ok text → named_by (asked_by question) ≡ Ok asked → site_in Events book table text asked ≡ Ok site → streams_by site.basis question.layout given.zone ≡ false → prepared book table question given ≡ Ok (record { stream = None })
+unfolding prepared answered built asks_span asked_by predicted certified
+ready_none Predict book table question given text asked site is can name span found streams = rw (is, name, span, found, streams) refl
+ready_none Certify book table question given text asked site is can name span found streams = rw (is, name, span, found, streams) refl
+ready_none _ book table question given text asked site is can name span found streams = absurd (let no = can in cc)
+
+-- where it does
+both : (a b : Bool) → (a && b) ≡ true → (a ≡ true) × (b ≡ true)
+both true true h = (refl, refl)
+both true false h = (refl, h)
+both false b h = (h, absurd cc)
+
+pub ready_some : (command : Command) (layout : Layout) (book : Book) (table : List Offsets) (question : Question) (given : Given) (text : List ℕ) (asked : Asked) (site : Site) (found : Found) → question.command ≡ command → question.layout ≡ layout → IsTrue (can_stream command) → named_by question.station ≡ Ok text → named_by (asked_by question) ≡ Ok asked → site_in Events book table text asked ≡ Ok site → IsFound Events book asked site found → streams_by site.basis layout given.zone ≡ true → prepared book table question given ≡ Ok (record { stream = Some (stream_answer (form_of command) found text asked given.zone) })
+unfolding prepared answered built asks_span asked_by predicted certified cells_of cell_count tracks_of
+ready_some Predict Plain book table question given text asked site found is lay can name span at has streams =
+    let events = sym (found_events book asked site found has) in
+    let cells = sym (found_cells book asked site found has) in
+    rw (is, lay, name, span, at, streams, events, cells, has.units) refl
+ready_some Predict Csv book table question given text asked site found is lay can name span at has streams =
+    absurd (let no = (both (is_plain site.basis) false streams).1 in cc)
+ready_some Certify layout book table question given text asked site found is lay can name span at has streams =
+    let tracks = tracks_alike book asked site found (tide_tracks found asked) has refl in
+    let cells = sym (found_cells book asked site found has) in
+    rw (is, lay, name, span, at, streams, cells, ← tracks) refl
+ready_some _ layout book table question given text asked site found is lay can name span at has streams = absurd (let no = can in cc)
+
+-- the zone that an answer streams by
+pub zone_some : (streams : Bool) (zone given : Zone) → Some zone ≡ (if streams then Some given else None) → (streams ≡ true) × (zone ≡ given)
+zone_some true zone given is = (refl, cc)
+zone_some false zone given is = absurd cc
+
+pub zone_none : (streams : Bool) (given : Zone) → (let o : Option Zone = None in o) ≡ (if streams then Some given else None) → streams ≡ false
+zone_none true given is = absurd cc
+zone_none false given is = refl
+
+pub plain_if : (layout : Layout) (basis : Basis) (zone : Zone) → streams_by basis layout zone ≡ true → IsTrue (is_plain basis)
+plain_if layout basis zone streams = (both (is_plain basis) _ streams).0

@@ -1,0 +1,10 @@
+use Rattle.std.proofs.Common.{FitsSigned, w64, rules}
+use Rattle.std.proofs.lemmas.Int.{to_z-of_z}
+use Rattle.tide_answer.proofs.AnswerLemmas.{asked_near}
+use Rattle.tide_answer.proofs.asking.span_named.Goals as goal
+
+pub returns-in-Some-Some-clause-near : goal.returns-in-Some-Some-clause-near
+returns-in-Some-Some-clause-near c =
+    let begin : FitsSigned w64 c.in-Some-Some.begin = search rules in
+    let end : FitsSigned w64 c.in-Some-Some.end = search rules in
+    simp to_z-of_z (asked_near c.args.question.now c.in-Some-Some.begin c.in-Some-Some.end c.requires c.in-Some-Some.is-0 c.in-Some-Some.is-1)

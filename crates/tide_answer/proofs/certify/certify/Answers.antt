@@ -1,0 +1,35 @@
+use Rattle.std.proofs.lemmas.Result.{err_from_is_err_and}
+use Rattle.cert_text.specs.Certificates.{IsStationName}
+use Rattle.tide_answer.specs.Answers.{certified}
+use Rattle.tide_answer.proofs.CertificateLemmas.{tracks_few, certificate_sound, certified_whole}
+use Rattle.tide_answer.proofs.FollowLemmas.{ready_of_found}
+use Rattle.tide_answer.proofs.FoundLemmas.{excused_then}
+use Rattle.tide_answer.proofs.NameLemmas.{site_name}
+use Rattle.tide_answer.proofs.certify.certify.Goals as goal
+
+pub returns-in_err-found-clause-exact : goal.returns-in_err-found-clause-exact
+unfolding certified
+returns-in_err-found-clause-exact c =
+    let p = err_from_is_err_and c.from_residual.result c.from_residual.ensures.1 in
+    rw (p.1, p.2) (excused_then _ _ _ _ c.in_err-found.ensures.exact)
+
+pub cell_count-cells-requires : goal.cell_count-cells-requires
+cell_count-cells-requires c =
+    let exact = c.in_ok-found.ensures.exact in
+    let ready = ready_of_found c.args.book.now c.args.asked.now exact.0 c.in_ok-found.found c.requires.near exact.2 in
+    tracks_few c.args.asked.now c.in_ok-found.found c.in_ok-tracks.tracks ready c.in_ok-tracks.ensures
+
+pub write_certificate-requires : goal.write_certificate-requires
+write_certificate-requires c =
+    let exact = c.in_ok-found.ensures.exact in
+    let ready = ready_of_found c.args.book.now c.args.asked.now exact.0 c.in_ok-found.found c.requires.near exact.2 in
+    let named : IsStationName c.args.name.now = site_name _ c.args.book.now c.args.table.now c.args.name.now c.args.asked.now exact.0 c.requires.book c.requires.table exact.1 in
+    rw (c.certificate_of-cert.ensures, c.in_ok-copy.ensures)
+    (certificate_sound c.args.name.now c.args.asked.now c.in_ok-found.found c.in_ok-tracks.tracks named c.requires.begin c.requires.end ready c.in_ok-tracks.ensures)
+
+pub returns-clause-exact : goal.returns-clause-exact
+returns-clause-exact c =
+    let exact = c.in_ok-found.ensures.exact in
+    let written = rw (c.certificate_of-cert.ensures, c.in_ok-copy.ensures) at c.in_ok-text.ensures in
+    certified_whole c.args.book.now c.args.table.now c.args.name.now c.args.asked.now exact.0 c.in_ok-found.found c.in_ok-tracks.tracks c.in_ok-text.text c.cell_count-cells.result
+    exact.1 exact.2 c.in_ok-tracks.ensures written c.cell_count-cells.ensures

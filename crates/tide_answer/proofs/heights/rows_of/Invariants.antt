@@ -1,0 +1,5 @@
+use Rattle.tide_answer.specs.Workings.Levels.{AreRows}
+use Rattle.tide_answer.proofs.heights.rows_of.Given as goal
+
+abbrev pub invariant-loop-place : goal.invariant-loop-place
+invariant-loop-place l = AreRows l.found l.asked.begin l.step l.place l.rows.items

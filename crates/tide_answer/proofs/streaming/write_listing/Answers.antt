@@ -1,0 +1,27 @@
+use Rattle.std.proofs.Common.{◌∙◌}
+use Rattle.std.proofs.lemmas.Result.{err_from_is_err_and}
+use Rattle.tide_answer.proofs.FollowLemmas.{plain_is_whole, tide_lines}
+use Rattle.tide_answer.proofs.SendLemmas.{from_first}
+use Rattle.tide_answer.proofs.StreamLemmas.{events_small}
+use Rattle.tide_answer.proofs.streaming.write_listing.Goals as goal
+
+pub send_listing-requires-clause-listed : goal.send_listing-requires-clause-listed
+send_listing-requires-clause-listed g c =
+    let whole = plain_is_whole c.args.asked.now c.args.found.now _ c.requires.ready c.merge_of-merge.ensures.left c.requires.plain in
+    rw whole (tide_lines c.args.asked.now c.args.found.now c.requires.ready)
+
+pub send_listing-requires-clause-few : goal.send_listing-requires-clause-few
+send_listing-requires-clause-few g c =
+    events_small c.args.asked.now c.args.found.now _ c.requires.ready c.merge_of-merge.ensures.left
+
+pub returns-in_err-send_listing-clause-streams : goal.returns-in_err-send_listing-clause-streams
+returns-in_err-send_listing-clause-streams g c =
+    let p = err_from_is_err_and c.from_residual.result c.from_residual.ensures.1 in
+    let whole = plain_is_whole c.args.asked.now c.args.found.now _ c.requires.ready c.merge_of-merge.ensures.left c.requires.plain in
+    rw (p.1, p.2) (from_first _ _ _ _ 0 _ (rw whole at c.in_err-send_listing.ensures.sends))
+
+pub returns-clause-streams : goal.returns-clause-streams
+returns-clause-streams g c =
+    let whole = plain_is_whole c.args.asked.now c.args.found.now _ c.requires.ready c.merge_of-merge.ensures.left c.requires.plain in
+    let sends = rw whole at c.in_ok-send_listing.ensures.sends in
+    (c.cells.ensures ∙ c.in_ok-send_listing.ensures.cells ∙ c.merge_of-merge.ensures.all, sends.2)

@@ -1,0 +1,11 @@
+-- What is given with a question: the ranges of its parts (this project).
+use Rattle.std.specs.Prelude.{◌≤◌, negsuc, pos, ◌≤ℤ◌, length}
+use Rattle.tide_answer.specs.declared.given.Given.{Given}
+use Rattle.zone_time.specs.Zones.{IsZone}
+
+-- a zone that shows each minute, a text that can be a certificate's, and a minute that a clock can show
+pub record IsGiven (given : Given) : Type 0 where
+  pub zone : IsZone given.zone
+  pub certificate : length given.certificate ≤ 400000000
+  pub earliest : negsuc 9999999999 ≤ℤ given.now
+  pub latest : given.now ≤ℤ pos 10000000000

@@ -1,0 +1,71 @@
+-- What certificates come to: what is certified is accepted, and what is accepted tells exactly the events of its own question (this project).
+use Rattle.std.specs.Prelude.{◌≡◌, ℕ, false, List, ◌++◌, codes, Option, Some, None, Result, Ok}
+use Rattle.std.specs.Option.{ForSome}
+use Rattle.cert_text.specs.declared.certificate.Certificate.{Certificate}
+use Rattle.cert_text.specs.Certificates.{IsMark}
+use Rattle.cert_text.specs.Spelling.{IsTextOf}
+use Rattle.curve_law.specs.declared.cell.Cell.{Cell}
+use Rattle.curve_law.specs.declared.tracks.Tracks.{Tracks}
+use Rattle.curve_law.specs.Cells.{turns}
+use Rattle.curve_law.specs.Meaning.{Meaning}
+use Rattle.event_list.specs.declared.span.Span.{Span}
+use Rattle.event_list.specs.Events.{Followed, events_over}
+use Rattle.event_list.specs.Shifts.{widened_of}
+use Rattle.harmonics_text.specs.declared.book.Book.{Book}
+use Rattle.harmonics_text.specs.Books.{IsBook}
+use Rattle.question.specs.declared.question.Layout.TheVariants.{Plain}
+use Rattle.station_table.specs.declared.offsets.Offsets.{Offsets}
+use Rattle.station_table.specs.Offsets.{IsTable}
+use Rattle.zone_time.specs.declared.zone.Zone.{Zone}
+use Rattle.zone_time.specs.Moments.{IsMoment}
+use Rattle.tide_answer.specs.declared.asked.Asked.{Asked}
+use Rattle.tide_answer.specs.declared.reach.Reach.TheVariants.{Events}
+use Rattle.tide_answer.specs.declared.refusal.Refusal.{Refusal}
+use Rattle.tide_answer.specs.declared.text.Answer.{Answer}
+use Rattle.tide_answer.specs.Answers.{text_alone, predicted, certified, checked}
+use Rattle.tide_answer.specs.Asking.{asked_in}
+use Rattle.tide_answer.specs.Following.{followed}
+use Rattle.tide_answer.specs.Sites.{Site, site_in}
+
+-- a question that words can ask: its moments are of the years from 1 to 9999, and its mark is at most 10,000 units
+pub record IsAskable (asked : Asked) : Type 0 where
+  pub begin : IsMoment asked.begin
+  pub end : IsMoment asked.end
+  pub mark : ForSome asked.mark IsMark
+
+-- the word that accepts, and then the listing of the prediction
+abbrev pub AcceptsListing : Result Answer Refusal → Answer → Type 0
+AcceptsListing prediction answer = (listing : Answer) × (prediction ≡ Ok listing) × (answer ≡ text_alone (codes "Accepted\n" ++ listing.text))
+
+-- the text of a certificate that was made of a question is accepted, with the listing that the question's prediction has
+abbrev pub AcceptsWhatIsCertified : Type 0
+AcceptsWhatIsCertified = (book : Book) (table : List Offsets) (name : List ℕ) (asked : Asked) (zone : Zone) (certificate : Answer) →
+    IsBook book → IsTable table → IsAskable asked → certified book table name asked ≡ Ok certificate →
+    (answer : Answer) × (checked book table certificate.text zone ≡ Ok answer) × AcceptsListing (predicted book table name asked Plain zone) answer
+
+-- the events in a track's cells are those of the plain list, which looks at every minute of the span; no track is there without its curve
+abbrev pub TellsTrack : Span → Option Meaning → Option (List Cell) → Type 0
+TellsTrack span (Some curve) (Some cells) = turns span.begin cells ≡ events_over span curve
+TellsTrack span None None = Unit {0}
+TellsTrack span (Some curve) None = ⊥
+TellsTrack span None (Some cells) = ⊥
+
+pub record TellsTracks (span : Span) (curves : Followed) (tracks : Tracks) : Type 0 where
+  pub turn : TellsTrack span (Some curves.turn) (Some tracks.turn)
+  pub slack : TellsTrack span curves.slack tracks.slack
+  pub mark : TellsTrack span curves.mark tracks.mark
+
+-- the bytes are a certificate's text; its tracks tell every event of the curves that its own question follows and no other,
+-- and the answer lists what that question's prediction lists
+pub record IsTrueCertificate (book : Book) (table : List Offsets) (bytes : List ℕ) (zone : Zone) (answer : Answer) : Type 0 where
+  pub certificate : Certificate
+  pub site : Site
+  pub written : IsTextOf certificate bytes
+  pub asked : site_in Events book table certificate.station (asked_in certificate) ≡ Ok site
+  pub tracks : TellsTracks (widened_of site.basis certificate.begin certificate.end) (followed book site (asked_in certificate)) certificate.tracks
+  pub listing : AcceptsListing (predicted book table certificate.station (asked_in certificate) Plain zone) answer
+
+-- whatever is accepted, whoever wrote it, is true
+abbrev pub AcceptsOnlyWhatIsTrue : Type 0
+AcceptsOnlyWhatIsTrue = (book : Book) (table : List Offsets) (bytes : List ℕ) (zone : Zone) (answer : Answer) →
+    IsBook book → IsTable table → checked book table bytes zone ≡ Ok answer → answer.rejected ≡ false → IsTrueCertificate book table bytes zone answer

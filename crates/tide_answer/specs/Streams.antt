@@ -1,0 +1,57 @@
+-- Answers that are written as they are found (this project).
+use Rattle.std.specs.Prelude.{◌≡◌, ℕ, ◌<◌, Bool, true, false, ◌&&◌, if◌then◌else◌, List, ◌++◌, length, take, Some, None, Result, Ok, Err}
+use Rattle.decimal_text.specs.Expected.{◌>>=◌}
+use Rattle.harmonics_text.specs.declared.book.Book.{Book}
+use Rattle.question.specs.declared.command.Command.{Command}
+use Rattle.question.specs.declared.command.Command.TheVariants.{Predict, Certify}
+use Rattle.question.specs.declared.question.Layout.{Layout}
+use Rattle.question.specs.declared.question.Layout.TheVariants.{Plain, Csv}
+use Rattle.question.specs.declared.question.Question.{Question}
+use Rattle.station_table.specs.declared.basis.Basis.{Basis}
+use Rattle.station_table.specs.declared.offsets.Offsets.{Offsets}
+use Rattle.station_table.specs.Bases.{is_plain}
+use Rattle.tide_edge.specs.declared.writing.WriteFailed.{WriteFailed}
+use Rattle.zone_time.specs.declared.zone.Zone.{Zone}
+use Rattle.zone_time.specs.declared.zone.Zone.TheVariants as zones
+use Rattle.tide_answer.specs.declared.given.Given.{Given}
+use Rattle.tide_answer.specs.declared.reach.Reach.TheVariants.{Events}
+use Rattle.tide_answer.specs.declared.ready.Ready.{Ready}
+use Rattle.tide_answer.specs.declared.refusal.Refusal.{Refusal}
+use Rattle.tide_answer.specs.declared.text.Answer.{Answer}
+use Rattle.tide_answer.specs.Answers.{answered, named_by}
+use Rattle.tide_answer.specs.Asking.{asked_by}
+use Rattle.tide_answer.specs.Sites.{site_in}
+
+-- the commands whose answers can be written so
+abbrev pub can_stream : Command → Bool
+can_stream Predict = true
+can_stream Certify = true
+can_stream _ = false
+
+abbrev pub is_plain_layout : Layout → Bool
+is_plain_layout Plain = true
+is_plain_layout Csv = false
+
+abbrev pub is_zone_file : Zone → Bool
+is_zone_file (zones.File file) = true
+is_zone_file _ = false
+
+-- a station has the events of its reference as they are, in lines for the eye, by a clock without a file
+abbrev pub streams_by : Basis → Layout → Zone → Bool
+streams_by basis layout zone =
+    is_plain basis && (is_plain_layout layout && (if is_zone_file zone then false else true))
+
+-- the answer, where it streams, or the first refusal
+unfoldable pub prepared : Book → List Offsets → Question → Given → Result Ready Refusal
+prepared book table question given = do
+  answer ← answered book table question given
+  name ← named_by question.station
+  asked ← named_by (asked_by question)
+  site ← site_in Events book table name asked
+  Ok (record { stream = if streams_by site.basis question.layout given.zone then Some answer else None })
+
+-- the text of an answer was written whole, or its first bytes
+abbrev pub Streams : Type 0 → List ℕ → List ℕ → Answer → Result ℕ WriteFailed → Type 0
+Streams tells before after answer (Ok cells) = (cells ≡ answer.cells) × (tells → after ≡ before ++ answer.text)
+Streams tells before after answer (Err fault) =
+    (fault.sent < length answer.text) × (tells → after ≡ before ++ take fault.sent answer.text)

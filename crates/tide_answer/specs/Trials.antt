@@ -1,0 +1,117 @@
+-- A trial of the predictor over a sample file (this project).
+use Rattle.std.specs.Prelude.{ℕ, ◌+◌, ◌*◌, pos, List, [], ◌∷◌, ◌++◌, length, sum_by, take, codes, decimal, Option, Some, None, Result, Ok, Err}
+use Rattle.curve_law.specs.declared.cell.Cell.{Cell}
+use Rattle.curve_law.specs.declared.cell.Cell.TheVariants.{Quiet, Still, Turn}
+use Rattle.curve_law.specs.declared.event.Event.{Event}
+use Rattle.curve_law.specs.declared.tracks.Tracks.{Tracks}
+use Rattle.decimal_text.specs.Expected.{◌>>=◌}
+use Rattle.event_list.specs.declared.span.Span.{Span}
+use Rattle.event_list.specs.Events.{minutes_in, cells_in, tracks_of as tracks_in}
+use Rattle.event_list.specs.Shifts.{widened_of}
+use Rattle.harmonics_text.specs.declared.book.Book.{Book}
+use Rattle.harmonics_text.specs.declared.book.Station.{Station}
+use Rattle.harmonics_text.specs.Reading.{At, book_of}
+use Rattle.sample_tides.specs.File.{sample_of}
+use Rattle.tide_answer.specs.declared.asked.Asked.{Asked}
+use Rattle.tide_answer.specs.declared.reach.Reach.TheVariants.{Events}
+use Rattle.tide_answer.specs.declared.refusal.Refusal.{Refusal}
+use Rattle.tide_answer.specs.declared.refusal.Refusal.TheVariants.{BadSample}
+use Rattle.tide_answer.specs.declared.rejection.Rejection.{Rejection}
+use Rattle.tide_answer.specs.declared.tally.Tally.{Tally}
+use Rattle.tide_answer.specs.Following.{followed, events_of, tracks_of}
+use Rattle.tide_answer.specs.Rejections.{rejection_of}
+use Rattle.tide_answer.specs.Sites.{Site, site_in}
+
+-- from 2000-12-01T00:00Z to 2001-02-01T00:00Z, without a mark
+abbrev pub trial_span : Asked
+trial_span = record { begin = pos 16260480; end = pos 16349760; mark = None }
+
+-- ---- what is counted of a station
+
+abbrev pub quiet_one : Cell → ℕ
+quiet_one (Quiet minutes) = 1
+quiet_one Still = 0
+quiet_one (Turn kind level) = 0
+
+-- the Quiet cells of a track
+abbrev pub quiet_in : List Cell → ℕ
+quiet_in cells = sum_by quiet_one cells
+
+-- a certificate of which nothing is wrong is accepted
+abbrev pub accepted_if : Option Rejection → ℕ
+accepted_if None = 1
+accepted_if (Some rejection) = 0
+
+-- the tracks' lengths, each as long as the minutes that are looked at; the events; the cells, the Quiet ones among them;
+-- and whether the certificate of the tracks is accepted
+unfoldable pub tally_by : Span → Tracks → List Event → Option Rejection → Tally
+tally_by span tracks events rejection = record {
+  minutes = minutes_in span * length (tracks_in tracks);
+  events = length events;
+  cells = cells_in tracks;
+  quiet = sum_by quiet_in (tracks_in tracks);
+  accepted = accepted_if rejection;
+}
+
+unfoldable pub tally_at : Book → Site → Asked → Tally
+tally_at book site asked =
+    let span = widened_of site.basis asked.begin asked.end in
+    let tracks = tracks_of book site asked in
+    tally_by span tracks (events_of book site asked) (rejection_of (followed book site asked) span tracks)
+
+-- a station is predicted, certified and checked
+unfoldable pub station_tally : Book → List ℕ → Result Tally Refusal
+station_tally book name = do
+  site ← site_in Events book [] name trial_span
+  Ok (tally_at book site trial_span)
+
+-- ---- the sums over stations
+
+unfoldable pub plus : Tally → Tally → Tally
+plus sum one = record {
+  minutes = sum.minutes + one.minutes;
+  events = sum.events + one.events;
+  cells = sum.cells + one.cells;
+  quiet = sum.quiet + one.quiet;
+  accepted = sum.accepted + one.accepted;
+}
+
+abbrev pub nothing : Tally
+nothing = record { minutes = 0; events = 0; cells = 0; quiet = 0; accepted = 0 }
+
+-- one station after the other on a sum; a refusal at any of them ends it
+unfoldable pub tally_on : Book → Tally → List Station → Result Tally Refusal
+tally_on book sum [] = Ok sum
+tally_on book sum (station ∷ stations) = do
+  one ← station_tally book station.name
+  tally_on book (plus sum one) stations
+
+-- ---- the trial
+
+abbrev pub station_count : ℕ
+station_count = 40
+
+-- the file that was made has to be of the form
+abbrev pub book_from : Result Book At → Result Book Refusal
+book_from (Ok book) = Ok book
+book_from (Err fault) = Err (BadSample fault.line fault.why)
+
+abbrev pub number_line : List ℕ → ℕ → List ℕ
+number_line what number = what ++ codes " " ++ decimal number ++ codes "\n"
+
+unfoldable pub trial_text : ℕ → Tally → List ℕ
+trial_text seed sum =
+    number_line (codes "seed") seed
+    ++ number_line (codes "stations") station_count
+    ++ number_line (codes "minutes") sum.minutes
+    ++ number_line (codes "events") sum.events
+    ++ number_line (codes "cells") sum.cells
+    ++ number_line (codes "quiet") sum.quiet
+    ++ number_line (codes "accepted") sum.accepted
+
+-- the first stations of the file of a seed
+unfoldable pub trial_of : ℕ → Result (List ℕ) Refusal
+trial_of seed = do
+  book ← book_from (book_of (sample_of seed))
+  sum ← tally_on book nothing (take station_count book.stations)
+  Ok (trial_text seed sum)

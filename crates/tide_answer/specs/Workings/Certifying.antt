@@ -1,0 +1,60 @@
+-- The certificate that is written of tracks, and what is said of the tracks of one that is read.
+use Rattle.std.specs.Prelude.{ℕ, ◌<◌, ◌^◌, List, ◌++◌, codes, length, true, false, Option, Result, Ok}
+use Rattle.std.specs.Option.{ForSome}
+use Rattle.cert_text.specs.declared.certificate.Certificate.{Certificate}
+use Rattle.curve_law.specs.declared.event.Event.{Event}
+use Rattle.curve_law.specs.declared.tracks.Tracks.{Tracks}
+use Rattle.decimal_text.specs.Expected.{◌>>=◌}
+use Rattle.event_list.specs.Shifts.{widened_of}
+use Rattle.harmonics_text.specs.declared.book.Book.{Book}
+use Rattle.harmonics_text.specs.declared.book.Units.{Units}
+use Rattle.listing.specs.Listings.{plain_events_of}
+use Rattle.station_table.specs.declared.offsets.Offsets.{Offsets}
+use Rattle.zone_time.specs.declared.zone.Zone.{Zone}
+use Rattle.tide_answer.specs.declared.asked.Asked.{Asked}
+use Rattle.tide_answer.specs.declared.reach.Reach.TheVariants.{Events}
+use Rattle.tide_answer.specs.declared.refusal.Refusal.{Refusal}
+use Rattle.tide_answer.specs.declared.rejection.Rejection.{Rejection}
+use Rattle.tide_answer.specs.declared.station.Found.{Found}
+use Rattle.tide_answer.specs.declared.text.Answer.{Answer}
+use Rattle.tide_answer.specs.Answers.{judged, version_of}
+use Rattle.tide_answer.specs.Asking.{asked_in}
+use Rattle.tide_answer.specs.Following.{followed_by}
+use Rattle.tide_answer.specs.Rejections.{rejection_of, rejection_line}
+use Rattle.tide_answer.specs.Sites.{site_in}
+use Rattle.tide_answer.specs.Workings.Curves.{followed_tide}
+
+abbrev pub certificate_in : List ℕ → Asked → Tracks → Certificate
+certificate_in name asked tracks = record {
+  version = 2;
+  station = name;
+  begin = asked.begin;
+  end = asked.end;
+  mark = asked.mark;
+  tracks = tracks;
+}
+
+-- each track has fewer cells than a number tells
+pub record HasFewCells (tracks : Tracks) : Type 0 where
+  pub turn : length tracks.turn < 2 ^ 32
+  pub slack : ForSome tracks.slack (λ cells. length cells < 2 ^ 32)
+  pub mark : ForSome tracks.mark (λ cells. length cells < 2 ^ 32)
+
+-- what is wrong first by the tide that was found
+abbrev pub tide_rejection : Found → Certificate → Option Rejection
+tide_rejection found cert =
+    rejection_of (followed_tide (version_of cert) found cert.mark) (widened_of found.basis cert.begin cert.end) cert.tracks
+
+-- the answers where nothing is wrong, and where something is
+abbrev pub accepted : List ℕ → Units → List Event → Zone → Answer
+accepted name units events zone =
+    record { text = codes "Accepted\n" ++ plain_events_of name units events zone; rejected = false; cells = 0 }
+
+abbrev pub rejected : Rejection → Answer
+rejected rejection = record { text = rejection_line rejection; rejected = true; cells = 0 }
+
+-- the answer to a certificate that was read
+unfoldable pub judged_in : Book → List Offsets → Certificate → Zone → Result Answer Refusal
+judged_in book table cert zone = do
+  site ← site_in Events book table cert.station (asked_in cert)
+  Ok (judged book site cert zone (rejection_of (followed_by (version_of cert) book site cert.mark) (widened_of site.basis cert.begin cert.end) cert.tracks))

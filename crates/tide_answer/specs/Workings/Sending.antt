@@ -1,0 +1,19 @@
+-- What is written of a text, part after part.
+use Rattle.std.specs.Prelude.{◌≡◌, ℕ, ◌+◌, ◌-◌, ◌<◌, ◌≤◌, List, ◌++◌, length, take, Option, Some, None, Result, Ok, Err}
+use Rattle.interval_search.specs.Looking.{Looking}
+use Rattle.tide_edge.specs.declared.writing.WriteFailed.{WriteFailed}
+use Rattle.tide_answer.specs.declared.sending.Sent.{Sent}
+
+-- A part of a text and of its cells, after what was sent before. All of it was taken, or as many of its bytes as were sent
+-- when a write failed.
+abbrev pub Sends : Type 0 → List ℕ → List ℕ → Sent → List ℕ → ℕ → Result Sent WriteFailed → Type 0
+Sends tells before after sent text cells (Ok done) =
+    (done.bytes ≡ sent.bytes + length text) × (done.cells ≡ sent.cells + cells) × (tells → after ≡ before ++ text)
+Sends tells before after sent text cells (Err fault) =
+    (sent.bytes ≤ fault.sent) × (fault.sent < sent.bytes + length text)
+    × (tells → after ≡ before ++ take (fault.sent - sent.bytes) text)
+
+-- how many cells a search has left, where there is one
+abbrev pub left_count : {C : Type 0} → Option (Looking C) → ℕ
+left_count None = 0
+left_count (Some search) = length search.left

@@ -1,0 +1,66 @@
+-- What an answer that streams is made of.
+use Rattle.std.specs.Prelude.{ℕ, false, IsTrue, List, ◌++◌, All, IfSome, codes}
+use Rattle.cert_text.specs.Certificates.{IsCell, IsStationName}
+use Rattle.cert_text.specs.declared.track_name.TrackName.TheVariants.{Turn, Slack, Mark}
+use Rattle.cert_text.specs.Lines.{certificate_text, begin_line_of, end_line_of, mark_line_of, track_lines_of, lines_if_there, ended, joined}
+use Rattle.curve_law.specs.declared.tracks.Tracks.{Tracks}
+use Rattle.event_list.specs.Events.{covers_of}
+use Rattle.event_list.specs.Shifts.{widened_of}
+use Rattle.listing.specs.Listings.{plain_events_of}
+use Rattle.rate_bound.specs.declared.version.Version.TheVariants.{Second}
+use Rattle.question.specs.declared.command.Command.{Command}
+use Rattle.question.specs.declared.command.Command.TheVariants.{Certify}
+use Rattle.station_table.specs.Bases.{is_plain}
+use Rattle.zone_time.specs.declared.zone.Zone.{Zone}
+use Rattle.zone_time.specs.Zones.{IsZone}
+use Rattle.tide_answer.specs.declared.asked.Asked.{Asked}
+use Rattle.tide_answer.specs.declared.form.Form.{Form}
+use Rattle.tide_answer.specs.declared.form.Form.TheVariants.{Listing, Certificate}
+use Rattle.tide_answer.specs.declared.station.Found.{Found}
+use Rattle.tide_answer.specs.declared.text.Answer.{Answer}
+use Rattle.tide_answer.specs.Workings.Certifying.{certificate_in}
+use Rattle.tide_answer.specs.Workings.Curves.{followed_tide, tide_cells, tide_events, IsReady}
+use Rattle.tide_answer.specs.Workings.Spans.{AreMoments, IsNear}
+
+abbrev pub tide_tracks : Found → Asked → Tracks
+tide_tracks found asked =
+    covers_of (followed_tide Second found asked.mark) (widened_of found.basis asked.begin asked.end)
+
+abbrev pub stream_text : Form → Found → List ℕ → Asked → Zone → List ℕ
+stream_text Listing found name asked zone = plain_events_of name found.units (tide_events found asked) zone
+stream_text Certificate found name asked zone = certificate_text (certificate_in name asked (tide_tracks found asked))
+
+-- the answer by a station's own tide
+abbrev pub stream_answer : Form → Found → List ℕ → Asked → Zone → Answer
+stream_answer form found name asked zone =
+    record { text = stream_text form found name asked zone; rejected = false; cells = tide_cells found asked }
+
+abbrev pub form_of : Command → Form
+form_of Certify = Certificate
+form_of _ = Listing
+
+-- what it takes to write it
+pub record IsStream (found : Found) (name : List ℕ) (asked : Asked) (zone : Zone) : Type 0 where
+  pub ready : IsReady asked found
+  pub near : IsNear asked
+  pub moments : AreMoments asked
+  pub named : IsStationName name
+  pub clock : IsZone zone
+  pub plain : IsTrue (is_plain found.basis)
+
+-- ---- the parts of a certificate
+
+abbrev pub head_text : List ℕ → Asked → List ℕ
+head_text name asked =
+    codes "tide certificate 2\nstation " ++ name ++ codes "\n"
+    ++ (ended (begin_line_of asked.begin) ++ ended (end_line_of asked.end) ++ ended (mark_line_of asked.mark))
+
+abbrev pub tracks_text : Tracks → List ℕ
+tracks_text tracks =
+    joined (track_lines_of Turn tracks.turn) ++ joined (lines_if_there Slack tracks.slack) ++ joined (lines_if_there Mark tracks.mark)
+
+-- cells that have lines
+pub record HasCells (tracks : Tracks) : Type 0 where
+  pub turn : All IsCell tracks.turn
+  pub slack : IfSome tracks.slack (All IsCell)
+  pub mark : IfSome tracks.mark (All IsCell)

@@ -1,0 +1,10 @@
+-- How large what a trial counts can be.
+use Rattle.std.specs.Prelude.{ℕ, ◌≤◌}
+use Rattle.tide_answer.specs.declared.tally.Tally.{Tally}
+
+pub record IsUpTo (most : ℕ) (tally : Tally) : Type 0 where
+  pub minutes : tally.minutes ≤ most
+  pub events : tally.events ≤ most
+  pub cells : tally.cells ≤ most
+  pub quiet : tally.quiet ≤ most
+  pub accepted : tally.accepted ≤ most

@@ -1,0 +1,26 @@
+-- A curve that was asked for no value, and the curves of a current's slack water and of a mark.
+use Rattle.std.specs.Prelude.{◌≡◌, ℕ, ℤ, pos, ◌≤ℤ◌, true, false, Option, option_map}
+use Rattle.curve_law.specs.Meaning.{Meaning}
+use Rattle.event_list.specs.declared.span.Span.{Span}
+use Rattle.rate_bound.specs.declared.version.Version.{Version}
+use Rattle.rate_bound.specs.Meanings.{mark_meaning}
+use Rattle.tide_answer.specs.declared.station.Found.{Found}
+use Rattle.tide_answer.specs.Following.{asks_slack, slack_times, slack_plus, if_asked}
+
+-- it tells the minutes of a span
+pub record Tells (span : Span) (curve : Meaning) (count : ℕ) : Type 0 where
+  pub forward : span.begin ≤ℤ span.end
+  pub first : curve.first ≤ℤ span.begin
+  pub last : span.end ≤ℤ curve.last
+  pub fresh : count ≡ 0
+
+-- slack water, where it is asked
+abbrev pub tide_slack : Version → Found → Option Meaning
+tide_slack version found =
+    if_asked (asks_slack found.units found.basis)
+    (mark_meaning version found.curve (slack_times found.basis) (slack_plus found.basis) (pos 0) true)
+
+-- the mark, where there is one
+abbrev pub tide_mark : Version → Found → Option ℤ → Option Meaning
+tide_mark version found mark =
+    option_map (λ level. mark_meaning version found.curve found.basis.high.times found.basis.high.plus level false) mark

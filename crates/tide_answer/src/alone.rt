@@ -1,0 +1,45 @@
+//! The answer to a question that names no file.
+
+ghost use Rattle.std.specs.Prelude.{[], Some, IfErr};
+ghost use Rattle.decimal_text.specs.Expected.{Gives};
+ghost use Rattle.question.specs.Asked.{IsAsked};
+ghost use Rattle.question.specs.declared.command.Command.{Command};
+ghost use Rattle.tide_answer.specs.Answers.{answered_alone, text_from};
+ghost use Rattle.tide_answer.specs.Faults.{wants_memory_of_refusal, IsToldRefusal};
+
+use crate::refusal::Refusal;
+use crate::sample::give_sample;
+use crate::text::Answer;
+use crate::trial::try_sample;
+use question::{Command, Question};
+use std::alloc::Global;
+
+/// The answer to a question whose command reads no file, or the first refusal in their order.
+///
+/// # Errors
+/// Each [`Refusal`] exactly where `specs/Answers.antt` has it; [`Refusal::NoMemory`] says nothing
+/// of the question.
+#[tactic(auto, unfolding(crate::specs::Answers::answered_alone))]
+pub fn answer_alone(alloc: Global, question: &Question) -> Result<Answer, Refusal>
+    requires { IsAsked question.now }
+    ensures exact { Gives wants_memory_of_refusal (answered_alone question.now) result }
+    ensures told { IfErr result (IsToldRefusal []) }
+{
+    match (question.command, question.seed) {
+        (Command::Sample, Some(seed)) => Ok(give_sample(alloc, seed)?),
+        (Command::Trial, Some(seed)) => give_trial(alloc, seed),
+        _ => Err(Refusal::NotBuilt),
+    }
+}
+
+// The lines of a seed's trial.
+fn give_trial(alloc: Global, seed: u64) -> Result<Answer, Refusal>
+    ensures exact { Gives wants_memory_of_refusal (text_from Command.Trial (Some seed)) result }
+    ensures told { IfErr result (IsToldRefusal []) }
+{
+    Ok(Answer {
+        text: try_sample(alloc, seed)?,
+        rejected: false,
+        cells: 0,
+    })
+}

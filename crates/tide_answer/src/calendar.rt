@@ -1,0 +1,54 @@
+//! The events of a station day by day.
+
+ghost use Rattle.std.specs.Prelude.{IfErr};
+ghost use Rattle.decimal_text.specs.Expected.{Gives};
+ghost use Rattle.harmonics_text.specs.Books.{IsBook};
+ghost use Rattle.station_table.specs.Offsets.{IsTable};
+ghost use Rattle.tide_answer.specs.Answers.{on_calendar};
+ghost use Rattle.tide_answer.specs.Faults.{wants_memory_of_refusal, IsToldRefusal};
+ghost use Rattle.tide_answer.specs.Workings.Spans.{IsNear};
+ghost use Rattle.zone_time.specs.Zones.{IsZone};
+
+use crate::asked::Asked;
+use crate::following::list_station;
+use crate::refusal::Refusal;
+use crate::text::Answer;
+use calendar_sheet::calendar_text;
+use decimal_text::Text;
+use harmonics_text::Book;
+use station_table::OffsetTable;
+use std::alloc::Global;
+use zone_time::Zone;
+
+/// The calendar of a station's events in a span, or the first refusal, as for a prediction.
+pub fn list_days(
+    alloc: Global,
+    book: &Book,
+    table: &OffsetTable,
+    name: &Text,
+    asked: &Asked,
+    zone: &Zone,
+) -> Result<Answer, Refusal>
+    requires book { IsBook book.now }
+    requires table { IsTable table.now }
+    requires near { IsNear asked.now }
+    requires zone { IsZone zone.now }
+    ensures exact { Gives wants_memory_of_refusal (on_calendar book.now table.now name.now asked.now zone.now) result }
+    ensures told { IfErr result (IsToldRefusal table.now) }
+{
+    let listed = list_station(alloc, book, table, name, asked)?;
+    let text = calendar_text(
+        alloc,
+        name,
+        listed.units,
+        &listed.events,
+        zone,
+        asked.begin,
+        asked.end,
+    )?;
+    Ok(Answer {
+        text,
+        rejected: false,
+        cells: listed.cells,
+    })
+}

@@ -1,0 +1,69 @@
+//! The certificate of a station's events.
+
+ghost use Rattle.std.specs.Prelude.{◌≡◌, ◌<◌, ◌^◌, IfOk, IfErr};
+ghost use Rattle.cert_text.specs.Certificates.{IsStationName};
+ghost use Rattle.cert_text.specs.Lines.{certificate_text};
+ghost use Rattle.decimal_text.specs.Expected.{Gives};
+ghost use Rattle.harmonics_text.specs.Books.{IsBook};
+ghost use Rattle.station_table.specs.Offsets.{IsTable};
+ghost use Rattle.tide_answer.specs.Answers.{certified};
+ghost use Rattle.tide_answer.specs.Faults.{wants_memory_of_refusal, IsToldRefusal};
+ghost use Rattle.tide_answer.specs.Workings.Certifying.{certificate_in};
+ghost use Rattle.tide_answer.specs.Workings.Spans.{IsNear};
+ghost use Rattle.zone_time.specs.Moments.{IsMoment};
+
+use crate::asked::Asked;
+use crate::reach::Reach;
+use crate::refusal::Refusal;
+use crate::station::find_station;
+use crate::text::Answer;
+use crate::tracks::{cell_count, find_tracks};
+use cert_text::{Certificate, write_certificate};
+use curve_law::Tracks;
+use decimal_text::{Bytes, Text};
+use harmonics_text::Book;
+use station_table::OffsetTable;
+use std::alloc::{AllocError, Global};
+
+/// The certificate of a station's events in a span, with the rates of version 2, or the first refusal:
+/// the station, its unit, the span, the limits, the mark.
+pub fn certify(
+    alloc: Global,
+    book: &Book,
+    table: &OffsetTable,
+    name: &Text,
+    asked: &Asked,
+) -> Result<Answer, Refusal>
+    requires book { IsBook book.now }
+    requires table { IsTable table.now }
+    requires near { IsNear asked.now }
+    requires begin { IsMoment asked.now.begin }
+    requires end { IsMoment asked.now.end }
+    ensures exact { Gives wants_memory_of_refusal (certified book.now table.now name.now asked.now) result }
+    ensures told { IfErr result (IsToldRefusal table.now) }
+{
+    let found = find_station(alloc, book, table, Reach::Events, name, asked)?;
+    let tracks = find_tracks(alloc, &found, asked)?;
+    let cells = cell_count(&tracks);
+    let cert = certificate_of(name.copy()?, asked, tracks);
+    let text = write_certificate(alloc, &cert)?;
+    Ok(Answer {
+        text,
+        rejected: false,
+        cells,
+    })
+}
+
+// The certificate of the second version.
+pub fn certificate_of(station: Text, asked: &Asked, tracks: Tracks) -> Certificate
+    ensures { result ≡ certificate_in station asked.now tracks }
+{
+    Certificate {
+        version: 2,
+        station,
+        begin: asked.begin,
+        end: asked.end,
+        mark: asked.mark,
+        tracks,
+    }
+}

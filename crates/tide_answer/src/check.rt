@@ -1,0 +1,152 @@
+//! The check of a certificate.
+
+ghost use Rattle.std.specs.Prelude.{◌≡◌, ◌≤◌, ◌<◌, ◌^◌, ◌++◌, codes, length, None, All, IfOk, IfErr};
+ghost use Rattle.cert_text.specs.Certificates.{IsCertificate};
+ghost use Rattle.decimal_text.specs.Expected.{Gives};
+ghost use Rattle.harmonics_text.specs.Books.{IsBook};
+ghost use Rattle.listing.specs.Listings.{plain_events_of};
+ghost use Rattle.station_table.specs.Offsets.{IsTable};
+ghost use Rattle.tide_answer.specs.Answers.{checked};
+ghost use Rattle.tide_answer.specs.Asking.{asked_in};
+ghost use Rattle.tide_answer.specs.Faults.{wants_memory_of_refusal, IsToldRefusal};
+ghost use Rattle.tide_answer.specs.Workings.Certifying.{accepted, rejected, judged_in, tide_rejection, HasFewCells};
+ghost use Rattle.tide_answer.specs.Workings.Curves.{tide_events, IsReady};
+ghost use Rattle.tide_answer.specs.Workings.Spans.{IsNear};
+ghost use Rattle.zone_time.specs.Zones.{IsZone};
+
+use crate::asked::Asked;
+use crate::judging::find_rejection;
+use crate::reach::Reach;
+use crate::refusal::Refusal;
+use crate::rejection::{Rejection, rejection_line};
+use crate::station::{Found, find_station, reached};
+use crate::text::Answer;
+use cert_text::{Certificate, certificates_have_one_text, read_certificate};
+use curve_law::Events;
+use decimal_text::Bytes;
+use event_list::{merged, shifted};
+use harmonics_text::Book;
+use listing::plain_events;
+use station_table::OffsetTable;
+use std::alloc::{AllocError, Global};
+use zone_time::Zone;
+
+/// Whether a certificate is valid: `Accepted` and the events of its own question in the zone's local
+/// time, or the line of the first thing that is wrong with its tracks. Or the first refusal: the bytes,
+/// and then those of its question, as for a prediction.
+#[tactic(auto, unfolding(crate::specs::Answers::checked))]
+pub fn check(
+    alloc: Global,
+    book: &Book,
+    table: &OffsetTable,
+    bytes: &Bytes,
+    zone: &Zone,
+) -> Result<Answer, Refusal>
+    requires book { IsBook book.now }
+    requires table { IsTable table.now }
+    requires zone { IsZone zone.now }
+    requires few { length bytes.now ≤ 400000000 }
+    ensures exact { Gives wants_memory_of_refusal (checked book.now table.now bytes.now zone.now) result }
+    ensures told { IfErr result (IsToldRefusal table.now) }
+{
+    let cert = read_certificate(alloc, bytes.as_slice())?;
+    certificates_have_one_text();
+    judge(alloc, book, table, &cert, zone)
+}
+
+fn judge(
+    alloc: Global,
+    book: &Book,
+    table: &OffsetTable,
+    cert: &Certificate,
+    zone: &Zone,
+) -> Result<Answer, Refusal>
+    requires book { IsBook book.now }
+    requires table { IsTable table.now }
+    requires zone { IsZone zone.now }
+    requires cert { IsCertificate cert.now }
+    requires few { HasFewCells cert.now.tracks }
+    ensures exact { Gives wants_memory_of_refusal (judged_in book.now table.now cert.now zone.now) result }
+    ensures told { IfErr result (IsToldRefusal table.now) }
+{
+    let asked = asked_in(cert);
+    let found = find_station(alloc, book, table, Reach::Events, &cert.station, &asked)?;
+    match find_rejection(&found, &asked, cert) {
+        None => Ok(accept(alloc, &found, &asked, cert, zone)?),
+        Some(rejection) => Ok(reject(alloc, rejection)?),
+    }
+}
+
+/// What a certificate speaks of.
+fn asked_in(cert: &Certificate) -> Asked
+    ensures { result ≡ asked_in cert.now }
+{
+    Asked {
+        begin: cert.begin,
+        end: cert.end,
+        mark: cert.mark,
+    }
+}
+
+fn reject(alloc: Global, rejection: Rejection) -> Result<Answer, AllocError>
+    ensures { IfOk result (λ answer. answer ≡ rejected rejection) }
+{
+    Ok(Answer {
+        text: rejection_line(alloc, rejection)?,
+        rejected: true,
+        cells: 0,
+    })
+}
+
+// The events that the cells of a valid certificate have, which are those that its question has.
+fn accept(
+    alloc: Global,
+    found: &Found,
+    asked: &Asked,
+    cert: &Certificate,
+    zone: &Zone,
+) -> Result<Answer, AllocError>
+    requires ready { IsReady asked.now found.now }
+    requires near { IsNear asked.now }
+    requires same { asked.now ≡ asked_in cert.now }
+    requires cert { IsCertificate cert.now }
+    requires zone { IsZone zone.now }
+    requires valid { tide_rejection found.now cert.now ≡ None }
+    ensures { IfOk result (λ answer. answer
+        ≡ accepted cert.now.station found.now.units (tide_events found.now asked.now) zone.now) }
+{
+    let events = events_of(alloc, found, asked, cert)?;
+    let list = plain_events(alloc, &cert.station, found.units, &events, zone)?;
+    Ok(Answer {
+        text: accepted_text(alloc, &list)?,
+        rejected: false,
+        cells: 0,
+    })
+}
+
+fn accepted_text(alloc: Global, list: &Bytes) -> Result<Bytes, AllocError>
+    ensures { IfOk result (λ text. text ≡ codes "Accepted\n" ++ list.now) }
+{
+    let mut text = Vec::new(alloc);
+    text.extend_from_slice(b"Accepted\n")?;
+    text.extend_from_slice(list.as_slice())?;
+    Ok(Bytes::from_vec(text))
+}
+
+fn events_of(
+    alloc: Global,
+    found: &Found,
+    asked: &Asked,
+    cert: &Certificate,
+) -> Result<Events, AllocError>
+    requires ready { IsReady asked.now found.now }
+    requires near { IsNear asked.now }
+    requires same { asked.now ≡ asked_in cert.now }
+    requires cert { IsCertificate cert.now }
+    requires valid { tide_rejection found.now cert.now ≡ None }
+    ensures { IfOk result (λ events. events ≡ tide_events found.now asked.now) }
+{
+    let span = reached(Reach::Events, &found.basis, asked);
+    let events = merged(alloc, &cert.tracks, span.begin)?;
+    shifted(alloc, &events, &found.basis, asked.begin, asked.end)
+}

@@ -1,0 +1,84 @@
+//! The level of a station at the present minute, and the events of the day to come.
+
+ghost use Rattle.std.specs.Prelude.{◌≡◌, pos, negsuc, ◌≤ℤ◌, IfErr};
+ghost use Rattle.decimal_text.specs.Expected.{Gives};
+ghost use Rattle.harmonics_text.specs.Books.{IsBook};
+ghost use Rattle.station_table.specs.Offsets.{IsTable};
+ghost use Rattle.tide_answer.specs.Answers.{on_clock};
+ghost use Rattle.tide_answer.specs.Asking.{asked_from};
+ghost use Rattle.tide_answer.specs.Faults.{wants_memory_of_refusal, IsToldRefusal};
+ghost use Rattle.tide_answer.specs.Workings.Spans.{IsNear};
+ghost use Rattle.zone_time.specs.Zones.{IsZone};
+
+use crate::asked::Asked;
+use crate::following::find_events;
+use crate::levels::{check_level, is_rising, level_at};
+use crate::reach::Reach;
+use crate::refusal::Refusal;
+use crate::station::find_station;
+use crate::text::Answer;
+use decimal_text::Text;
+use harmonics_text::Book;
+use listing::clock_text;
+use station_table::OffsetTable;
+use std::alloc::Global;
+use zone_time::Zone;
+
+/// The minutes of a day.
+const DAY: i64 = 1440;
+
+/// What a station's clock shows at a minute: the level, whether it rises, and the events of the day
+/// from there on, or the first refusal. The minute is from -10,000,000,000 to 10,000,000,000.
+#[tactic(auto, unfolding(crate::specs::Answers::on_clock))]
+pub fn tell_now(
+    alloc: Global,
+    book: &Book,
+    table: &OffsetTable,
+    name: &Text,
+    now: i64,
+    zone: &Zone,
+) -> Result<Answer, Refusal>
+    requires book { IsBook book.now }
+    requires table { IsTable table.now }
+    requires earliest { negsuc 9999999999 ≤ℤ now }
+    requires latest { now ≤ℤ pos 10000000000 }
+    requires zone { IsZone zone.now }
+    ensures exact { Gives wants_memory_of_refusal (on_clock book.now table.now name.now now zone.now) result }
+    ensures told { IfErr result (IsToldRefusal table.now) }
+{
+    let asked = day_from(now);
+    let found = find_station(alloc, book, table, Reach::Events, name, &asked)?;
+    check_level(&found.basis)?;
+    let level = level_at(&found, now);
+    let rising = is_rising(&found, now);
+    let listed = find_events(alloc, &found, &asked)?;
+    let text = clock_text(
+        alloc,
+        name,
+        found.units,
+        now,
+        level,
+        rising,
+        &listed.events,
+        zone,
+    )?;
+    Ok(Answer {
+        text,
+        rejected: false,
+        cells: listed.cells,
+    })
+}
+
+// The day from a minute on.
+fn day_from(now: i64) -> Asked
+    requires earliest { negsuc 9999999999 ≤ℤ now }
+    requires latest { now ≤ℤ pos 10000000000 }
+    ensures exact { result ≡ asked_from now }
+    ensures near { IsNear result }
+{
+    Asked {
+        begin: now,
+        end: now + DAY,
+        mark: None,
+    }
+}

@@ -1,0 +1,172 @@
+//! The levels of a station in a span, one each step.
+
+ghost use Rattle.std.specs.Prelude.{◌≡◌, ◌≤◌, ◌+ℤ◌, ◌*ℤ◌, ◌-ℤ◌, pos, negsuc, [], All, unsigned_abs, Ok, Err, IfOk, IfErr, OnOk};
+ghost use Rattle.decimal_text.specs.Expected.{Gives};
+ghost use Rattle.harmonics_text.specs.Books.{IsBook};
+ghost use Rattle.station_table.specs.Offsets.{IsTable};
+ghost use Rattle.tide_answer.specs.Answers.{heights, heights_text, row_count, row_limit, rows_in};
+ghost use Rattle.tide_answer.specs.Faults.{wants_memory_of_refusal, IsToldRefusal};
+ghost use Rattle.tide_answer.specs.Workings.Levels.{HasLevel, HasLevelsIn, IsStep, tide_row, tide_rows};
+ghost use Rattle.tide_answer.specs.Workings.Spans.{IsNear};
+ghost use Rattle.zone_time.specs.Zones.{IsZone, InZoneYears};
+
+use crate::asked::Asked;
+use crate::levels::{check_level, level_at};
+use crate::reach::Reach;
+use crate::refusal::Refusal;
+use crate::station::{Found, find_station};
+use crate::text::Answer;
+use decimal_text::{Bytes, Text};
+use harmonics_text::{Book, Units};
+use listing::{Row, Rows, csv_heights, plain_heights};
+use question::Layout;
+use station_table::OffsetTable;
+use std::alloc::{AllocError, Global};
+use zone_time::Zone;
+
+/// The most rows of a list.
+const ROW_LIMIT: u64 = 100_000;
+
+/// The levels of a station from the begin of the span up to its end, which is one of them where the
+/// steps lead there, or the first refusal. A step is of 1 to 44,640 minutes.
+#[tactic(auto, unfolding(crate::specs::Answers::heights))]
+pub fn list_heights(
+    alloc: Global,
+    book: &Book,
+    table: &OffsetTable,
+    name: &Text,
+    asked: &Asked,
+    step: i64,
+    layout: Layout,
+    zone: &Zone,
+) -> Result<Answer, Refusal>
+    requires book { IsBook book.now }
+    requires table { IsTable table.now }
+    requires near { IsNear asked.now }
+    requires step { IsStep step }
+    requires zone { IsZone zone.now }
+    ensures exact { Gives wants_memory_of_refusal (heights book.now table.now name.now asked.now step layout zone.now) result }
+    ensures told { IfErr result (IsToldRefusal table.now) }
+{
+    let found = find_station(alloc, book, table, Reach::Levels, name, asked)?;
+    check_level(&found.basis)?;
+    check_rows(asked, step)?;
+    let rows = rows_of(alloc, &found, asked, step)?;
+    let text = heights_text(alloc, layout, name, found.units, &rows, zone)?;
+    Ok(Answer {
+        text,
+        rejected: false,
+        cells: 0,
+    })
+}
+
+#[tactic(auto, unfolding(crate::specs::Answers::rows_in))]
+fn check_rows(asked: &Asked, step: i64) -> Result<(), Refusal>
+    requires near { IsNear asked.now }
+    requires step { IsStep step }
+    ensures exact { Gives wants_memory_of_refusal (rows_in asked.now.begin asked.now.end step) result }
+    ensures few { OnOk result (row_count asked.now.begin asked.now.end step ≤ row_limit) }
+    ensures told { IfErr result (IsToldRefusal []) }
+{
+    let rows = row_count(asked, step);
+    if rows > ROW_LIMIT {
+        return Err(Refusal::TooManyRows { rows: rows as i64 });
+    }
+    Ok(())
+}
+
+fn row_count(asked: &Asked, step: i64) -> u64
+    requires near { IsNear asked.now }
+    requires step { IsStep step }
+    ensures exact { result ≡ row_count asked.now.begin asked.now.end step }
+    ensures few { result ≤ 40000000001 }
+{
+    minutes_in(asked) / step.unsigned_abs() + 1
+}
+
+fn minutes_in(asked: &Asked) -> u64
+    requires { IsNear asked.now }
+    ensures exact { result ≡ unsigned_abs (asked.now.end -ℤ asked.now.begin) }
+    ensures few { result ≤ 40000000000 }
+{
+    (asked.end - asked.begin).unsigned_abs()
+}
+
+fn rows_of(alloc: Global, found: &Found, asked: &Asked, step: i64) -> Result<Rows, AllocError>
+    requires near { IsNear asked.now }
+    requires step { IsStep step }
+    requires levels { HasLevelsIn found.now asked.now }
+    requires few { row_count asked.now.begin asked.now.end step ≤ row_limit }
+    ensures exact { IfOk result (λ rows. rows ≡ tide_rows found.now asked.now.begin asked.now.end step) }
+    ensures listed { IfOk result (λ rows. All (λ row. InZoneYears row.minute) rows) }
+{
+    let mut rows = Vec::new(alloc);
+    for place in 0..row_count(asked, step) {
+        rows.push(row_at(found, asked.begin, step, place))?;
+    }
+    Ok(Rows::from_vec(rows))
+}
+
+fn row_at(found: &Found, begin: i64, step: i64, place: u64) -> Row
+    requires begin { unsigned_abs begin ≤ 20000000000 }
+    requires step { IsStep step }
+    requires place { place ≤ row_limit }
+    requires level { HasLevel found.now (begin +ℤ (step *ℤ pos place)) }
+    ensures { result ≡ tide_row found.now begin step place }
+{
+    let minute = minute_at(begin, step, place);
+    Row {
+        minute,
+        level: level_at(found, minute),
+    }
+}
+
+fn minute_at(begin: i64, step: i64, place: u64) -> i64
+    requires begin { unsigned_abs begin ≤ 20000000000 }
+    requires step { IsStep step }
+    requires place { place ≤ row_limit }
+    ensures { result ≡ begin +ℤ (step *ℤ pos place) }
+{
+    begin + minutes_to(step, place)
+}
+
+fn minutes_to(step: i64, place: u64) -> i64
+    requires step { IsStep step }
+    requires place { place ≤ row_limit }
+    ensures exact { result ≡ step *ℤ pos place }
+    ensures few { unsigned_abs result ≤ 4464000000 }
+{
+    step * place as i64
+}
+
+fn heights_text(
+    alloc: Global,
+    layout: Layout,
+    name: &Text,
+    units: Units,
+    rows: &Rows,
+    zone: &Zone,
+) -> Result<Bytes, AllocError>
+    requires zone { IsZone zone.now }
+    requires listed { All (λ row. InZoneYears row.minute) rows.now }
+    ensures { IfOk result (λ text. text ≡ heights_text layout name.now units rows.now zone.now) }
+{
+    match layout {
+        Layout::Plain => plain_heights(alloc, name, units, rows, zone),
+        Layout::Csv => csv_heights(alloc, name, units, rows, zone),
+    }
+}
+
+/// How many rows some spans have: the end has one where the steps lead there.
+#[tactic(auto, unfolding(crate::specs::Answers::rows_in))]
+pub fn worked_rows()
+    ensures empty_span { row_count (pos 0) (pos 0) (pos 60) ≡ 1 }
+    ensures before_step { row_count (pos 0) (pos 59) (pos 60) ≡ 1 }
+    ensures with_end { row_count (pos 0) (pos 60) (pos 60) ≡ 2 }
+    ensures day { row_count (pos 15791040) (pos 15792480) (pos 360) ≡ 5 }
+    ensures across_epoch { row_count (negsuc 59) (pos 60) (pos 60) ≡ 3 }
+    ensures longest_step { row_count (pos 0) (pos 44639) (pos 44640) ≡ 1 }
+    ensures most { rows_in (pos 0) (pos 99999) (pos 1) ≡ Ok tt }
+    ensures one_more { rows_in (pos 0) (pos 100000) (pos 1) ≡ Err (Refusal.TooManyRows (pos 100001)) }
+    ensures by_two { rows_in (negsuc 99999) (pos 99999) (pos 2) ≡ Ok tt }
+{}

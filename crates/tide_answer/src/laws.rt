@@ -1,0 +1,21 @@
+//! What certificates come to.
+
+ghost use Rattle.tide_answer.specs.Laws.{AcceptsWhatIsCertified, AcceptsOnlyWhatIsTrue};
+
+use cert_text::{certificates_have_one_text, readings_go_by_the_grammar};
+
+/// What is certified is accepted, with the listing of its own question's prediction.
+pub fn certified_is_accepted()
+    ensures { AcceptsWhatIsCertified }
+{
+    readings_go_by_the_grammar();
+}
+
+/// What is accepted is true, whoever wrote it: its tracks tell every event of its own question's
+/// curves and no other, and the answer lists what that question's prediction lists.
+pub fn accepted_is_true()
+    ensures { AcceptsOnlyWhatIsTrue }
+{
+    certificates_have_one_text();
+    readings_go_by_the_grammar();
+}

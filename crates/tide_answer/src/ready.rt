@@ -1,0 +1,116 @@
+//! An answer that is ready to be written.
+
+ghost use Rattle.std.specs.Prelude.{◌≡◌, if◌then◌else◌, Some, None, IsSome, IsTrue, IfErr, is_err, is_some};
+ghost use Rattle.std.specs.Option.{ForSome};
+ghost use Rattle.decimal_text.specs.Expected.{Gives};
+ghost use Rattle.harmonics_text.specs.Books.{IsBook};
+ghost use Rattle.question.specs.Asked.{IsAsked};
+ghost use Rattle.station_table.specs.Offsets.{IsTable};
+ghost use Rattle.tide_answer.specs.Faults.{wants_memory_of_refusal, IsToldRefusal};
+ghost use Rattle.tide_answer.specs.Givens.{IsGiven};
+ghost use Rattle.tide_answer.specs.Streams.{can_stream, prepared, streams_by, Streams};
+ghost use Rattle.tide_answer.specs.Workings.Streaming.{form_of};
+ghost use Rattle.tide_edge.specs.Faults.{faults_after};
+
+use crate::asking::{span_named, station_named};
+use crate::form::Form;
+use crate::given::Given;
+use crate::reach::Reach;
+use crate::refusal::Refusal;
+use crate::station::find_station;
+use crate::streaming::Stream;
+use harmonics_text::Book;
+use question::{Command, Layout, Question};
+use station_table::{Basis, OffsetTable};
+use std::alloc::Global;
+use tide_edge::{Sink, WriteFailed};
+use zone_time::Zone;
+
+/// What the answer to a question is written from, where it streams.
+#[derive(Drop)]
+pub struct Ready {
+    stream: Option<Stream>,
+}
+
+impl Ready {
+    /// Whether the answer streams: the station has the events of its reference as they are, in plain
+    /// lines, and the zone isn't a file.
+    pub fn streams(&self) -> bool
+        ensures { result ≡ is_some self.now.stream }
+    {
+        self.stream.is_some()
+    }
+}
+
+/// Finds what the answer to a prediction or a certificate's question is written from, or the first
+/// refusal, as [`answer`](crate::answer) has it.
+#[tactic(auto, unfolding(crate::specs::Streams::prepared))]
+pub fn prepare(
+    alloc: Global,
+    book: &Book,
+    table: &OffsetTable,
+    question: &Question,
+    given: &Given,
+) -> Result<Ready, Refusal>
+    requires book { IsBook book.now }
+    requires table { IsTable table.now }
+    requires asked { IsAsked question.now }
+    requires given { IsGiven given.now }
+    requires command { IsTrue (can_stream question.now.command) }
+    ensures exact { Gives wants_memory_of_refusal (prepared book.now table.now question.now given.entry.now) result }
+    ensures told { IfErr result (IsToldRefusal table.now) }
+{
+    let name = station_named(question)?;
+    let asked = span_named(question)?;
+    let found = find_station(alloc, book, table, Reach::Events, name, &asked)?;
+    match streamed_zone(&found.basis, question.layout, &given.zone) {
+        Some(zone) => {
+            let form = form_of(question.command);
+            let stream = Stream::new(form, found, name.copy()?, asked, zone);
+            Ok(Ready {
+                stream: Some(stream),
+            })
+        }
+        None => Ok(Ready { stream: None }),
+    }
+}
+
+/// Writes the text of an answer that streams, and answers the number of its cells. It takes no memory.
+///
+/// # Errors
+/// [`WriteFailed`] where a write failed: exactly the first `sent` bytes were taken, and nothing was
+/// written after that.
+pub fn answer_into<S: Sink>(ready: &Ready, out: &mut S) -> Result<u64, WriteFailed>
+    requires { IsSome ready.now.stream }
+    ensures streams { ForSome ready.now.stream (λ answer. Streams (S.tells out.old) (S.taken out.old) (S.taken out.new) answer result) }
+    ensures still_tells { S.tells out.old → S.tells out.new }
+    ensures counts { S.faults out.new ≡ faults_after (is_err result) (S.faults out.old) }
+{
+    match &ready.stream {
+        Some(stream) => stream.write(out),
+        None => unreachable!(),
+    }
+}
+
+fn form_of(command: Command) -> Form
+    ensures { result ≡ form_of command }
+{
+    match command {
+        Command::Certify => Form::Certificate,
+        _ => Form::Listing,
+    }
+}
+
+// The zone, where an answer streams.
+fn streamed_zone(basis: &Basis, layout: Layout, zone: &Zone) -> Option<Zone>
+    ensures { result ≡ (if streams_by basis.now layout zone.now then Some zone.now else None) }
+{
+    if !basis.plain() || layout != Layout::Plain {
+        return None;
+    }
+    match zone {
+        Zone::Utc => Some(Zone::Utc),
+        Zone::Fixed(ahead) => Some(Zone::Fixed(*ahead)),
+        Zone::File(_) => None,
+    }
+}

@@ -1,0 +1,20 @@
+//! The file that is made from a seed.
+
+ghost use Rattle.std.specs.Prelude.{◌≡◌, IfOk};
+ghost use Rattle.sample_tides.specs.File.{sample_of};
+ghost use Rattle.tide_answer.specs.Answers.{text_alone};
+
+use crate::text::Answer;
+use sample_tides::sample;
+use std::alloc::{AllocError, Global};
+
+/// The harmonics file of made-up constants that is drawn from a seed.
+pub fn give_sample(alloc: Global, seed: u64) -> Result<Answer, AllocError>
+    ensures { IfOk result (λ answer. answer ≡ text_alone (sample_of seed)) }
+{
+    Ok(Answer {
+        text: sample(alloc, seed)?,
+        rejected: false,
+        cells: 0,
+    })
+}

@@ -1,0 +1,122 @@
+//! A text that is written part after part. None takes memory.
+
+ghost use Rattle.std.specs.Prelude.{◌≡◌, ◌+◌, ◌*◌, ◌<◌, ◌≤◌, ◌^◌, ◌++◌, length, codes, All, IfOk, OnOk, is_err};
+ghost use Rattle.std.specs.List.{flat_map};
+ghost use Rattle.listing.specs.Listings.{IsListed, event_line_in, plain_events_of};
+ghost use Rattle.tide_answer.specs.Workings.Sending.{Sends};
+ghost use Rattle.tide_edge.specs.Faults.{faults_after};
+ghost use Rattle.zone_time.specs.Zones.{IsZone};
+
+use arrayvec::ArrayString;
+use curve_law::Event;
+use decimal_text::Text;
+use event_list::Merge;
+use harmonics_text::Units;
+use listing::event_line;
+use rate_bound::{MarkCurve, TurnCurve};
+use tide_edge::{Sink, WriteFailed, write_all};
+use zone_time::Zone;
+
+/// How much of a text is written.
+#[derive(Clone, Copy, Debug)]
+pub struct Sent {
+    /// Its bytes, from the first on.
+    pub bytes: u64,
+    /// The cells whose lines are written.
+    pub cells: u64,
+}
+
+/// Writes a piece after what is written before.
+pub fn send<S: Sink>(out: &mut S, sent: Sent, piece: &str) -> Result<Sent, WriteFailed>
+    requires { sent.bytes + length piece.now < 2 ^ 64 }
+    ensures sends { Sends (S.tells out.old) (S.taken out.old) (S.taken out.new) sent piece.now 0 result }
+    ensures still_tells { S.tells out.old → S.tells out.new }
+    ensures counts { S.faults out.new ≡ faults_after (is_err result) (S.faults out.old) }
+{
+    match write_all(out, piece.as_bytes()) {
+        Ok(()) => Ok(Sent {
+            bytes: sent.bytes + piece.len() as u64,
+            cells: sent.cells,
+        }),
+        Err(fault) => Err(WriteFailed {
+            sent: sent.bytes + fault.sent,
+        }),
+    }
+}
+
+/// Writes a front and a name as a line.
+pub fn send_name<S: Sink>(
+    out: &mut S,
+    sent: Sent,
+    front: &str,
+    name: &Text,
+) -> Result<Sent, WriteFailed>
+    requires { sent.bytes + length front.now + length name.now + 1 < 2 ^ 64 }
+    ensures sends { Sends (S.tells out.old) (S.taken out.old) (S.taken out.new) sent (front.now ++ name.now ++ codes "\n") 0 result }
+    ensures still_tells { S.tells out.old → S.tells out.new }
+    ensures counts { S.faults out.new ≡ faults_after (is_err result) (S.faults out.old) }
+{
+    let sent = send(out, sent, front)?;
+    let sent = send(out, sent, name.as_str())?;
+    send(out, sent, "\n")
+}
+
+/// Writes the line of each event that a merge has left.
+pub fn send_events<'a, S: Sink>(
+    out: &mut S,
+    sent: Sent,
+    units: Units,
+    zone: &Zone,
+    merge: &mut Merge<TurnCurve<'a>, MarkCurve<'a>>,
+) -> Result<Sent, WriteFailed>
+    requires zone { IsZone zone.now }
+    requires listed { All (IsListed units) merge.old.left }
+    requires few { sent.bytes + 96 * length merge.old.left < 2 ^ 64 }
+    ensures sends { Sends (S.tells out.old) (S.taken out.old) (S.taken out.new) sent (flat_map (event_line_in zone.now units) merge.old.left) 0 result }
+    ensures cells { OnOk result (merge.new.cells ≡ merge.old.all) }
+    ensures still_tells { S.tells out.old → S.tells out.new }
+    ensures counts { S.faults out.new ≡ faults_after (is_err result) (S.faults out.old) }
+{
+    let mut so_far = sent;
+    while let Some(event) = merge.next() {
+        let line = line_of(units, &event, zone);
+        so_far = send(out, so_far, line.as_str())?;
+    }
+    Ok(so_far)
+}
+
+fn line_of(units: Units, event: &Event, zone: &Zone) -> ArrayString<96>
+    requires zone { IsZone zone.now }
+    requires listed { IsListed units event.now }
+    ensures { result.bytes ≡ event_line_in zone.now units event.now }
+{
+    let Ok(local) = zone.local(event.minute) else {
+        unreachable!()
+    };
+    let mut line = ArrayString::new();
+    event_line(&local, event, units, &mut line);
+    line
+}
+
+/// Writes a station's name, and the line of each event that a merge has left.
+#[tactic(auto, unfolding(listing::specs::Listings::plain_events_of))]
+pub fn send_listing<'a, S: Sink>(
+    out: &mut S,
+    name: &Text,
+    units: Units,
+    zone: &Zone,
+    merge: &mut Merge<TurnCurve<'a>, MarkCurve<'a>>,
+) -> Result<Sent, WriteFailed>
+    requires name { length name.now ≤ 400 }
+    requires zone { IsZone zone.now }
+    requires listed { All (IsListed units) merge.old.left }
+    requires few { 96 * length merge.old.left < 2 ^ 63 }
+    ensures sends { Sends (S.tells out.old) (S.taken out.old) (S.taken out.new) (record { bytes = 0; cells = 0 }) (plain_events_of name.now units merge.old.left zone.now) 0 result }
+    ensures cells { OnOk result (merge.new.cells ≡ merge.old.all) }
+    ensures still_tells { S.tells out.old → S.tells out.new }
+    ensures counts { S.faults out.new ≡ faults_after (is_err result) (S.faults out.old) }
+{
+    let start = Sent { bytes: 0, cells: 0 };
+    let sent = send_name(out, start, "", name)?;
+    send_events(out, sent, units, zone, merge)
+}

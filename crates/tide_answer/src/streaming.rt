@@ -1,0 +1,106 @@
+//! An answer that is written as it is found.
+
+ghost use Rattle.std.specs.Prelude.{◌≡◌, is_err};
+ghost use Rattle.tide_answer.specs.Streams.{Streams};
+ghost use Rattle.tide_answer.specs.Workings.Streaming.{stream_answer, IsStream};
+ghost use Rattle.tide_edge.specs.Faults.{faults_after};
+
+use crate::asked::Asked;
+use crate::certifying::send_certificate;
+use crate::following::merge_of;
+use crate::form::Form;
+use crate::sending::send_listing;
+use crate::station::Found;
+use decimal_text::Text;
+use std::marker::Model;
+use tide_edge::{Sink, WriteFailed};
+use zone_time::Zone;
+
+/// An answer that is written as it is found, by a station's curve that it owns. Contracts see the
+/// answer.
+#[derive(Drop)]
+pub struct Stream {
+    form: Form,
+    found: Found,
+    name: Text,
+    asked: Asked,
+    zone: Zone,
+}
+
+impl Model for Stream {
+    ghost use Rattle.tide_answer.specs.declared.text.Answer.{Answer};
+    ghost use Rattle.tide_answer.specs.Workings.Streaming.{stream_answer, IsStream};
+
+    ghost Value = { Answer };
+
+    ghost view = { λ s. stream_answer s.form s.found s.name s.asked s.zone };
+
+    ghost invariant = { λ s. IsStream s.found s.name s.asked s.zone };
+}
+
+impl Stream {
+    /// The answer of a form, of a station that was found, over the span that is asked.
+    pub fn new(form: Form, found: Found, name: Text, asked: Asked, zone: Zone) -> Stream
+        requires { IsStream found name asked zone }
+        ensures { result ≡ stream_answer form found name asked zone }
+    {
+        Stream {
+            form,
+            found,
+            name,
+            asked,
+            zone,
+        }
+    }
+
+    /// Writes the answer's text, and answers its cells. It takes no memory.
+    pub fn write<S: Sink>(&self, out: &mut S) -> Result<u64, WriteFailed>
+        ensures streams { Streams (S.tells out.old) (S.taken out.old) (S.taken out.new) self.now result }
+        ensures still_tells { S.tells out.old → S.tells out.new }
+        ensures counts { S.faults out.new ≡ faults_after (is_err result) (S.faults out.old) }
+    {
+        match self.form {
+            Form::Listing => write_listing(out, &self.found, &self.name, &self.asked, &self.zone),
+            Form::Certificate => write_certificate(
+                out,
+                &self.found,
+                &self.name,
+                &self.asked,
+                &self.zone,
+            ),
+        }
+    }
+}
+
+fn write_listing<S: Sink>(
+    out: &mut S,
+    found: &Found,
+    name: &Text,
+    asked: &Asked,
+    zone: &Zone,
+) -> Result<u64, WriteFailed>
+    requires { IsStream found.now name.now asked.now zone.now }
+    ensures streams { Streams (S.tells out.old) (S.taken out.old) (S.taken out.new) (stream_answer Form.Listing found.now name.now asked.now zone.now) result }
+    ensures still_tells { S.tells out.old → S.tells out.new }
+    ensures counts { S.faults out.new ≡ faults_after (is_err result) (S.faults out.old) }
+{
+    let mut merge = merge_of(found, asked);
+    send_listing(out, name, found.units, zone, &mut merge)?;
+    Ok(merge.cells())
+}
+
+fn write_certificate<S: Sink>(
+    out: &mut S,
+    found: &Found,
+    name: &Text,
+    asked: &Asked,
+    zone: &Zone,
+) -> Result<u64, WriteFailed>
+    requires { IsStream found.now name.now asked.now zone.now }
+    ensures streams { Streams (S.tells out.old) (S.taken out.old) (S.taken out.new) (stream_answer Form.Certificate found.now name.now asked.now zone.now) result }
+    ensures still_tells { S.tells out.old → S.tells out.new }
+    ensures counts { S.faults out.new ≡ faults_after (is_err result) (S.faults out.old) }
+{
+    let sent = send_certificate(out, found, name, asked)?;
+    Ok(sent.cells)
+}

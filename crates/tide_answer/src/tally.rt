@@ -1,0 +1,173 @@
+//! What a trial counts.
+
+ghost use Rattle.std.specs.Prelude.{◌≡◌, ◌*◌, ◌<◌, ◌≤◌, ◌^◌, ◌++◌, codes, decimal, length, sum_by, option_to_list, IfOk, OnOk, string_bytes};
+ghost use Rattle.event_list.specs.Events.{minutes_in, cells_in, tracks_of as tracks_in};
+ghost use Rattle.tide_answer.specs.Trials.{accepted_if, nothing, number_line, plus, quiet_in, quiet_one, tally_by, trial_text};
+ghost use Rattle.tide_answer.specs.Workings.Spans.{IsNearSpan};
+ghost use Rattle.tide_answer.specs.Workings.Tallies.{IsUpTo};
+
+use crate::rejection::Rejection;
+use crate::tracks::cell_count;
+use curve_law::{Cell, Cells, Events, Tracks};
+use decimal_text::Bytes;
+use event_list::Span;
+use std::alloc::{AllocError, Global};
+
+/// What is counted at a station, or summed over stations.
+#[derive(Clone, Copy, Debug)]
+pub struct Tally {
+    /// The minutes of all tracks.
+    pub minutes: u128,
+    pub events: u128,
+    /// The cells of all tracks.
+    pub cells: u128,
+    /// Those of them in which nothing happens for minutes together.
+    pub quiet: u128,
+    /// The certificates that the check accepts.
+    pub accepted: u128,
+}
+
+impl Tally {
+    /// No station yet.
+    pub fn nothing() -> Tally
+        ensures { result ≡ nothing }
+    {
+        Tally {
+            minutes: 0,
+            events: 0,
+            cells: 0,
+            quiet: 0,
+            accepted: 0,
+        }
+    }
+
+    /// With one station more.
+    #[tactic(auto, unfolding(crate::specs::Trials::plus))]
+    pub fn plus(self, one: Tally) -> Tally
+        requires sum { IsUpTo (2 ^ 100) self }
+        requires one { IsUpTo (2 ^ 66) one }
+        ensures { result ≡ plus self one }
+    {
+        Tally {
+            minutes: self.minutes + one.minutes,
+            events: self.events + one.events,
+            cells: self.cells + one.cells,
+            quiet: self.quiet + one.quiet,
+            accepted: self.accepted + one.accepted,
+        }
+    }
+
+    /// What is counted of tracks over a span, of their events, and of what is found on them.
+    #[tactic(auto, unfolding(crate::specs::Trials::tally_by))]
+    pub fn of(span: &Span, tracks: &Tracks, events: &Events, rejection: Option<Rejection>) -> Tally
+        requires near { IsNearSpan span.now }
+        requires few { cells_in tracks.now < 2 ^ 64 }
+        ensures exact { result ≡ tally_by span.now tracks.now events.now rejection }
+        ensures few { IsUpTo (2 ^ 66) result }
+    {
+        Tally {
+            minutes: minutes_of(span, tracks),
+            events: events.as_slice().len() as u128,
+            cells: u128::from(cell_count(tracks)),
+            quiet: u128::from(quiet_count(tracks)),
+            accepted: accepted_count(rejection),
+        }
+    }
+}
+
+fn minutes_of(span: &Span, tracks: &Tracks) -> u128
+    requires { IsNearSpan span.now }
+    ensures exact { result ≡ minutes_in span.now * length (tracks_in tracks.now) }
+    ensures few { result ≤ 2 ^ 64 }
+{
+    u128::from(span_minutes(span)) * u128::from(track_count(tracks))
+}
+
+fn span_minutes(span: &Span) -> u64
+    requires { IsNearSpan span.now }
+    ensures exact { result ≡ minutes_in span.now }
+    ensures few { result ≤ 200000000000 }
+{
+    (span.end - span.begin).unsigned_abs()
+}
+
+fn track_count(tracks: &Tracks) -> u32
+    ensures exact { result ≡ length (tracks_in tracks.now) }
+    ensures few { result ≤ 3 }
+{
+    1 + u32::from(tracks.slack.is_some()) + u32::from(tracks.mark.is_some())
+}
+
+fn quiet_count(tracks: &Tracks) -> u128
+    ensures exact { result ≡ sum_by quiet_in (tracks_in tracks.now) }
+    ensures few { result ≤ 2 ^ 66 }
+{
+    quiet_of(&tracks.turn) + quiet_if_followed(&tracks.slack) + quiet_if_followed(&tracks.mark)
+}
+
+fn quiet_if_followed(cells: &Option<Cells>) -> u128
+    ensures exact { result ≡ sum_by quiet_in (option_to_list cells.now) }
+    ensures few { result < 2 ^ 64 }
+{
+    match cells {
+        Some(cells) => quiet_of(cells),
+        None => 0,
+    }
+}
+
+fn quiet_of(cells: &Cells) -> u128
+    ensures exact { result ≡ quiet_in cells.now }
+    ensures few { result < 2 ^ 64 }
+{
+    let mut quiet: u64 = 0;
+    for cell in cells.as_slice() {
+        quiet += quiet_one(*cell);
+    }
+    u128::from(quiet)
+}
+
+fn quiet_one(cell: Cell) -> u64
+    ensures exact { result ≡ quiet_one cell }
+    ensures few { result ≤ 1 }
+{
+    match cell {
+        Cell::Quiet(_) => 1,
+        Cell::Still | Cell::Turn(..) => 0,
+    }
+}
+
+// A certificate of which nothing is wrong is accepted.
+fn accepted_count(rejection: Option<Rejection>) -> u128
+    ensures exact { result ≡ accepted_if rejection }
+    ensures few { result ≤ 1 }
+{
+    match rejection {
+        None => 1,
+        Some(_) => 0,
+    }
+}
+
+/// The lines of a trial.
+#[tactic(auto, unfolding(crate::specs::Trials::trial_text))]
+pub fn tally_text(alloc: Global, seed: u64, sum: Tally) -> Result<Bytes, AllocError>
+    requires { IsUpTo (2 ^ 100) sum }
+    ensures { IfOk result (λ text. text ≡ trial_text seed sum) }
+{
+    let mut text = String::new(alloc);
+    push_line(alloc, &mut text, "seed", u128::from(seed))?;
+    push_line(alloc, &mut text, "stations", 40)?;
+    push_line(alloc, &mut text, "minutes", sum.minutes)?;
+    push_line(alloc, &mut text, "events", sum.events)?;
+    push_line(alloc, &mut text, "cells", sum.cells)?;
+    push_line(alloc, &mut text, "quiet", sum.quiet)?;
+    push_line(alloc, &mut text, "accepted", sum.accepted)?;
+    Ok(Bytes::from_vec(text.into_bytes()))
+}
+
+fn push_line(alloc: Global, text: &mut String, what: &str, number: u128) -> Result<(), AllocError>
+    ensures { OnOk result (string_bytes text.new ≡ string_bytes text.old ++ number_line what.now number) }
+{
+    text.push_str(what)?;
+    let end = format!(in alloc; " {number}\n")?;
+    text.push_str(end.as_str())
+}

@@ -1,0 +1,113 @@
+//! A trial of the predictor over a sample file.
+
+ghost use Rattle.std.specs.Prelude.{◌≡◌, ◌<◌, ◌≤◌, ◌^◌, [], length, take, IfErr, IfOk};
+ghost use Rattle.decimal_text.specs.Expected.{Gives};
+ghost use Rattle.harmonics_text.specs.Books.{IsBook};
+ghost use Rattle.harmonics_text.specs.Reading.{book_of};
+ghost use Rattle.station_table.specs.Offsets.{IsTable};
+ghost use Rattle.tide_answer.specs.Faults.{wants_memory_of_refusal, IsToldRefusal};
+ghost use Rattle.tide_answer.specs.Trials.{book_from, nothing, station_count, station_tally, tally_on, trial_of, trial_span};
+ghost use Rattle.tide_answer.specs.Workings.Tallies.{IsUpTo};
+
+use crate::asked::Asked;
+use crate::certify::certificate_of;
+use crate::following::find_events;
+use crate::judging::find_rejection;
+use crate::reach::Reach;
+use crate::refusal::Refusal;
+use crate::station::{find_station, reached};
+use crate::tally::{Tally, tally_text};
+use crate::tracks::find_tracks;
+use decimal_text::{Bytes, Text};
+use harmonics_text::{Book, BookFault, Station, read_book};
+use sample_tides::sample;
+use station_table::OffsetTable;
+use std::alloc::Global;
+
+/// How many stations of the file are tried.
+const STATIONS: usize = 40;
+
+/// The span over which they are: from 2000-12-01T00:00Z to 2001-02-01T00:00Z.
+const SPAN: Asked = Asked {
+    begin: 16_260_480,
+    end: 16_349_760,
+    mark: None,
+};
+
+/// What comes of predicting, certifying and checking the first forty stations of a seed's file, or the
+/// first refusal.
+#[tactic(auto, unfolding(crate::specs::Trials::trial_of))]
+pub fn try_sample(alloc: Global, seed: u64) -> Result<Bytes, Refusal>
+    ensures exact { Gives wants_memory_of_refusal (trial_of seed) result }
+    ensures told { IfErr result (IsToldRefusal []) }
+{
+    let text = sample(alloc, seed)?;
+    let book = book_in(alloc, text.as_slice())?;
+    let sum = tally_stations(alloc, &book, first_stations(&book))?;
+    Ok(tally_text(alloc, seed, sum)?)
+}
+
+fn book_in(alloc: Global, text: &[u8]) -> Result<Book, Refusal>
+    requires { length text.now ≤ 400000000 }
+    ensures exact { Gives wants_memory_of_refusal (book_from (book_of text.now)) result }
+    ensures sound { IfOk result IsBook }
+    ensures told { IfErr result (IsToldRefusal []) }
+{
+    match read_book(alloc, text) {
+        Ok(book) => Ok(book),
+        Err(BookFault::NoMemory) => Err(Refusal::NoMemory),
+        Err(BookFault::At { line, why }) => Err(Refusal::BadSample { line, why }),
+    }
+}
+
+fn first_stations(book: &Book) -> &[Station]
+    ensures exact { result.now ≡ take station_count book.now.stations }
+    ensures few { length result.now ≤ 40 }
+{
+    let stations = book.stations.as_slice();
+    if stations.len() <= STATIONS {
+        stations
+    } else {
+        &stations[..STATIONS]
+    }
+}
+
+// The sums over stations, of which nothing else is held from one to the next.
+fn tally_stations(alloc: Global, book: &Book, stations: &[Station]) -> Result<Tally, Refusal>
+    requires book { IsBook book.now }
+    requires few { length stations.now ≤ 40 }
+    ensures exact { Gives wants_memory_of_refusal (tally_on book.now nothing stations.now) result }
+    ensures told { IfErr result (IsToldRefusal []) }
+    ensures few { IfOk result (IsUpTo (2 ^ 100)) }
+{
+    let table = OffsetTable::new(alloc);
+    let mut sum = Tally::nothing();
+    for station in stations {
+        let one = tally_station(alloc, book, &table, &station.name)?;
+        sum = sum.plus(one);
+    }
+    Ok(sum)
+}
+
+// A station is predicted, certified and checked.
+#[tactic(auto, unfolding(crate::specs::Trials::station_tally))]
+fn tally_station(
+    alloc: Global,
+    book: &Book,
+    table: &OffsetTable,
+    name: &Text,
+) -> Result<Tally, Refusal>
+    requires book { IsBook book.now }
+    requires table { table.now ≡ [] }
+    ensures exact { Gives wants_memory_of_refusal (station_tally book.now name.now) result }
+    ensures told { IfErr result (IsToldRefusal []) }
+    ensures few { IfOk result (IsUpTo (2 ^ 66)) }
+{
+    let found = find_station(alloc, book, table, Reach::Events, name, &SPAN)?;
+    let listed = find_events(alloc, &found, &SPAN)?;
+    let tracks = find_tracks(alloc, &found, &SPAN)?;
+    let cert = certificate_of(name.copy()?, &SPAN, tracks);
+    let rejection = find_rejection(&found, &SPAN, &cert);
+    let span = reached(Reach::Events, &found.basis, &SPAN);
+    Ok(Tally::of(&span, &cert.tracks, &listed.events, rejection))
+}
