@@ -1,0 +1,5 @@
+pub mod EndLemmas
+pub mod HeadLemmas
+pub mod LineLemmas
+pub mod RowLemmas
+pub mod SizeLemmas

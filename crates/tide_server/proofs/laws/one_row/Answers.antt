@@ -1,0 +1,6 @@
+use Rattle.tide_server.specs.Heads.{head_end}
+use Rattle.tide_server.proofs.RowLemmas.{one_row_at}
+use Rattle.tide_server.proofs.laws.one_row.Goals as goal
+
+pub returns : goal.returns
+returns c = λ request a b x y. one_row_at (head_end request) request a b x y

@@ -1,0 +1,4 @@
+pub mod Heads
+pub mod Responses
+pub mod Rows
+pub mod Workings

@@ -1,0 +1,149 @@
+-- Which row of the table of statuses answers a request (RFC 9110, sections 9 and 15; RFC 9112, sections 2, 3 and 6; the paths
+-- and the order are this project's).
+use Rattle.std.specs.Prelude.{◌≡◌, ℕ, ◌+◌, ◌==◌, nat_lt, nat_le, Bool, true, false, not, ◌&&◌, ◌||◌, if◌then◌else◌, List, [], ◌∷◌, ◌++◌, length, take, drop, Option, Some, None, is_none, codes}
+use Rattle.std.specs.List.{list_all, list_any, position_or_len, starts_with}
+use Rattle.std.specs.Char.{is_ascii_digit}
+use Rattle.std.specs.Str.{bytes_eq}
+use Rattle.std.specs.Str.Parse.{digits_value}
+use Rattle.tide_server.specs.Heads.{Head, head_end, line_feeds, ReadsAs}
+use Rattle.tide_server.specs.declared.rejection.Rejection.{Rejection}
+use Rattle.tide_server.specs.declared.rejection.Rejection.TheVariants.{HeadTooLarge, HeadCutShort, BadRequest, NotFound, WantsGet, WantsPost, LengthRequired, BodyTooLarge, BodyCutShort}
+
+-- the path is what stands before the first `?`, and the query is what stands behind it
+abbrev pub path_of : List ℕ → List ℕ
+path_of target = take (position_or_len (λ b. b == 63) target) target
+
+abbrev pub query_of : List ℕ → List ℕ
+query_of target = drop (position_or_len (λ b. b == 63) target + 1) target
+
+-- the paths for GET and HEAD
+abbrev pub is_read_path : List ℕ → Bool
+is_read_path path =
+    list_any (λ known. bytes_eq path known)
+    (codes "/predict" ∷ codes "/certify" ∷ codes "/heights" ∷ codes "/calendar" ∷ codes "/clock" ∷ codes "/stations" ∷ [])
+
+-- the path for POST
+abbrev pub is_post_path : List ℕ → Bool
+is_post_path path = bytes_eq path (codes "/check")
+
+abbrev pub is_head : Head → Bool
+is_head head = bytes_eq head.method (codes "HEAD")
+
+abbrev pub is_read : Head → Bool
+is_read head = bytes_eq head.method (codes "GET") || is_head head
+
+abbrev pub is_post : Head → Bool
+is_post head = bytes_eq head.method (codes "POST")
+
+-- a length is 1 to 18 digits
+abbrev pub is_size : List ℕ → Bool
+is_size value = nat_lt 0 (length value) && nat_le (length value) 18 && list_all is_ascii_digit value
+
+-- how long the body is to be
+abbrev pub size_of : Head → ℕ
+size_of head = digits_value 10 head.size.first
+
+-- ---- the table, in its order
+
+-- of a request whose head hasn't ended
+abbrev pub unended_rows : List ℕ → List (Bool × Rejection)
+unended_rows request =
+    (nat_le 8192 (length request), HeadTooLarge)
+    ∷ (true, HeadCutShort)
+    ∷ []
+
+-- of a head that has ended, and of what it reads as
+abbrev pub head_rows : List ℕ → Option Head → List (Bool × Rejection)
+head_rows bytes read =
+    (nat_lt 66 (line_feeds bytes), HeadTooLarge)
+    ∷ (is_none read, BadRequest)
+    ∷ []
+
+-- of what the head says
+abbrev pub field_rows : Head → List (Bool × Rejection)
+field_rows head =
+    (nat_lt 1 head.host.count || (head.minor == 1 && (head.host.count == 0)), BadRequest)
+    ∷ (not (starts_with (λ a b. a == b) head.target (codes "/")), BadRequest)
+    ∷ (not (is_read_path (path_of head.target) || is_post_path (path_of head.target)), NotFound)
+    ∷ (is_read_path (path_of head.target) && not (is_read head), WantsGet)
+    ∷ (is_post_path (path_of head.target) && not (is_post head), WantsPost)
+    ∷ (is_post head && (head.size.count == 0), LengthRequired)
+    ∷ (is_post head && (nat_lt 1 head.size.count || not (is_size head.size.first) || nat_lt 0 head.coding.count), BadRequest)
+    ∷ (is_post head && nat_lt 4194304 (size_of head), BodyTooLarge)
+    ∷ []
+
+-- of the bytes behind the head
+abbrev pub body_rows : Head → List ℕ → List (Bool × Rejection)
+body_rows head rest =
+    (is_post head && nat_lt (length rest) (size_of head), BodyCutShort)
+    ∷ []
+
+-- the first row whose condition holds
+abbrev pub first_row : List (Bool × Rejection) → Option Rejection
+first_row [] = None
+first_row (row ∷ rows) = if row.0 then Some row.1 else first_row rows
+
+-- ---- the row that answers
+
+-- what is asked of the tables: by the path, the query and the body, and whether the reply leaves its body out
+pub record Asking : Type 0 where
+  pub path : List ℕ
+  pub query : List ℕ
+  pub body : List ℕ
+  pub bodiless : Bool
+
+-- A fixed row rejects a request, with or without the reply's body. Behind these rows the request asks.
+pub data Row : Type 0 where
+  rejects : Rejection → Bool → Row
+  asks : Asking → Row
+
+abbrev pub asking : Head → List ℕ → Asking
+asking head rest = record {
+  path = path_of head.target;
+  query = query_of head.target;
+  body = (if is_post head then take (size_of head) rest else []);
+  bodiless = is_head head;
+}
+
+-- a reply to HEAD leaves its body out once the head was read
+abbrev pub field_row : Option Rejection → Head → List ℕ → Row
+field_row (Some rejection) head rest = rejects rejection (is_head head)
+field_row None head rest = asks (asking head rest)
+
+abbrev pub head_row : Option Rejection → Option Head → List ℕ → Row
+head_row (Some rejection) read rest = rejects rejection false
+head_row None None rest = rejects BadRequest false
+head_row None (Some head) rest = field_row (first_row (field_rows head ++ body_rows head rest)) head rest
+
+-- of a head that has ended
+abbrev pub ended_row : List ℕ → Option Head → List ℕ → Row
+ended_row bytes read rest = head_row (first_row (head_rows bytes read)) read rest
+
+-- of a request whose head hasn't ended
+abbrev pub unended_row : List ℕ → Row
+unended_row request = head_row (first_row (unended_rows request)) None []
+
+-- The row of a request, by where its head ends.
+abbrev pub IsRowAt : Option ℕ → List ℕ → Row → Type 0
+IsRowAt None request row = row ≡ unended_row request
+IsRowAt (Some end) request row =
+    (read : Option Head) × ReadsAs (take end request) read × (row ≡ ended_row (take end request) read (drop end request))
+
+abbrev pub IsRow : List ℕ → Row → Type 0
+IsRow request row = IsRowAt (head_end request) request row
+
+-- Whether more bytes of the request can't change the row: neither its head nor its body was cut short.
+abbrev pub is_settled_by : Rejection → Bool
+is_settled_by HeadCutShort = false
+is_settled_by BodyCutShort = false
+is_settled_by HeadTooLarge = true
+is_settled_by BadRequest = true
+is_settled_by NotFound = true
+is_settled_by WantsGet = true
+is_settled_by WantsPost = true
+is_settled_by LengthRequired = true
+is_settled_by BodyTooLarge = true
+
+abbrev pub is_settled : Row → Bool
+is_settled (rejects rejection bodiless) = is_settled_by rejection
+is_settled (asks asking) = true

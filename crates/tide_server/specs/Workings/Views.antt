@@ -1,0 +1,28 @@
+-- What the server's own types are in the definitions (this project).
+use Rattle.tide_server.specs.Heads as heads
+use Rattle.tide_server.specs.Rows as rows
+use Rattle.tide_server.specs.declared.asking.Asking.{Asking}
+use Rattle.tide_server.specs.declared.head.Head.{Head}
+use Rattle.tide_server.specs.declared.head.Occurs.{Occurs}
+use Rattle.tide_server.specs.declared.row.Row.{Row}
+use Rattle.tide_server.specs.declared.row.Row.TheVariants.{Rejects, Asks}
+
+abbrev pub occurs_seen : Occurs → heads.Occurs
+occurs_seen o = record { count = o.count; first = o.first.now }
+
+abbrev pub head_seen : Head → heads.Head
+head_seen h = record {
+  method = h.method.now;
+  target = h.target.now;
+  minor = h.minor;
+  host = occurs_seen h.host;
+  size = occurs_seen h.size;
+  coding = occurs_seen h.coding;
+}
+
+abbrev pub asking_seen : Asking → rows.Asking
+asking_seen a = record { path = a.path.now; query = a.query.now; body = a.body.now; bodiless = a.bodiless }
+
+abbrev pub row_seen : Row → rows.Row
+row_seen (Rejects rejection bodiless) = rows.rejects rejection bodiless
+row_seen (Asks asking) = rows.asks (asking_seen asking)

@@ -1,0 +1,24 @@
+//! The status codes of responses.
+
+/// A status code that the server answers.
+#[derive(Clone, Copy, Debug, PartialEq, Eq)]
+pub enum Code {
+    /// 200
+    Success,
+    /// 400
+    BadRequest,
+    /// 404
+    NotFound,
+    /// 405
+    MethodNotAllowed,
+    /// 411
+    LengthRequired,
+    /// 413
+    ContentTooLarge,
+    /// 422
+    Unprocessable,
+    /// 431
+    FieldsTooLarge,
+    /// 503
+    Unavailable,
+}

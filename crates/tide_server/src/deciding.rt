@@ -1,0 +1,42 @@
+//! What a request's bytes decide by themselves.
+
+ghost use Rattle.std.specs.Prelude.{◌≡◌, [], is_some, unwrap_or};
+ghost use Rattle.tide_server.specs.Responses.{fixed_of};
+ghost use Rattle.tide_server.specs.Rows.{is_settled, is_settled_by, IsRow};
+ghost use Rattle.tide_server.specs.Rows as rows;
+
+use crate::rejection::Rejection;
+use crate::response::write_rejection;
+use crate::row::{Row, row_for};
+use arrayvec::ArrayString;
+
+/// Whether the bytes of a request that came so far settle its reply. It takes no memory.
+pub fn enough(request: &[u8]) -> bool
+    ensures { (row : rows.Row) × IsRow request.now row × (result ≡ is_settled row) }
+{
+    match row_for(request) {
+        Row::Rejects(rejection, _) => is_settled_by(rejection),
+        Row::Asks(_) => true,
+    }
+}
+
+fn is_settled_by(rejection: Rejection) -> bool
+    ensures { result ≡ is_settled_by rejection }
+{
+    !matches!(rejection, Rejection::HeadCutShort | Rejection::BodyCutShort)
+}
+
+/// Writes the reply to the whole of a request, if it is one that needs no answer of the predictor. It takes no memory.
+pub fn fixed_reply(request: &[u8], out: &mut ArrayString<256>) -> bool
+    requires { out.old.bytes ≡ [] }
+    ensures { (row : rows.Row) × IsRow request.now row
+        × (result ≡ is_some (fixed_of row)) × (out.new.bytes ≡ unwrap_or (fixed_of row) []) }
+{
+    match row_for(request) {
+        Row::Rejects(rejection, bodiless) => {
+            write_rejection(rejection, bodiless, out);
+            true
+        }
+        Row::Asks(_) => false,
+    }
+}

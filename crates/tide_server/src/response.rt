@@ -1,0 +1,100 @@
+//! Responses written. None takes memory.
+
+ghost use Rattle.std.specs.Prelude.{◌≡◌, ◌≤◌, ◌+◌, ◌++◌, [], length, codes, decimal};
+ghost use Rattle.arrayvec.specs.ArrayString.{array_string_len};
+ghost use Rattle.tide_server.specs.Responses.{status_of, code_of, body_of, allow_of, rejection_of};
+
+use crate::code::Code;
+use crate::rejection::Rejection;
+use arrayvec::ArrayString;
+use itoa::Buffer;
+
+#[tactic(auto, unfolding(crate::specs::Responses::status_of))]
+fn status_of(code: Code) -> &'static str
+    ensures text { result.now ≡ status_of code }
+    ensures short { length result.now ≤ 35 }
+{
+    match code {
+        Code::Success => "200 OK",
+        Code::BadRequest => "400 Bad Request",
+        Code::NotFound => "404 Not Found",
+        Code::MethodNotAllowed => "405 Method Not Allowed",
+        Code::LengthRequired => "411 Length Required",
+        Code::ContentTooLarge => "413 Content Too Large",
+        Code::Unprocessable => "422 Unprocessable Content",
+        Code::FieldsTooLarge => "431 Request Header Fields Too Large",
+        Code::Unavailable => "503 Service Unavailable",
+    }
+}
+
+#[tactic(auto, unfolding(crate::specs::Responses::code_of))]
+fn code_of(rejection: Rejection) -> Code
+    ensures { result ≡ code_of rejection }
+{
+    match rejection {
+        Rejection::HeadTooLarge => Code::FieldsTooLarge,
+        Rejection::HeadCutShort | Rejection::BadRequest | Rejection::BodyCutShort => {
+            Code::BadRequest
+        }
+        Rejection::NotFound => Code::NotFound,
+        Rejection::WantsGet | Rejection::WantsPost => Code::MethodNotAllowed,
+        Rejection::LengthRequired => Code::LengthRequired,
+        Rejection::BodyTooLarge => Code::ContentTooLarge,
+    }
+}
+
+#[tactic(auto, unfolding(crate::specs::Responses::body_of))]
+fn body_of(rejection: Rejection) -> &'static str
+    ensures text { result.now ≡ body_of rejection }
+    ensures short { length result.now ≤ 24 }
+{
+    match rejection {
+        Rejection::HeadTooLarge => "header fields too large\n",
+        Rejection::HeadCutShort | Rejection::BadRequest | Rejection::BodyCutShort => {
+            "bad request\n"
+        }
+        Rejection::NotFound => "not found\n",
+        Rejection::WantsGet | Rejection::WantsPost => "method not allowed\n",
+        Rejection::LengthRequired => "length required\n",
+        Rejection::BodyTooLarge => "content too large\n",
+    }
+}
+
+#[tactic(auto, unfolding(crate::specs::Responses::allow_of))]
+fn allow_of(rejection: Rejection) -> &'static str
+    ensures text { result.now ≡ allow_of rejection }
+    ensures short { length result.now ≤ 18 }
+{
+    match rejection {
+        Rejection::WantsGet => "Allow: GET, HEAD\r\n",
+        Rejection::WantsPost => "Allow: POST\r\n",
+        _ => "",
+    }
+}
+
+fn push_number(number: usize, out: &mut ArrayString<256>)
+    requires { array_string_len out.old + 40 ≤ 256 }
+    ensures bytes { out.new.bytes ≡ out.old.bytes ++ decimal number }
+    ensures short { array_string_len out.new ≤ array_string_len out.old + 40 }
+{
+    let mut buffer = Buffer::new();
+    out.push_str(buffer.format(number));
+}
+
+/// Writes the reply of a fixed row.
+pub(crate) fn write_rejection(rejection: Rejection, bodiless: bool, out: &mut ArrayString<256>)
+    requires { out.old.bytes ≡ [] }
+    ensures { out.new.bytes ≡ rejection_of rejection bodiless }
+{
+    let body = body_of(rejection);
+    out.push_str("HTTP/1.1 ");
+    out.push_str(status_of(code_of(rejection)));
+    out.push_str("\r\nContent-Type: ");
+    out.push_str("text/plain");
+    out.push_str("; charset=utf-8\r\nContent-Length: ");
+    push_number(body.len(), out);
+    out.push_str("\r\n");
+    out.push_str(allow_of(rejection));
+    out.push_str("Connection: close\r\n\r\n");
+    out.push_str(if bodiless { "" } else { body });
+}

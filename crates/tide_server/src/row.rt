@@ -1,0 +1,63 @@
+//! The row of the table that answers a request.
+
+ghost use Rattle.std.specs.Prelude.{◌≡◌, Option};
+ghost use Rattle.tide_server.specs.Heads as heads;
+ghost use Rattle.tide_server.specs.Rows as rows;
+ghost use Rattle.tide_server.specs.Workings.Views.{row_seen};
+
+use crate::asking::{Asking, asked};
+use crate::head::{is_head, read_head};
+use crate::lines::{MOST_HEAD, head_end, line_feeds};
+use crate::rejection::Rejection;
+
+/// How many lines a head may have.
+const MOST_LINES: usize = 66;
+
+/// The row of the table that answers a request.
+#[derive(Clone, Copy, Debug)]
+pub(crate) enum Row<'a> {
+    /// A fixed one, and whether the reply leaves its body out.
+    Rejects(Rejection, bool),
+    /// One behind the fixed rows, by what is asked.
+    Asks(Asking<'a>),
+}
+
+/// The row that answers the whole request.
+pub(crate) fn row_for(request: &[u8]) -> Row<'_>
+    ensures { rows.IsRow request.now (row_seen result) }
+{
+    match head_end(request) {
+        Some(end) => {
+            let (bytes, rest) = request.split_at(end);
+            ended_row(bytes, rest)
+        }
+        None => unended_row(request),
+    }
+}
+
+fn unended_row(request: &[u8]) -> Row<'_>
+    ensures { row_seen result ≡ rows.unended_row request.now }
+{
+    if request.len() < MOST_HEAD {
+        Row::Rejects(Rejection::HeadCutShort, false)
+    } else {
+        Row::Rejects(Rejection::HeadTooLarge, false)
+    }
+}
+
+fn ended_row<'a>(bytes: &'a [u8], rest: &'a [u8]) -> Row<'a>
+    ensures { (read : Option heads.Head) × heads.ReadsAs bytes.now read
+        × (row_seen result ≡ rows.ended_row bytes.now read rest.now) }
+{
+    let read = read_head(bytes);
+    if line_feeds(bytes) > MOST_LINES {
+        return Row::Rejects(Rejection::HeadTooLarge, false);
+    }
+    let Some(head) = read else {
+        return Row::Rejects(Rejection::BadRequest, false);
+    };
+    match asked(&head, rest) {
+        Ok(asking) => Row::Asks(asking),
+        Err(rejection) => Row::Rejects(rejection, is_head(&head)),
+    }
+}
