@@ -1,22 +1,23 @@
 -- How a run ends where a fault is told.
-use Rattle.std.proofs.Common.{◌≡◌, ◌⊎◌, ℕ, Bool, true, false, cond, List, [], Result, Ok, Err, inl, inr, refl, ◌∙◌}
-use Rattle.std.specs.Bool.{IsTrue}
+use Rattle.std.proofs.Common.{◌≡◌, ◌⊎◌, ℕ, Bool, true, false, cond, List, [], Result, inl, inr, refl, ◌∙◌}
 use Rattle.decimal_text.specs.Expected.{Excused}
 use Rattle.question.specs.declared.fault.AskFault.TheVariants as ask
 use Rattle.harmonics_text.specs.declared.fault.BookFault.TheVariants as form
 use Rattle.station_table.specs.declared.fault.OffsetFault.TheVariants as table
-use Rattle.tide_answer.specs.declared.fault.Fault.{Fault}
-use Rattle.tide_answer.specs.declared.fault.Fault.TheVariants.{Ask, TooLong, Book, Offsets, Refused}
+use Rattle.tide_answer.specs.declared.fault.Fault.TheVariants.{Ask, TooLong, Book, Offsets, BadZone, Refused}
+use Rattle.tide_answer.specs.declared.refusal.Refusal.{Refusal}
 use Rattle.tide_answer.specs.declared.refusal.Refusal.TheVariants as refusals
 use Rattle.tide_answer.specs.declared.status.Status.{Status}
 use Rattle.tide_answer.specs.declared.status.Status.TheVariants.{ReadFault, NoMemory}
 use Rattle.tide_answer.specs.declared.text.Answer.{Answer}
-use Rattle.tide_answer.specs.Faults.{wants_memory as fault_wants_memory, line_of as line_of_fault, ask_line, form_line, table_line, refusal_line as line_of_refusal}
-use Rattle.tide_edge.specs.Excuses.{Source, memory, outside, given, is_outside, Excuses}
+use Rattle.tide_answer.specs.Faults.{wants_memory as fault_wants_memory, wants_memory_of_refusal, status_of_refusal, line_of as line_of_fault, ask_line, form_line, table_line, refusal_line as line_of_refusal}
+use Rattle.tide_edge.specs.Excuses.{memory, given}
 use Rattle.tide_desk.specs.declared.no_answer.NoAnswer.{NoAnswer}
 use Rattle.tide_desk.specs.declared.no_answer.NoAnswer.TheVariants.{Unread, Told}
-use Rattle.tide_desk.specs.NoAnswers.{status_of, line_of, source_of, wants_memory}
+use Rattle.tide_desk.specs.declared.no_answer.NoAnswer.TheVariants as none_of
+use Rattle.tide_desk.specs.NoAnswers.{status_of, line_of, source_of, wants_memory, is_unread}
 use Rattle.tide_desk.specs.Outcomes.{Says, EndsAs, is_read_fault, is_write_fault, output_with, line_with}
+use Rattle.tide_desk.specs.Workings.Meetings.{ExcusesIf}
 use Rattle.tide_desk.specs.Workings.Telling.{Tells}
 
 -- the status of a fault says the expected answer, its line goes with it, and nothing is to be written
@@ -36,8 +37,11 @@ fits expected (Told (Book form.NoMemory)) gives = record { says = tt; line = ref
 fits expected (Told (Book (form.At line why))) gives = rw gives (record { says = refl; line = refl; output = refl; unfailed = refl })
 fits expected (Told (Offsets table.NoMemory)) gives = record { says = tt; line = refl; output = refl; unfailed = refl }
 fits expected (Told (Offsets (table.At row why))) gives = rw gives (record { says = refl; line = refl; output = refl; unfailed = refl })
+fits expected (Told BadZone) gives = rw gives (record { says = refl; line = refl; output = refl; unfailed = refl })
 fits expected (Told (Refused refusals.NoMemory)) gives = record { says = tt; line = refl; output = refl; unfailed = refl }
 fits expected (Told (Refused _)) gives = rw gives (record { says = refl; line = refl; output = refl; unfailed = refl })
+fits expected (none_of.Refused refusals.NoMemory rows) gives = record { says = tt; line = refl; output = refl; unfailed = refl }
+fits expected (none_of.Refused _ rows) gives = rw gives (record { says = refl; line = refl; output = refl; unfailed = refl })
 
 -- where a fault is told and nothing was written
 ends_itself : (expected : Result Answer NoAnswer) (none : NoAnswer) (out err : Bool → List ℕ → Type 0) (failed : Bool) → Excused (wants_memory none) expected none → out false [] → err failed (line_of none) → EndsAs expected (status_of none) out err
@@ -52,26 +56,31 @@ ends_told expected none status out err gives quiet told =
       | inr t ↦ rw t.0 (record { says = tt; output = quiet; failed = t.2.0; line = t.2.1 })
     ]
 
--- what a fault says over files that tell, unless a read failed of files that aren't steady
-excused_of : (steady memory_wanted : Bool) (expected : Result Answer NoAnswer) (none : NoAnswer) → Excuses (cond memory_wanted memory given) steady expected none → Excused memory_wanted expected none
-excused_of steady true expected none excuses = tt
-excused_of steady false expected none excuses = excuses
+-- what a fault says over an outside that tells, unless reading failed where that didn't stand firm
+excused_inside : (firm : Type 0) (memory_wanted : Bool) (expected : Result Answer NoAnswer) (none : NoAnswer) → ExcusesIf firm (cond memory_wanted memory given) expected none → Excused memory_wanted expected none
+excused_inside firm true expected none excuses = tt
+excused_inside firm false expected none excuses = excuses
 
-own_excused : (steady : Bool) (expected : Result Answer NoAnswer) (none : NoAnswer) → Excuses (source_of none) steady expected none → IsTrue steady ⊎ (¬ (status_of none ≡ ReadFault)) → Excused (wants_memory none) expected none
-own_excused steady expected Unread excuses either = elim either [ inl s ↦ excuses s | inr not_read ↦ absurd (not_read refl) ]
-own_excused steady expected (Told fault) excuses either = excused_of steady (fault_wants_memory fault) expected (Told fault) excuses
+pub own_excused : (firm : Type 0) (expected : Result Answer NoAnswer) (none : NoAnswer) → ExcusesIf firm (source_of none) expected none → firm ⊎ (¬ (status_of none ≡ ReadFault)) → Excused (wants_memory none) expected none
+own_excused firm expected Unread excuses either = elim either [ inl f ↦ excuses f | inr not_read ↦ absurd (not_read refl) ]
+own_excused firm expected (Told fault) excuses either = excused_inside firm (fault_wants_memory fault) expected (Told fault) excuses
+own_excused firm expected (none_of.Refused refusal rows) excuses either = excused_inside firm (wants_memory_of_refusal refusal) expected (none_of.Refused refusal rows) excuses
 
-pub ends_own : (steady : Bool) (expected : Result Answer NoAnswer) (none : NoAnswer) (status : Status) (out err : Bool → List ℕ → Type 0) → Excuses (source_of none) steady expected none → IsTrue steady ⊎ (¬ (status ≡ ReadFault)) → out false [] → Tells none status err → EndsAs expected status out err
-ends_own steady expected none status out err excuses either quiet told =
+pub ends_own : (firm : Type 0) (expected : Result Answer NoAnswer) (none : NoAnswer) (status : Status) (out err : Bool → List ℕ → Type 0) → ExcusesIf firm (source_of none) expected none → firm ⊎ (¬ (status ≡ ReadFault)) → out false [] → Tells none status err → EndsAs expected status out err
+ends_own firm expected none status out err excuses either quiet told =
     elim told [
       | inl t ↦
-          let same : IsTrue steady ⊎ (¬ (status_of none ≡ ReadFault)) = elim either [ inl s ↦ inl s | inr n ↦ inr (λ e. n (t.0 ∙ e)) ] in
-          rw t.0 (ends_itself expected none out err t.1.0 (own_excused steady expected none excuses same) quiet t.1.1)
+          let same : firm ⊎ (¬ (status_of none ≡ ReadFault)) = elim either [ inl f ↦ inl f | inr n ↦ inr (λ e. n (t.0 ∙ e)) ] in
+          rw t.0 (ends_itself expected none out err t.1.0 (own_excused firm expected none excuses same) quiet t.1.1)
       | inr t ↦ rw t.0 (record { says = tt; output = quiet; failed = t.2.0; line = t.2.1 })
     ]
 
+refl_of_refusal : (refusal : Refusal) → is_read_fault (status_of_refusal refusal) ≡ false
+refl_of_refusal refusals.NoMemory = refl
+refl_of_refusal _ = refl
+
 -- a fault of reading is told as one, and no other is
-reads_itself : (none : NoAnswer) → is_read_fault (status_of none) ≡ is_outside (source_of none)
+reads_itself : (none : NoAnswer) → is_read_fault (status_of none) ≡ is_unread none
 reads_itself Unread = refl
 reads_itself (Told (Ask ask.NoMemory)) = refl
 reads_itself (Told (Ask _)) = refl
@@ -80,9 +89,10 @@ reads_itself (Told (Book form.NoMemory)) = refl
 reads_itself (Told (Book (form.At line why))) = refl
 reads_itself (Told (Offsets table.NoMemory)) = refl
 reads_itself (Told (Offsets (table.At row why))) = refl
-reads_itself (Told (Refused refusals.NoMemory)) = refl
-reads_itself (Told (Refused _)) = refl
+reads_itself (Told BadZone) = refl
+reads_itself (Told (Refused refusal)) = refl_of_refusal refusal
+reads_itself (none_of.Refused refusal rows) = refl_of_refusal refusal
 
-pub told_as_read : {X Y : Type 0} (none : NoAnswer) (status : Status) → ((status ≡ status_of none) × X) ⊎ ((status ≡ NoMemory) × (is_outside (source_of none) ≡ false) × Y) → is_read_fault status ≡ is_outside (source_of none)
+pub told_as_read : {X Y : Type 0} (none : NoAnswer) (status : Status) → ((status ≡ status_of none) × X) ⊎ ((status ≡ NoMemory) × (is_unread none ≡ false) × Y) → is_read_fault status ≡ is_unread none
 told_as_read none status told =
     elim told [ inl t ↦ rw t.0 (reads_itself none) | inr t ↦ rw (t.0, t.1) refl ]

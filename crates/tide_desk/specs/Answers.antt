@@ -1,37 +1,25 @@
--- The answer to the words over a folder of files (this project).
-use Rattle.std.specs.Prelude.{ℕ, pos, Bool, false, if◌then◌else◌, List, [], codes, Option, Result, Ok, Err}
-use Rattle.std.specs.Option.{ok_or, option_map_or}
+-- The answer to the words over files and a clock (this project).
+use Rattle.std.specs.Prelude.{ℕ, ℤ, Bool, false, IsTrue, if◌then◌else◌, List, codes, Option, Some, None, Result, Ok, Err, IsOk, IsSome}
+use Rattle.std.specs.Option.{option_map_or, IsSomeAnd}
+use Rattle.std.specs.Result.{IsOkAnd}
 use Rattle.std.specs.Str.{bytes_eq}
 use Rattle.decimal_text.specs.Expected.{◌>>=◌}
-use Rattle.harmonics_text.specs.declared.book.Book.{Book as TheBook}
-use Rattle.harmonics_text.specs.declared.fault.BookFault.TheVariants as form
-use Rattle.harmonics_text.specs.Reading.{At, book_of}
 use Rattle.question.specs.declared.fault.AskFault.{AskFault}
-use Rattle.question.specs.declared.fault.AskFault.TheVariants.{UnknownCommand, MissingKey}
-use Rattle.question.specs.declared.key.Key.TheVariants as keys
+use Rattle.question.specs.declared.fault.AskFault.TheVariants.{UnknownCommand}
 use Rattle.question.specs.declared.pairs.Pairs.{Pairs}
 use Rattle.question.specs.declared.question.Question.{Question}
 use Rattle.question.specs.Questions.{question_of}
 use Rattle.question.specs.Words.{pairs_of}
 use Rattle.tide_answer.specs.declared.fault.Fault.{Fault}
-use Rattle.tide_answer.specs.declared.fault.Fault.TheVariants.{Ask, TooLong, Book, Refused}
-use Rattle.tide_answer.specs.declared.given.Given.{Given}
+use Rattle.tide_answer.specs.declared.fault.Fault.TheVariants.{Ask, Refused}
 use Rattle.tide_answer.specs.declared.refusal.Refusal.{Refusal}
-use Rattle.tide_answer.specs.declared.refusal.Refusal.TheVariants as refusals
-use Rattle.tide_answer.specs.declared.slot.Slot.TheVariants as slots
 use Rattle.tide_answer.specs.declared.text.Answer.{Answer}
-use Rattle.tide_answer.specs.Answers.{built, answered}
-use Rattle.tide_edge.specs.declared.read_all_fault.ReadAllFault.{ReadAllFault}
-use Rattle.tide_edge.specs.declared.read_all_fault.ReadAllFault.TheVariants as reading
-use Rattle.tide_edge.specs.Whole.{whole}
-use Rattle.zone_time.specs.declared.zone.Zone.TheVariants.{Utc}
+use Rattle.tide_answer.specs.Answers.{built, answered, answered_alone}
 use Rattle.tide_desk.specs.declared.no_answer.NoAnswer.{NoAnswer}
-use Rattle.tide_desk.specs.declared.no_answer.NoAnswer.TheVariants.{Unread, Told}
-use Rattle.tide_desk.specs.NoAnswers.{told}
+use Rattle.tide_desk.specs.NoAnswers.{told, refused_over}
+use Rattle.tide_desk.specs.Readings.{Folder, Folders, files_in, asks_clock, minute_for, given_with}
 
--- the most bytes of a file of harmonic constants
-abbrev pub file_limit : ℕ
-file_limit = 67108864
+-- ---- The words
 
 -- a fault of the crates below, as the run's
 abbrev pub ask_from : {A : Type 0} → Result A AskFault → Result A Fault
@@ -41,21 +29,6 @@ ask_from (Err fault) = Err (Ask fault)
 abbrev pub refused_from : {A : Type 0} → Result A Refusal → Result A Fault
 refused_from (Ok value) = Ok value
 refused_from (Err refusal) = Err (Refused refusal)
-
--- a book, or its first line that breaks a rule
-abbrev pub book_from : Result TheBook At → Result TheBook Fault
-book_from (Ok book) = Ok book
-book_from (Err at) = Err (Book (form.At at.line at.why))
-
-abbrev pub fault_of_reading : ReadAllFault → NoAnswer
-fault_of_reading reading.Failed = Unread
-fault_of_reading reading.TooLong = Told (TooLong slots.File)
-fault_of_reading reading.NoMemory = Told (Refused refusals.NoMemory)
-
--- the bytes of a file, or the fault of reading it
-abbrev pub bytes_from : Result (List ℕ) ReadAllFault → Result (List ℕ) NoAnswer
-bytes_from (Ok bytes) = Ok bytes
-bytes_from (Err fault) = Err (fault_of_reading fault)
 
 -- a run answers one question: it doesn't serve
 abbrev pub asks_to_serve : Pairs → Bool
@@ -71,24 +44,36 @@ asked_of words = do
   is ← refused_from (built question)
   Ok question
 
--- the name of its file
-abbrev pub file_of : Question → Result (List ℕ) Fault
-file_of question = ask_from (ok_or question.file (MissingKey keys.File))
+-- the words ask a question that names a file
+abbrev pub NamesFile : Result Question Fault → Type 0
+NamesFile asked = IsOkAnd asked (λ question. IsSome question.file)
 
--- what is given with a question: universal time, no certificate and no clock
-abbrev pub given : Given
-given = record { zone = Utc; certificate = []; now = pos 0 }
+-- one whose files can all be read
+abbrev pub HasFiles : Folders → Result Question Fault → Type 0
+HasFiles folders asked = IsOkAnd asked (λ question. IsSomeAnd question.file (λ name. IsOk (files_in folders question name)))
 
--- the answer over a file's bytes, with no table
-unfoldable pub answered_from : List ℕ → Question → Result Answer Fault
-answered_from bytes question = do
-  book ← book_from (book_of bytes)
-  refused_from (answered book [] question given)
+-- one that asks for the present minute
+abbrev pub AsksClock : Result Question Fault → Type 0
+AsksClock asked = IsOkAnd asked (λ question. IsTrue (asks_clock question.command))
 
--- the answer to the words, or the first fault: the words, what isn't built, the file's reading, its form, and what is asked
-unfoldable pub answer_of : (List ℕ → Option (List ℕ)) → List (List ℕ) → Result Answer NoAnswer
-answer_of folder words = do
+-- ---- The answer, or the first fault on the way to it
+
+-- over the files, of which the first has this name
+unfoldable pub answered_over : Folders → ℤ → Question → List ℕ → Result Answer NoAnswer
+answered_over folders minute question name = do
+  read ← files_in folders question name
+  refused_over read.table (answered read.book read.table question (given_with read (minute_for question.command minute)))
+
+-- a question that names no file is answered alone
+abbrev pub answered_by : Folders → ℤ → Question → Option (List ℕ) → Result Answer NoAnswer
+answered_by folders minute question None = told (refused_from (answered_alone question))
+answered_by folders minute question (Some name) = answered_over folders minute question name
+
+unfoldable pub answer_from : Folders → ℤ → List (List ℕ) → Result Answer NoAnswer
+answer_from folders minute words = do
   question ← told (asked_of words)
-  name ← told (file_of question)
-  bytes ← bytes_from (whole file_limit (folder name))
-  told (answered_from bytes question)
+  answered_by folders minute question question.file
+
+-- the answer to the words over a folder of files and the present minute
+abbrev pub answer_of : Folder → ℤ → List (List ℕ) → Result Answer NoAnswer
+answer_of folder = answer_from (λ slot. folder)

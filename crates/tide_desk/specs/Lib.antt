@@ -1,4 +1,6 @@
 pub mod Answers
 pub mod NoAnswers
 pub mod Outcomes
+pub mod Readings
+pub mod Worked
 pub mod Workings

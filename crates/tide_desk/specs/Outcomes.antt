@@ -1,10 +1,10 @@
 -- How a run ends, and what it leaves where it wrote, by the answer that is expected (this project).
-use Rattle.std.specs.Prelude.{◌≡◌, ◌<◌, ℕ, Bool, true, false, List, [], ◌++◌, length, take, codes, Result, Ok, Err, IfOk, IsErrAnd}
+use Rattle.std.specs.Prelude.{◌≡◌, ◌<◌, ℕ, Bool, true, false, IsTrue, List, [], ◌++◌, length, take, codes, Result, Ok, Err, IsErrAnd}
 use Rattle.std.specs.Result.{IsOkAnd}
 use Rattle.tide_answer.specs.declared.status.Status.{Status}
-use Rattle.tide_answer.specs.declared.status.Status.TheVariants.{Done, Rejected, Words, FileRefused, Refused, Limit, ReadFault, WriteFault, NoMemory}
+use Rattle.tide_answer.specs.declared.status.Status.TheVariants.{Done, Rejected, ReadFault, WriteFault, NoMemory}
 use Rattle.tide_answer.specs.declared.text.Answer.{Answer}
-use Rattle.tide_edge.specs.Faults.{faults_after}
+use Rattle.tide_edge.specs.Faults.{Rose, counted, faults_after}
 use Rattle.tide_desk.specs.declared.no_answer.NoAnswer.{NoAnswer}
 use Rattle.tide_desk.specs.NoAnswers.{status_of, line_of}
 
@@ -75,6 +75,27 @@ pub record EndsAs (expected : Result Answer NoAnswer) (status : Status) (out err
   pub output : out (is_write_fault status) (output_with expected status)
   pub failed : Bool
   pub line : err failed (line_with expected status)
+
+-- ---- Where a fault of reading comes from
+
+-- the outside stood firm: the files are steady, and no clock that was asked has failed
+pub record IsFirm (steady : Bool) (asked : Type 0) (before after : ℕ) : Type 0 where
+  pub files : IsTrue steady
+  pub clock : ¬ (asked × Rose before after)
+
+-- The count of the files is one more where reading failed, and as before where nothing did. The clock hasn't failed, and
+-- isn't asked after the files have failed.
+pub record FilesFailed {C : Type 0} (unread : Bool) (was is clock_was clock_is : ℕ) (before after : C) : Type 0 where
+  pub count : is ≡ faults_after unread was
+  pub clock : clock_is ≡ clock_was
+  pub unasked : IsTrue unread → after ≡ before
+
+-- reading failed by the clock, which is asked, and the files haven't failed
+pub record ClockFailed (unread : Bool) (asks : Type 0) (was is clock_was clock_is : ℕ) : Type 0 where
+  pub failed : IsTrue unread
+  pub asked : asks
+  pub count : clock_is ≡ counted clock_was
+  pub files : is ≡ was
 
 -- ---- The whole objects
 

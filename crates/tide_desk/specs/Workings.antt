@@ -1,1 +1,3 @@
+pub mod Materials
+pub mod Meetings
 pub mod Telling

@@ -1,105 +1,155 @@
 //! The answer to the words, or the first fault on the way to it.
 
-ghost use Rattle.std.specs.Prelude.{◌≡◌, ℕ, ◌≤◌, List, [], length, Option, IsErr, IfOk, IfErr};
+ghost use Rattle.std.specs.Prelude.{◌≡◌, ◌⊎◌, ℤ, false, IsTrue, IsOk, IfOk, IfErr, OnErr, is_err};
 ghost use Rattle.decimal_text.specs.Expected.{Gives};
-ghost use Rattle.harmonics_text.specs.Books.{IsBook};
-ghost use Rattle.harmonics_text.specs.Reading.{book_of};
-ghost use Rattle.tide_answer.specs.Faults.{wants_memory as fault_wants_memory, IsTold as IsToldFault};
-ghost use Rattle.tide_desk.specs.Answers.{answer_of, asked_of, answered_from, bytes_from, book_from, file_limit, file_of};
-ghost use Rattle.tide_desk.specs.NoAnswers.{IsTold, source_of, wants_memory};
-ghost use Rattle.tide_edge.specs.Excuses.{Meets, is_outside_fault};
+ghost use Rattle.question.specs.Asked.{IsAsked};
+ghost use Rattle.tide_answer.specs.Answers.{answered, answered_alone};
+ghost use Rattle.tide_edge.specs.Clocks.{IsClockMinute};
 ghost use Rattle.tide_edge.specs.Faults.{faults_after};
-ghost use Rattle.tide_edge.specs.Whole.{whole};
+ghost use Rattle.tide_desk.specs.Answers.{AsksClock, HasFiles, NamesFile, answer_from, answer_of, answered_over, asked_of, refused_from};
+ghost use Rattle.tide_desk.specs.NoAnswers.{IsTold, reading_failed, refused_over, source_of, told, wants_memory};
+ghost use Rattle.tide_desk.specs.Outcomes.{ClockFailed, FilesFailed, IsFirm};
+ghost use Rattle.tide_desk.specs.Readings.{Folders, asks_clock, files_in, given_with, minute_for};
+ghost use Rattle.tide_desk.specs.Workings.Materials.{AreMaterials};
+ghost use Rattle.tide_desk.specs.Workings.Meetings.{MeetsIf};
 
 use crate::asking::read_words;
+use crate::materials::Materials;
 use crate::no_answer::NoAnswer;
-use decimal_text::{Bytes, Text, Words};
-use harmonics_text::{Book, read_book};
-use question::{AskFault, Key, Question};
-use station_table::OffsetTable;
+use crate::reading::read_files;
+use decimal_text::{Text, Words};
+use question::{Command, Question};
 use std::alloc::Global;
-use tide_answer::{Answer, Fault, Given, answer};
-use tide_edge::{Files, read_all};
-use zone_time::Zone;
-
-/// The most bytes of a file of harmonic constants.
-pub const FILE_LIMIT: u64 = 67_108_864;
+use tide_answer::{Answer, Fault, Given, answer, answer_alone};
+use tide_edge::{Clock, Files};
 
 /// The text that answers the words, or the first fault in the order of refusals: the words, what
-/// isn't built, the file's reading and its form, and then those of what is asked of the book.
-pub fn answer_words<F: Files>(
+/// isn't built, the files, the clock, and then those of what is asked of the files.
+pub fn answer_words<F: Files, K: Clock>(
     alloc: Global,
     words: &Words,
     files: &mut F,
+    clock: &mut K,
 ) -> Result<Answer, NoAnswer>
-    ensures met { F.tells files.old → Meets source_of (F.steady files.old) (answer_of (F.folder files.old) words.now) result }
-    ensures some { (folder : List ℕ → Option (List ℕ)) × Gives wants_memory (answer_of folder words.now) result }
-    ensures counts { F.faults files.new ≡ faults_after (is_outside_fault source_of result) (F.faults files.old) }
-    ensures unopened { IsErr (asked_of words.now) → files.new ≡ files.old }
+    ensures own { F.tells files.old → K.tells clock.old
+        → MeetsIf (IsFirm (F.steady files.old) (AsksClock (asked_of words.now)) (K.faults clock.old) (K.faults clock.new)) source_of
+        (answer_of (F.folder files.old) (K.minute_held clock.old) words.now) result }
+    ensures some { (folders : Folders) × (minute : ℤ) × MeetsIf (Unit {0}) source_of (answer_from folders minute words.now) result }
     ensures told { IfErr result IsTold }
+    ensures read_fault { FilesFailed (reading_failed result) (F.faults files.old) (F.faults files.new) (K.faults clock.old) (K.faults clock.new) clock.old clock.new
+        ⊎ ClockFailed (reading_failed result) (AsksClock (asked_of words.now)) (F.faults files.old) (F.faults files.new) (K.faults clock.old) (K.faults clock.new) }
+    ensures unopened { ¬ (NamesFile (asked_of words.now)) → files.new ≡ files.old }
+    ensures unasked { ¬ (AsksClock (asked_of words.now)) → clock.new ≡ clock.old }
+    ensures asked_last { F.tells files.old → ¬ (HasFiles (λ slot. F.folder files.old) (asked_of words.now)) → clock.new ≡ clock.old }
     ensures same_files { F.folder files.new ≡ F.folder files.old }
     ensures as_steady { F.steady files.new ≡ F.steady files.old }
     ensures still_tells { F.tells files.old → F.tells files.new }
+    ensures same_minute { K.minute_held clock.new ≡ K.minute_held clock.old }
+    ensures clock_still_tells { K.tells clock.old → K.tells clock.new }
 {
     let question = read_words(alloc, words)?;
-    let name = file_name(&question)?;
-    let bytes = read_file(alloc, files, name)?;
-    Ok(answer_from(alloc, &bytes, &question)?)
-}
-
-// The name of the file that a question needs.
-fn file_name(question: &Question) -> Result<&Text, Fault>
-    ensures found { IfOk result (λ name. file_of question.now ≡ Ok name.now) }
-    ensures missing { IfErr result (λ fault. file_of question.now ≡ Err fault) }
-    ensures told { IfErr result (IsToldFault []) }
-{
     match &question.file {
-        Some(name) => Ok(name),
-        None => Err(Fault::Ask(AskFault::MissingKey(Key::File))),
+        Some(name) => answer_over(alloc, &question, name, files, clock),
+        None => answer_without(alloc, &question),
     }
 }
 
-fn read_file<F: Files>(alloc: Global, files: &mut F, name: &Text) -> Result<Bytes, NoAnswer>
-    ensures met { F.tells files.old
-        → Meets source_of (F.steady files.old) (bytes_from (whole file_limit (F.folder files.old name.now))) result }
-    ensures some { (file : Option (List ℕ)) × Gives wants_memory (bytes_from (whole file_limit file)) result }
-    ensures within { IfOk result (λ bytes. length bytes ≤ file_limit) }
-    ensures counts { F.faults files.new ≡ faults_after (is_outside_fault source_of result) (F.faults files.old) }
+// The answer to a question that names no file.
+fn answer_without(alloc: Global, question: &Question) -> Result<Answer, NoAnswer>
+    requires { IsAsked question.now }
+    ensures exact { Gives wants_memory (told (refused_from (answered_alone question.now))) result }
     ensures told { IfErr result IsTold }
+    ensures read { reading_failed result ≡ false }
+{
+    match answer_alone(alloc, question) {
+        Ok(answer) => Ok(answer),
+        Err(refusal) => Err(NoAnswer::Told(Fault::Refused(refusal))),
+    }
+}
+
+// The answer over files, of which the first has this name. The clock is asked after them.
+fn answer_over<F: Files, K: Clock>(
+    alloc: Global,
+    question: &Question,
+    name: &Text,
+    files: &mut F,
+    clock: &mut K,
+) -> Result<Answer, NoAnswer>
+    requires { IsAsked question.now }
+    ensures own { F.tells files.old → K.tells clock.old
+        → MeetsIf (IsFirm (F.steady files.old) (IsTrue (asks_clock question.now.command)) (K.faults clock.old) (K.faults clock.new)) source_of
+        (answered_over (λ slot. F.folder files.old) (K.minute_held clock.old) question.now name.now) result }
+    ensures some { (folders : Folders) × (minute : ℤ) × MeetsIf (Unit {0}) source_of (answered_over folders minute question.now name.now) result }
+    ensures told { IfErr result IsTold }
+    ensures read_fault { FilesFailed (reading_failed result) (F.faults files.old) (F.faults files.new) (K.faults clock.old) (K.faults clock.new) clock.old clock.new
+        ⊎ ClockFailed (reading_failed result) (IsTrue (asks_clock question.now.command)) (F.faults files.old) (F.faults files.new) (K.faults clock.old) (K.faults clock.new) }
+    ensures unasked { ¬ (IsTrue (asks_clock question.now.command)) → clock.new ≡ clock.old }
+    ensures asked_last { F.tells files.old → ¬ (IsOk (files_in (λ slot. F.folder files.old) question.now name.now)) → clock.new ≡ clock.old }
     ensures same_files { F.folder files.new ≡ F.folder files.old }
     ensures as_steady { F.steady files.new ≡ F.steady files.old }
     ensures still_tells { F.tells files.old → F.tells files.new }
+    ensures same_minute { K.minute_held clock.new ≡ K.minute_held clock.old }
+    ensures clock_still_tells { K.tells clock.old → K.tells clock.new }
 {
-    match read_all(alloc, files, name, FILE_LIMIT) {
-        Ok(bytes) => Ok(bytes),
-        Err(fault) => Err(NoAnswer::from(fault)),
+    let read = read_files(alloc, files, question, name)?;
+    let now = read_minute(clock, question.command)?;
+    answer_with(alloc, read, question, now)
+}
+
+// The present minute where the command asks for it, and else none.
+fn read_minute<K: Clock>(clock: &mut K, command: Command) -> Result<i64, NoAnswer>
+    ensures own { K.tells clock.old → IfOk result (λ now. now ≡ minute_for command (K.minute_held clock.old)) }
+    ensures some { IfOk result (λ now. (minute : ℤ) × (now ≡ minute_for command minute)) }
+    ensures in_range { IfOk result IsClockMinute }
+    ensures unread { IfErr result (λ none. none ≡ NoAnswer.Unread) }
+    ensures asked { OnErr result (IsTrue (asks_clock command)) }
+    ensures counts { K.faults clock.new ≡ faults_after (is_err result) (K.faults clock.old) }
+    ensures unasked { ¬ (IsTrue (asks_clock command)) → clock.new ≡ clock.old }
+    ensures same_minute { K.minute_held clock.new ≡ K.minute_held clock.old }
+    ensures still_tells { K.tells clock.old → K.tells clock.new }
+{
+    if !asks_clock(command) {
+        return Ok(0);
+    }
+    match clock.minute() {
+        Ok(minute) => Ok(minute),
+        Err(_) => Err(NoAnswer::Unread),
     }
 }
 
-// The answer over a file's bytes.
-#[tactic(auto, unfolding(crate::specs::Answers::answered_from))]
-fn answer_from(alloc: Global, bytes: &Bytes, question: &Question) -> Result<Answer, Fault>
-    requires { length bytes.now ≤ file_limit }
-    ensures exact { Gives fault_wants_memory (answered_from bytes.now question.now) result }
-    ensures told { IfErr result (IsToldFault []) }
+fn asks_clock(command: Command) -> bool
+    ensures { result ≡ asks_clock command }
 {
-    let book = read_form(alloc, bytes)?;
-    let given = Given {
-        zone: Zone::Utc,
-        certificate: Bytes::from_vec(Vec::new(alloc)),
-        now: 0,
-    };
-    Ok(answer(alloc, &book, &OffsetTable::new(alloc), question, &given)?)
+    matches!(command, Command::Clock)
 }
 
-fn read_form(alloc: Global, bytes: &Bytes) -> Result<Book, Fault>
-    requires { length bytes.now ≤ file_limit }
-    ensures exact { Gives fault_wants_memory (book_from (book_of bytes.now)) result }
-    ensures sound { IfOk result IsBook }
-    ensures told { IfErr result (IsToldFault []) }
+// The answer over what the files hold, at a minute.
+fn answer_with(
+    alloc: Global,
+    read: Materials,
+    question: &Question,
+    now: i64,
+) -> Result<Answer, NoAnswer>
+    requires materials { AreMaterials read }
+    requires asked { IsAsked question.now }
+    requires now { IsClockMinute now }
+    ensures exact { Gives wants_memory (refused_over read.table (answered read.book read.table question.now (given_with read now))) result }
+    ensures told { IfErr result IsTold }
+    ensures read { reading_failed result ≡ false }
 {
-    match read_book(alloc, bytes.as_slice()) {
-        Ok(book) => Ok(book),
-        Err(fault) => Err(Fault::from(fault)),
+    let Materials {
+        book,
+        table,
+        zone,
+        certificate,
+    } = read;
+    let given = Given {
+        zone,
+        certificate,
+        now,
+    };
+    match answer(alloc, &book, &table, question, &given) {
+        Ok(answer) => Ok(answer),
+        Err(refusal) => Err(NoAnswer::Refused(refusal, table)),
     }
 }

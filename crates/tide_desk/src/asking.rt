@@ -1,7 +1,8 @@
 //! What the words ask.
 
-ghost use Rattle.std.specs.Prelude.{◌≡◌, [], IfErr};
+ghost use Rattle.std.specs.Prelude.{◌≡◌, [], IfOk, IfErr};
 ghost use Rattle.decimal_text.specs.Expected.{Gives};
+ghost use Rattle.question.specs.Asked.{IsAsked};
 ghost use Rattle.question.specs.Questions.{wants_memory as ask_wants_memory};
 ghost use Rattle.question.specs.Words.{pairs_of};
 ghost use Rattle.tide_answer.specs.Faults.{wants_memory, IsTold};
@@ -16,6 +17,7 @@ use tide_answer::{Fault, check_built};
 #[tactic(auto, unfolding(crate::specs::Answers::asked_of))]
 pub fn read_words(alloc: Global, words: &Words) -> Result<Question, Fault>
     ensures exact { Gives wants_memory (asked_of words.now) result }
+    ensures asked { IfOk result IsAsked }
     ensures told { IfErr result (IsTold []) }
 {
     let question = question_in_words(alloc, words)?;
@@ -24,7 +26,8 @@ pub fn read_words(alloc: Global, words: &Words) -> Result<Question, Fault>
 }
 
 fn question_in_words(alloc: Global, words: &Words) -> Result<Question, AskFault>
-    ensures { Gives ask_wants_memory (question_in (pairs_of words.now)) result }
+    ensures exact { Gives ask_wants_memory (question_in (pairs_of words.now)) result }
+    ensures asked { IfOk result IsAsked }
 {
     let pairs = pairs_of_words(alloc, words)?;
     if asks_to_serve(&pairs) {

@@ -1,12 +1,14 @@
 //! One run, from the words to the status.
 
-ghost use Rattle.std.specs.Prelude.{◌≡◌, ◌⊎◌, ℕ, Bool, List, Option, IsTrue, IsErr, if◌then◌else◌};
-ghost use Rattle.tide_edge.specs.Excuses.{is_outside};
-ghost use Rattle.tide_edge.specs.Faults.{faults_after};
-ghost use Rattle.tide_desk.specs.Answers.{answer_of, asked_of};
-ghost use Rattle.tide_desk.specs.NoAnswers.{IsTold, source_of, status_of, line_of};
-ghost use Rattle.tide_desk.specs.Outcomes.{EndsAs, Wrote, IsUntouched, IsSilent, is_read_fault};
-ghost use Rattle.tide_desk.specs.Workings.Telling.{Tells};
+ghost use Rattle.std.specs.Prelude.{◌≡◌, ◌⊎◌, ℤ, Bool, if◌then◌else◌};
+ghost use Rattle.station_table.specs.declared.offsets.Offsets.{Offsets};
+ghost use Rattle.tide_answer.specs.Faults.{IsTold as IsToldFault, line_of as line_of_fault, status_of as status_of_fault};
+ghost use Rattle.tide_answer.specs.declared.status.Status.{Status};
+ghost use Rattle.tide_desk.specs.Answers.{AsksClock, HasFiles, NamesFile, answer_from, answer_of, asked_of};
+ghost use Rattle.tide_desk.specs.NoAnswers.{IsTold};
+ghost use Rattle.tide_desk.specs.Outcomes.{ClockFailed, EndsAs, FilesFailed, IsFirm, IsSilent, IsUntouched, Wrote, is_read_fault};
+ghost use Rattle.tide_desk.specs.Readings.{Folders};
+ghost use Rattle.tide_desk.specs.Workings.Telling.{Tells, TellsFault};
 
 use crate::answering::answer_words;
 use crate::no_answer::NoAnswer;
@@ -18,33 +20,39 @@ use tide_edge::{Clock, Files, Sink, write_all};
 
 /// Answers the words from the files: writes the whole answer to `out`, or one line that says why
 /// there is none to `err`. A failure to write to `err` changes nothing of the status. Nothing is
-/// tried again after a failure, no file is opened for words that ask nothing, and no clock is asked.
+/// tried again after a failure, no file is opened for words that name none, and the clock is asked
+/// for the command `clock` alone, after all files were read.
 pub fn run<F: Files, O: Sink, E: Sink, K: Clock>(
     alloc: Global,
     words: &Words,
     files: &mut F,
     out: &mut O,
     err: &mut E,
-    _clock: &mut K,
+    clock: &mut K,
 ) -> Status
-    ensures own_files { F.tells files.old → (IsTrue (F.steady files.old)) ⊎ (¬ (result ≡ Status.ReadFault))
-        → EndsAs (answer_of (F.folder files.old) words.now) result
+    ensures own_files { F.tells files.old → K.tells clock.old
+        → IsFirm (F.steady files.old) (AsksClock (asked_of words.now)) (K.faults clock.old) (K.faults clock.new) ⊎ (¬ (result ≡ Status.ReadFault))
+        → EndsAs (answer_of (F.folder files.old) (K.minute_held clock.old) words.now) result
         (Wrote (O.tells out.old) (O.tells out.new) (O.taken out.old) (O.taken out.new) (O.faults out.old) (O.faults out.new))
         (Wrote (E.tells err.old) (E.tells err.new) (E.taken err.old) (E.taken err.new) (E.faults err.old) (E.faults err.new)) }
-    ensures some_files { (folder : List ℕ → Option (List ℕ))
-        × EndsAs (answer_of folder words.now) result
+    ensures some_files { (folders : Folders) × (minute : ℤ)
+        × EndsAs (answer_from folders minute words.now) result
         (Wrote (O.tells out.old) (O.tells out.new) (O.taken out.old) (O.taken out.new) (O.faults out.old) (O.faults out.new))
         (Wrote (E.tells err.old) (E.tells err.new) (E.taken err.old) (E.taken err.new) (E.faults err.old) (E.faults err.new)) }
     ensures unwritten { IsUntouched result out.old out.new }
     ensures untold { IsSilent result err.old err.new }
-    ensures read_fault { F.faults files.new ≡ faults_after (is_read_fault result) (F.faults files.old) }
-    ensures unopened { IsErr (asked_of words.now) → files.new ≡ files.old }
-    ensures unasked { _clock.new ≡ _clock.old }
+    ensures read_fault { FilesFailed (is_read_fault result) (F.faults files.old) (F.faults files.new) (K.faults clock.old) (K.faults clock.new) clock.old clock.new
+        ⊎ ClockFailed (is_read_fault result) (AsksClock (asked_of words.now)) (F.faults files.old) (F.faults files.new) (K.faults clock.old) (K.faults clock.new) }
+    ensures unopened { ¬ (NamesFile (asked_of words.now)) → files.new ≡ files.old }
+    ensures unasked { ¬ (AsksClock (asked_of words.now)) → clock.new ≡ clock.old }
+    ensures asked_last { F.tells files.old → ¬ (HasFiles (λ slot. F.folder files.old) (asked_of words.now)) → clock.new ≡ clock.old }
     ensures same_files { F.folder files.new ≡ F.folder files.old }
     ensures as_steady { F.steady files.new ≡ F.steady files.old }
     ensures still_tells { F.tells files.old → F.tells files.new }
+    ensures same_minute { K.minute_held clock.new ≡ K.minute_held clock.old }
+    ensures clock_still_tells { K.tells clock.old → K.tells clock.new }
 {
-    match answer_words(alloc, words, files) {
+    match answer_words(alloc, words, files, clock) {
         Ok(answer) => match write_all(out, answer.text.as_slice()) {
             Ok(()) => judged(answer.rejected),
             Err(_) => refuse(err, Status::WriteFault, b"write fault\n"),
@@ -72,18 +80,23 @@ fn tell<E: Sink>(alloc: Global, none: NoAnswer, err: &mut E) -> Status
 {
     match none {
         NoAnswer::Unread => refuse(err, Status::ReadFault, b"read fault\n"),
-        NoAnswer::Told(fault) => tell_fault(alloc, fault, err),
+        NoAnswer::Told(fault) => {
+            let table = OffsetTable::new(alloc);
+            tell_fault(alloc, &fault, &table, err)
+        }
+        NoAnswer::Refused(refusal, table) => {
+            tell_fault(alloc, &Fault::Refused(refusal), &table, err)
+        }
     }
 }
 
-fn tell_fault<E: Sink>(alloc: Global, fault: Fault, err: &mut E) -> Status
-    requires { IsTold (NoAnswer.Told fault) }
-    ensures { Tells (NoAnswer.Told fault) result
+fn tell_fault<E: Sink>(alloc: Global, fault: &Fault, table: &OffsetTable, err: &mut E) -> Status
+    requires { IsToldFault table.now fault.now }
+    ensures { TellsFault (status_of_fault fault.now) (line_of_fault table.now fault.now) result
         (Wrote (E.tells err.old) (E.tells err.new) (E.taken err.old) (E.taken err.new) (E.faults err.old) (E.faults err.new)) }
 {
-    let table = OffsetTable::new(alloc);
-    match fault_line(alloc, &fault, &table) {
-        Ok(line) => refuse(err, fault_status(&fault), line.as_slice()),
+    match fault_line(alloc, fault, table) {
+        Ok(line) => refuse(err, fault_status(fault), line.as_slice()),
         Err(_) => refuse(err, Status::NoMemory, b"no memory\n"),
     }
 }

@@ -1,6 +1,6 @@
-//! What a run comes to where nothing can fail.
+//! What a run comes to over objects in memory.
 
-ghost use Rattle.std.specs.Prelude.{◌≡◌, [], length};
+ghost use Rattle.std.specs.Prelude.{◌≡◌, []};
 ghost use Rattle.std.specs.Result.{IsOkAnd};
 ghost use Rattle.tide_edge.specs.Memory.{folder_of};
 ghost use Rattle.tide_desk.specs.Answers.{answer_of};
@@ -11,8 +11,8 @@ use std::alloc::Global;
 use tide_answer::Status;
 use tide_edge::{FixedClock, MemoryFiles, MemorySink};
 
-/// Over steady files in memory and an empty sink: where the run is done, the sink has taken exactly
-/// the answer's text.
+/// Over files and a clock in memory and an empty sink: where the run is done, the sink has taken
+/// exactly the answer's text.
 pub fn run_in_memory(
     alloc: Global,
     words: &Words,
@@ -21,10 +21,9 @@ pub fn run_in_memory(
     err: &mut MemorySink,
     clock: &mut FixedClock,
 ) -> Status
-    requires steady { length files.old.calls.fails ≡ 0 }
-    requires empty { out.old.taken ≡ [] }
+    requires { out.old.taken ≡ [] }
     ensures { result ≡ Status.Done
-        → IsOkAnd (answer_of (folder_of files.old.files) words.now) (λ answer. out.new.taken ≡ answer.text) }
+        → IsOkAnd (answer_of (folder_of files.old.files) clock.old.minute words.now) (λ answer. out.new.taken ≡ answer.text) }
 {
     run(alloc, words, files, out, err, clock)
 }

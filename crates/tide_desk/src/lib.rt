@@ -9,12 +9,16 @@ mod answering;
 mod asking;
 mod desk;
 mod laws;
+mod materials;
 mod no_answer;
+mod reading;
+mod worked;
 
 pub use desk::run;
 pub use laws::run_in_memory;
 pub use no_answer::NoAnswer;
 pub use tide_answer::Status;
+pub use worked::{worked_faults, worked_files};
 
 #[cfg(test)]
 mod tests;

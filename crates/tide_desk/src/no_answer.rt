@@ -1,15 +1,17 @@
 //! Why the words of a run have no answer.
 
-use tide_answer::{Fault, Refusal, Slot};
-use tide_edge::ReadAllFault;
+use station_table::OffsetTable;
+use tide_answer::{Fault, Refusal};
 
 /// Why the words of a run have no answer.
-#[derive(Clone, Copy, Debug)]
+#[derive(Debug, Drop)]
 pub enum NoAnswer {
-    /// A file couldn't be opened or read.
+    /// A file couldn't be opened or read, or the clock couldn't be read.
     Unread,
-    /// What was asked, or read, has no answer.
+    /// The words ask nothing, a file has no reading, or a question that names no file has no answer.
     Told(Fault),
+    /// What is asked of the files has no answer. The table is the one that was read.
+    Refused(Refusal, OffsetTable),
 }
 
 impl From<Fault> for NoAnswer {
@@ -20,20 +22,5 @@ impl From<Fault> for NoAnswer {
 
     fn from(fault: Fault) -> NoAnswer {
         NoAnswer::Told(fault)
-    }
-}
-
-impl From<ReadAllFault> for NoAnswer {
-    ghost use Rattle.std.specs.Prelude.{◌≡◌};
-    ghost use Rattle.tide_desk.specs.Answers.{fault_of_reading};
-
-    ghost from_gives = { λ reading none. none ≡ fault_of_reading reading };
-
-    fn from(fault: ReadAllFault) -> NoAnswer {
-        match fault {
-            ReadAllFault::Failed => NoAnswer::Unread,
-            ReadAllFault::TooLong => NoAnswer::Told(Fault::TooLong(Slot::File)),
-            ReadAllFault::NoMemory => NoAnswer::Told(Fault::Refused(Refusal::NoMemory)),
-        }
     }
 }

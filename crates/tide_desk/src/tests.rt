@@ -1,7 +1,9 @@
+mod files;
 mod rows;
 
 use super::*;
 use decimal_text::{Bytes, Text, Words};
+use files::*;
 use rows::*;
 use std::alloc::{AllocError, Global};
 use std::process::Abort;
@@ -48,18 +50,27 @@ struct Fails {
     files: u64,
     out: u64,
     err: u64,
+    clock: u64,
 }
 
 const NONE: Fails = Fails {
     files: 0,
     out: 0,
     err: 0,
+    clock: 0,
 };
 
 fn only(alloc: Global, number: u64) -> Result<Vec<u64>, AllocError> {
     let mut numbers = Vec::new(alloc);
     numbers.push(number)?;
     Ok(numbers)
+}
+
+fn named(alloc: Global, name: &str, bytes: Bytes) -> Result<NamedFile, AllocError> {
+    Ok(NamedFile {
+        name: Text::from_str(alloc, name)?,
+        bytes,
+    })
 }
 
 // Runs over a file `pier.txt`. A write takes at most `most` bytes.
@@ -70,17 +81,24 @@ fn run_over(
     most: u64,
     fails: Fails,
 ) -> Result<Outcome, AllocError> {
-    let words = words_of(alloc, line)?;
-    let named = NamedFile {
-        name: Text::from_str(alloc, "pier.txt")?,
-        bytes: file,
-    };
     let mut held = Vec::new(alloc);
-    held.push(named)?;
+    held.push(named(alloc, "pier.txt", file)?)?;
+    run_over_all(alloc, held, line, most, fails)
+}
+
+// Runs over files, with a clock at 2000-01-10T03:00Z.
+fn run_over_all(
+    alloc: Global,
+    held: Vec<NamedFile>,
+    line: &str,
+    most: u64,
+    fails: Fails,
+) -> Result<Outcome, AllocError> {
+    let words = words_of(alloc, line)?;
     let mut files = MemoryFiles::new(held, only(alloc, fails.files)?);
     let mut out = MemorySink::new(alloc, most.max(1), 1_000_000, only(alloc, fails.out)?)?;
     let mut err = MemorySink::new(alloc, most.max(1), 4096, only(alloc, fails.err)?)?;
-    let mut clock = FixedClock::new(0, Vec::new(alloc));
+    let mut clock = FixedClock::new(15_791_220, only(alloc, fails.clock)?);
     let status = run(alloc, &words, &mut files, &mut out, &mut err, &mut clock);
     Ok(Outcome {
         status,
@@ -144,6 +162,15 @@ fn stations_are_listed(rt: HostRuntime) -> Result<(), Fail> {
     let file = pier_with(alloc, 16, "S2 1 0\nQuay\n0:00\n2 knots^2\nx 0 0")?;
     let outcome = run_over(alloc, file, "stations|file=pier.txt", 4096, NONE)?;
     assert_outcome(&rt, &outcome, 0, "Ref feet Pier\nRef knots^2 Quay\n", "");
+    Ok(())
+}
+
+#[test]
+fn the_clock_is_asked_for_its_minute(rt: HostRuntime) -> Result<(), Fail> {
+    let alloc = rt.alloc();
+    let words = "clock|file=pier.txt|station=Pier";
+    let outcome = run_over(alloc, pier_with(alloc, 0, "")?, words, 4096, NONE)?;
+    assert_outcome(&rt, &outcome, 0, NOW, "");
     Ok(())
 }
 
@@ -223,36 +250,86 @@ fn a_file_may_have_67108864_bytes(rt: HostRuntime) -> Result<(), Fail> {
 }
 
 #[test]
-fn a_failed_write_ends_the_run(rt: HostRuntime) -> Result<(), Fail> {
+fn each_file_has_its_place_in_the_order(rt: HostRuntime) -> Result<(), Fail> {
     let alloc = rt.alloc();
-    for (failing, out) in [(1, ""), (2, "Pier\n2000-"), (3, "Pier\n2000-01-10 06:0")] {
-        let file = pier_with(alloc, 0, "")?;
+    for case in FILE_CASES {
+        let mut held = Vec::new(alloc);
+        let pier = pier_with(alloc, case.line, case.text)?;
+        held.push(named(alloc, "pier.txt", pier)?)?;
+        for (name, file) in [("o.csv", case.offsets), ("zone", case.zone)] {
+            if let Some(text) = file {
+                let bytes = Bytes::from_vec(text.as_bytes().to_vec(alloc)?);
+                held.push(named(alloc, name, bytes)?)?;
+            }
+        }
         let fails = Fails {
-            out: failing,
+            clock: case.clock_fails,
             ..NONE
         };
-        let outcome = run_over(alloc, file, PREDICT, 10, fails)?;
-        assert_outcome(&rt, &outcome, 7, out, "write fault\n");
+        let outcome = run_over_all(alloc, held, case.words, 4096, fails)?;
+        assert_outcome(&rt, &outcome, case.status, "", case.line_told);
     }
     Ok(())
 }
 
 #[test]
-fn a_failed_read_ends_the_run(rt: HostRuntime) -> Result<(), Fail> {
+fn files_have_limits(rt: HostRuntime) -> Result<(), Fail> {
     let alloc = rt.alloc();
-    for failing in [1, 2, 3] {
+    for (name, length, words, line) in [
+        ("o.csv", 67_108_865, OFFSETS, "offsets: too long\n"),
+        ("zone", 1_048_577, ZONE, "zone: too long\n"),
+    ] {
+        let mut held = Vec::new(alloc);
+        held.push(named(alloc, "pier.txt", pier_with(alloc, 0, "")?)?)?;
+        let bytes = Bytes::from_vec(vec![in alloc; b'#'; length]?);
+        held.push(named(alloc, name, bytes)?)?;
+        let outcome = run_over_all(alloc, held, words, 4096, NONE)?;
+        assert_outcome(&rt, &outcome, 3, "", line);
+    }
+    Ok(())
+}
+
+#[test]
+fn each_call_of_the_files_may_fail(rt: HostRuntime) -> Result<(), Fail> {
+    let alloc = rt.alloc();
+    // the file is opened once and read to its end once
+    for failing in 1..=4 {
         let file = pier_with(alloc, 0, "")?;
         let fails = Fails {
             files: failing,
             ..NONE
         };
         let outcome = run_over(alloc, file, PREDICT, 4096, fails)?;
-        assert_outcome(&rt, &outcome, 6, "", "read fault\n");
+        if failing < 4 {
+            assert_outcome(&rt, &outcome, 6, "", "read fault\n");
+        } else {
+            assert_outcome(&rt, &outcome, 0, DAY, "");
+        }
     }
-    // the file is opened once and read to its end once
-    let fails = Fails { files: 4, ..NONE };
-    let outcome = run_over(alloc, pier_with(alloc, 0, "")?, PREDICT, 4096, fails)?;
-    assert_outcome(&rt, &outcome, 0, DAY, "");
+    Ok(())
+}
+
+#[test]
+fn each_write_may_fail(rt: HostRuntime) -> Result<(), Fail> {
+    let alloc = rt.alloc();
+    // 195 bytes in pieces of ten
+    for failing in 1..=21 {
+        let file = pier_with(alloc, 0, "")?;
+        let fails = Fails {
+            out: failing,
+            ..NONE
+        };
+        let outcome = run_over(alloc, file, PREDICT, 10, fails)?;
+        let out = outcome.out.as_slice();
+        if failing < 21 {
+            assert_eq!(rt; outcome.status.number(), 7);
+            assert_eq!(rt; out.len() as u64, 10 * (failing - 1));
+            assert!(rt; DAY.as_bytes().starts_with(out));
+            assert_eq!(rt; outcome.err.as_slice(), b"write fault\n".as_slice());
+        } else {
+            assert_outcome(&rt, &outcome, 0, DAY, "");
+        }
+    }
     Ok(())
 }
 

@@ -3,11 +3,16 @@ use Rattle.std.specs.Prelude.{◌≡◌, ◌⊎◌, ℕ, Bool, false, List, code
 use Rattle.tide_answer.specs.declared.status.Status.{Status}
 use Rattle.tide_answer.specs.declared.status.Status.TheVariants.{NoMemory}
 use Rattle.tide_desk.specs.declared.no_answer.NoAnswer.{NoAnswer}
-use Rattle.tide_edge.specs.Excuses.{is_outside}
-use Rattle.tide_desk.specs.NoAnswers.{status_of, line_of, source_of}
+use Rattle.tide_desk.specs.NoAnswers.{status_of, line_of, is_unread}
 
--- its status with its line; or want of memory with its own, but not for a file that couldn't be read
+-- a status with its line; or want of memory with its own
+abbrev pub TellsFault : Status → List ℕ → Status → (Bool → List ℕ → Type 0) → Type 0
+TellsFault own line status err =
+    ((status ≡ own) × ((failed : Bool) × err failed line))
+    ⊎ ((status ≡ NoMemory) × ((failed : Bool) × err failed (codes "no memory\n")))
+
+-- the same of what kept the words from an answer; but want of memory isn't told of what couldn't be read
 abbrev pub Tells : NoAnswer → Status → (Bool → List ℕ → Type 0) → Type 0
 Tells none status err =
     ((status ≡ status_of none) × ((failed : Bool) × err failed (line_of none)))
-    ⊎ ((status ≡ NoMemory) × (is_outside (source_of none) ≡ false) × ((failed : Bool) × err failed (codes "no memory\n")))
+    ⊎ ((status ≡ NoMemory) × (is_unread none ≡ false) × ((failed : Bool) × err failed (codes "no memory\n")))

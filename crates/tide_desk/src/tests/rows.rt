@@ -9,6 +9,12 @@ pub const DAY: &str = "Pier\n\
 pub const PREDICT: &str =
     "predict|file=pier.txt|station=Pier|begin=2000-01-10T00:00Z|end=2000-01-11T00:00Z";
 
+pub const NOW: &str = "Pier\nNow 2000-01-10 03:00 UTC       0.00 feet  Falling\n\
+    2000-01-10 06:00 UTC      -1.00 feet  Low Tide\n\
+    2000-01-10 11:59 UTC       1.00 feet  High Tide\n\
+    2000-01-10 18:00 UTC      -1.00 feet  Low Tide\n\
+    2000-01-10 23:59 UTC       1.00 feet  High Tide\n";
+
 // A line of the file and its text, a span, and its listing.
 pub const LISTINGS: &[(usize, &str, &str, &str, &str)] = &[
     (0, "", "2000-01-10T00:00Z", "2000-01-11T00:00Z", DAY),
@@ -25,6 +31,17 @@ pub const LISTINGS: &[(usize, &str, &str, &str, &str)] = &[
         "2000-01-10T23:59Z",
         "2000-01-11T00:00Z",
         "Pier\n2000-01-10 23:59 UTC       1.00 feet  High Tide\n",
+    ),
+    (
+        15,
+        "0 knots",
+        "2000-01-10T00:00Z",
+        "2000-01-10T12:00Z",
+        "Pier\n\
+         2000-01-10 02:59 UTC       0.01 knots  Slack Ebb Begins\n\
+         2000-01-10 06:00 UTC      -1.00 knots  Max Ebb\n\
+         2000-01-10 09:00 UTC       0.00 knots  Slack Flood Begins\n\
+         2000-01-10 11:59 UTC       1.00 knots  Max Flood\n",
     ),
     (0, "", "2000-01-10T23:58Z", "2000-01-10T23:59Z", "Pier\n"),
     (0, "", "2000-01-10T00:00Z", "2000-01-10T00:00Z", "Pier\n"),
@@ -170,42 +187,7 @@ pub const REFUSALS: &[(usize, &str, &str, u8, &str)] = &[
         2,
         "words: station is missing\n",
     ),
-    (
-        0,
-        "",
-        "certify|file=quay.txt|station=Pier|begin=2000-01-10T00:00Z|end=2000-01-11T00:00Z",
-        4,
-        "refused: not built\n",
-    ),
-    (
-        0,
-        "",
-        "predict|file=quay.txt|station=Pier|begin=2000-01-10T00:00Z|end=2000-01-11T00:00Z|mark=1",
-        4,
-        "refused: not built\n",
-    ),
-    (
-        0,
-        "",
-        "predict|file=quay.txt|station=Pier|begin=2000-01-10T00:00Z|end=2000-01-11T00:00Z|layout=csv",
-        4,
-        "refused: not built\n",
-    ),
-    (
-        0,
-        "",
-        "stations|file=quay.txt|offsets=o.csv",
-        4,
-        "refused: not built\n",
-    ),
-    (
-        0,
-        "",
-        "clock|file=quay.txt|station=Pier",
-        4,
-        "refused: not built\n",
-    ),
-    (0, "", "sample|seed=0", 4, "refused: not built\n"),
+    (0, "", "clock|file=quay.txt|station=Pier", 6, "read fault\n"),
     (0, "", "stations|file=quay.txt", 6, "read fault\n"),
     (0, "", "stations|file==pier.txt", 6, "read fault\n"),
     (
@@ -234,7 +216,6 @@ pub const REFUSALS: &[(usize, &str, &str, u8, &str)] = &[
     (15, "0 knots^2", NO_STATION, 4, "refused: no station\n"),
     (15, "0 knots^2", BACKWARD, 4, "refused: hydraulic\n"),
     (15, "0 knots^2", PREDICT, 4, "refused: hydraulic\n"),
-    (15, "0 knots", PREDICT, 4, "refused: not built\n"),
     (0, "", BACKWARD, 4, "refused: backward span\n"),
     (
         0,

@@ -1,68 +1,73 @@
-use Rattle.std.proofs.Common.{None, refl}
+use Rattle.std.proofs.Common.{None, inl, refl}
+use Rattle.std.specs.Prelude.{pos}
 use Rattle.std.proofs.lemmas.Result.{err_from_is_err_and}
-use Rattle.tide_desk.specs.NoAnswers.{source_of}
-use Rattle.tide_desk.proofs.AnswerLemmas.{told_inside, met_at_words, some_at_words, met_at_name, some_at_name, met_at_bytes, some_at_bytes, met_at_answer, some_at_answer, answer_whole}
+use Rattle.tide_desk.specs.Answers.{AsksClock, answer_from, asked_of}
+use Rattle.tide_desk.specs.NoAnswers.{told}
+use Rattle.tide_desk.specs.Outcomes.{IsFirm}
+use Rattle.tide_desk.proofs.ReadingLemmas.{has_files, meets_alone, meets_at, meets_named, names_file, told_excuses}
 use Rattle.tide_desk.proofs.answering.answer_words.Goals as goal
 
-pub returns-in_err-question-clause-met : goal.returns-in_err-question-clause-met
-returns-in_err-question-clause-met g c =
-    λ t. let p = err_from_is_err_and c.from_residual.result c.from_residual.ensures.1 in
-    rw (p.1, p.2) (met_at_words _ (g.F.Files.folder c.args.files.now) c.args.words.now _ c.in_err-question.ensures.exact)
+pub returns-in_err-question-clause-own : goal.returns-in_err-question-clause-own
+unfolding answer_from
+returns-in_err-question-clause-own g c =
+    λ t k. let firm = IsFirm (g.F.Files.steady c.args.files.now) (AsksClock (asked_of c.args.words.now)) (g.K.Clock.faults c.args.clock.now) (g.K.Clock.faults c.args.clock.now) in
+    meets_at firm (told (asked_of c.args.words.now)) _ c.from_residual.result _ c.from_residual.ensures.1 (told_excuses firm (asked_of c.args.words.now) _ c.in_err-question.ensures.exact)
 
 pub returns-in_err-question-clause-some : goal.returns-in_err-question-clause-some
-returns-in_err-question-clause-some g c =
+unfolding answer_from
+returns-in_err-question-clause-some g c = (
+  λ slot name. None,
+  pos 0,
+  meets_at (Unit {0}) (told (asked_of c.args.words.now)) _ c.from_residual.result _ c.from_residual.ensures.1 (told_excuses (Unit {0}) (asked_of c.args.words.now) _ c.in_err-question.ensures.exact),
+)
+
+pub returns-in_err-question-clause-read_fault : goal.returns-in_err-question-clause-read_fault
+returns-in_err-question-clause-read_fault g c =
     let p = err_from_is_err_and c.from_residual.result c.from_residual.ensures.1 in
-    (λ _. None, rw (p.1, p.2) (some_at_words (λ _. None) c.args.words.now _ c.in_err-question.ensures.exact))
+    inl (record { count = rw (p.1, p.2) refl; clock = refl; unasked = λ u. refl })
 
-pub returns-in_err-name-clause-met : goal.returns-in_err-name-clause-met
-returns-in_err-name-clause-met g c =
-    λ t. let p = err_from_is_err_and c.from_residual-in_err-name.result c.from_residual-in_err-name.ensures.1 in
-    rw (p.1, p.2)
-    (met_at_name _ (g.F.Files.folder c.args.files.now) c.args.words.now c.in_ok-question.question _ c.in_ok-question.ensures.exact c.in_err-name.ensures.missing)
+pub returns-in-Some-clause-own : goal.returns-in-Some-clause-own
+unfolding answer_from
+returns-in-Some-clause-own g c =
+    λ t k. rw c.in_ok-question.ensures.exact
+    (meets_named _ (λ slot. g.F.Files.folder c.args.files.now) (g.K.Clock.minute_held c.args.clock.now) c.in_ok-question.question c.in-Some.name c.answer_over.result c.in-Some.is (c.answer_over.ensures.own t k))
 
-pub returns-in_err-name-clause-some : goal.returns-in_err-name-clause-some
-returns-in_err-name-clause-some g c =
-    let p = err_from_is_err_and c.from_residual-in_err-name.result c.from_residual-in_err-name.ensures.1 in (
-      λ _. None,
-      rw (p.1, p.2)
-          (some_at_name (λ _. None) c.args.words.now c.in_ok-question.question _ c.in_ok-question.ensures.exact c.in_err-name.ensures.missing),
+pub returns-in-Some-clause-some : goal.returns-in-Some-clause-some
+unfolding answer_from
+returns-in-Some-clause-some g c =
+    let some = c.answer_over.ensures.some in (
+      some.0,
+      some.1,
+      rw c.in_ok-question.ensures.exact
+          (meets_named (Unit {0}) some.0 some.1 c.in_ok-question.question c.in-Some.name c.answer_over.result c.in-Some.is some.2),
     )
 
-pub returns-in_err-bytes-clause-met : goal.returns-in_err-bytes-clause-met
-returns-in_err-bytes-clause-met g c =
-    λ t. let p = err_from_is_err_and c.from_residual-in_err-bytes.result c.from_residual-in_err-bytes.ensures.1 in
-    rw (p.1, p.2)
-    (met_at_bytes _ (g.F.Files.folder c.args.files.now) c.args.words.now c.in_ok-question.question c.in_ok-name.name.now _ c.in_ok-question.ensures.exact c.in_ok-name.ensures.found (c.in_err-bytes.ensures.met t))
+pub returns-in-Some-clause-read_fault : goal.returns-in-Some-clause-read_fault
+returns-in-Some-clause-read_fault g c = rw c.in_ok-question.ensures.exact c.answer_over.ensures.read_fault
 
-pub returns-in_err-bytes-clause-some : goal.returns-in_err-bytes-clause-some
-returns-in_err-bytes-clause-some g c =
-    let p = err_from_is_err_and c.from_residual-in_err-bytes.result c.from_residual-in_err-bytes.ensures.1 in
-    let file = c.in_err-bytes.ensures.some in (
-      λ _. file.0,
-      rw (p.1, p.2)
-          (some_at_bytes (λ _. file.0) c.args.words.now c.in_ok-question.question c.in_ok-name.name.now _ c.in_ok-question.ensures.exact c.in_ok-name.ensures.found file.1),
-    )
+pub returns-in-Some-clause-unopened : goal.returns-in-Some-clause-unopened
+returns-in-Some-clause-unopened g c =
+    λ nameless. absurd (nameless (names_file (asked_of c.args.words.now) c.in_ok-question.question c.in-Some.name c.in_ok-question.ensures.exact c.in-Some.is))
 
-pub returns-in_err-answer_from-clause-met : goal.returns-in_err-answer_from-clause-met
-returns-in_err-answer_from-clause-met g c =
-    λ t. let p = err_from_is_err_and c.from_residual-in_err-answer_from.result c.from_residual-in_err-answer_from.ensures.1 in
-    rw (p.1, p.2)
-    (met_at_answer _ (g.F.Files.folder c.args.files.now) c.args.words.now c.in_ok-question.question c.in_ok-name.name.now c.in_ok-bytes.bytes _ c.in_ok-question.ensures.exact c.in_ok-name.ensures.found (c.in_ok-bytes.ensures.met t) c.in_err-answer_from.ensures.exact)
+pub returns-in-Some-clause-unasked : goal.returns-in-Some-clause-unasked
+returns-in-Some-clause-unasked g c = rw c.in_ok-question.ensures.exact c.answer_over.ensures.unasked
 
-pub returns-in_err-answer_from-clause-some : goal.returns-in_err-answer_from-clause-some
-returns-in_err-answer_from-clause-some g c =
-    let p = err_from_is_err_and c.from_residual-in_err-answer_from.result c.from_residual-in_err-answer_from.ensures.1 in
-    let file = c.in_ok-bytes.ensures.some in (
-      λ _. file.0,
-      rw (p.1, p.2)
-          (some_at_answer (λ _. file.0) c.args.words.now c.in_ok-question.question c.in_ok-name.name.now c.in_ok-bytes.bytes _ c.in_ok-question.ensures.exact c.in_ok-name.ensures.found file.1 c.in_err-answer_from.ensures.exact),
-    )
+pub returns-in-Some-clause-asked_last : goal.returns-in-Some-clause-asked_last
+returns-in-Some-clause-asked_last g c =
+    λ t unread. c.answer_over.ensures.asked_last t
+    (λ read. unread (has_files (λ slot. g.F.Files.folder c.args.files.now) (asked_of c.args.words.now) c.in_ok-question.question c.in-Some.name c.in_ok-question.ensures.exact c.in-Some.is read))
 
-pub returns-clause-met : goal.returns-clause-met
-returns-clause-met g c =
-    λ t. answer_whole (g.F.Files.folder c.args.files.now) c.args.words.now c.in_ok-question.question c.in_ok-name.name.now c.in_ok-bytes.bytes c.in_ok-answer_from.field-0 c.in_ok-question.ensures.exact c.in_ok-name.ensures.found (c.in_ok-bytes.ensures.met t) c.in_ok-answer_from.ensures.exact
+pub returns-clause-own : goal.returns-clause-own
+unfolding answer_from
+returns-clause-own g c =
+    λ t k. rw c.in_ok-question.ensures.exact
+    (meets_alone _ (λ slot. g.F.Files.folder c.args.files.now) (g.K.Clock.minute_held c.args.clock.now) c.in_ok-question.question c.answer_without.result c.in-None.is c.answer_without.ensures.exact)
 
 pub returns-clause-some : goal.returns-clause-some
-returns-clause-some g c =
-    let file = c.in_ok-bytes.ensures.some in
-    (λ _. file.0, answer_whole (λ _. file.0) c.args.words.now c.in_ok-question.question c.in_ok-name.name.now c.in_ok-bytes.bytes c.in_ok-answer_from.field-0 c.in_ok-question.ensures.exact c.in_ok-name.ensures.found file.1 c.in_ok-answer_from.ensures.exact)
+unfolding answer_from
+returns-clause-some g c = (
+  λ slot name. None,
+  pos 0,
+  rw c.in_ok-question.ensures.exact
+      (meets_alone (Unit {0}) (λ slot name. None) (pos 0) c.in_ok-question.question c.answer_without.result c.in-None.is c.answer_without.ensures.exact),
+)

@@ -1,12 +1,15 @@
 use Rattle.std.proofs.Common.{inl, refl, sym, append-nil}
-use Rattle.tide_desk.proofs.OutcomeLemmas.{ends_told, ends_own, told_as_read}
+use Rattle.tide_desk.specs.Answers.{AsksClock, asked_of}
+use Rattle.tide_desk.specs.Outcomes.{IsFirm}
+use Rattle.tide_desk.proofs.OutcomeLemmas.{ends_told, ends_own, own_excused, told_as_read}
 use Rattle.tide_desk.proofs.desk.run.Goals as goal
 
 pub returns-in-Ok-clause-some_files : goal.returns-in-Ok-clause-some_files
 returns-in-Ok-clause-some_files g c =
     let some = c.in-Ok.ensures.some in (
       some.0,
-      rw (c.refuse.ensures.same, some.1) (record {
+      some.1,
+      rw (c.refuse.ensures.same, some.2) (record {
         says = tt;
         output = record {
           count = c.in-Err-write_all.ensures.counts;
@@ -23,14 +26,18 @@ returns-in-Ok-clause-some_files g c =
 
 pub returns-clause-own_files : goal.returns-clause-own_files
 returns-clause-own_files g c =
-    λ t either. ends_own (g.F.Files.steady c.args.files.now) _ c.in-Err.none c.tell.result _ _ (c.in-Err.ensures.met t) either
+    λ t k either. let firm = IsFirm (g.F.Files.steady c.args.files.now) (AsksClock (asked_of c.args.words.now)) (g.K.Clock.faults c.args.clock.now) (g.K.Clock.faults c.answer_words.new.clock) in
+    ends_own firm _ c.in-Err.none c.tell.result _ _ (c.in-Err.ensures.own t k) either
     (record { count = refl; told = λ o. o; stands = λ o. sym (append-nil _) }) c.tell.ensures
 
 pub returns-clause-some_files : goal.returns-clause-some_files
 returns-clause-some_files g c =
-    let some = c.in-Err.ensures.some in
-    (some.0, ends_told _ c.in-Err.none c.tell.result _ _ some.1 (record { count = refl; told = λ o. o; stands = λ o. sym (append-nil _) }) c.tell.ensures)
+    let some = c.in-Err.ensures.some in (
+      some.0,
+      some.1,
+      ends_told _ c.in-Err.none c.tell.result _ _ (own_excused (Unit {0}) _ c.in-Err.none some.2 (inl tt)) (record { count = refl; told = λ o. o; stands = λ o. sym (append-nil _) }) c.tell.ensures,
+    )
 
 pub returns-clause-read_fault : goal.returns-clause-read_fault
 returns-clause-read_fault g c =
-    let read = told_as_read c.in-Err.none c.tell.result c.tell.ensures in rw read c.in-Err.ensures.counts
+    rw (told_as_read c.in-Err.none c.tell.result c.tell.ensures) c.in-Err.ensures.read_fault

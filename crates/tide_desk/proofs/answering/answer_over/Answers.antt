@@ -1,0 +1,87 @@
+use Rattle.std.proofs.Common.{◌≡◌, true, false, None, inl, inr, refl, rules, w64, FitsSigned}
+use Rattle.std.specs.Bool.{IsTrue}
+use Rattle.std.specs.Prelude.{pos}
+use Rattle.std.proofs.lemmas.Int.{to_z-of_z}
+use Rattle.std.proofs.lemmas.Result.{err_from_is_err_and}
+use Rattle.tide_desk.specs.Answers.{answered_over}
+use Rattle.tide_desk.specs.Outcomes.{IsFirm}
+use Rattle.tide_desk.specs.Readings.{asks_clock, book_named, files_in}
+use Rattle.tide_desk.proofs.ReadingLemmas.{excuses_weaker, meets_at, meets_inside, rose}
+use Rattle.tide_desk.proofs.answering.answer_over.Goals as goal
+
+pub returns-in_err-read-clause-own : goal.returns-in_err-read-clause-own
+unfolding answered_over
+returns-in_err-read-clause-own g c =
+    λ t k. meets_at
+    (IsFirm (g.F.Files.steady c.args.files.now) (IsTrue (asks_clock c.args.question.now.command)) (g.K.Clock.faults c.args.clock.now) (g.K.Clock.faults c.args.clock.now))
+    (files_in (λ _. g.F.Files.folder c.args.files.now) c.args.question.now c.args.name.now)
+    _
+    c.from_residual.result
+    _
+    c.from_residual.ensures.1
+    (excuses_weaker _ (IsTrue (g.F.Files.steady c.args.files.now)) _ _ _ (λ f. f.files) (c.in_err-read.ensures.own t))
+
+pub returns-in_err-read-clause-some : goal.returns-in_err-read-clause-some
+unfolding answered_over
+returns-in_err-read-clause-some g c =
+    let read = c.in_err-read.ensures.some in (
+      read.0,
+      pos 0,
+      meets_at (Unit {0}) (files_in read.0 c.args.question.now c.args.name.now) _ c.from_residual.result _ c.from_residual.ensures.1 read.1,
+    )
+
+pub returns-in_err-read-clause-read_fault : goal.returns-in_err-read-clause-read_fault
+returns-in_err-read-clause-read_fault g c =
+    let p = err_from_is_err_and c.from_residual.result c.from_residual.ensures.1 in
+    inl (record { count = rw (p.1, p.2) c.in_err-read.ensures.counts; clock = refl; unasked = λ u. refl })
+
+pub returns-in_err-now-clause-own : goal.returns-in_err-now-clause-own
+returns-in_err-now-clause-own g c =
+    λ t k. let p = err_from_is_err_and c.from_residual-in_err-now.result c.from_residual-in_err-now.ensures.1 in
+    rw (p.1, p.2, c.in_err-now.ensures.unread) (λ f. absurd (f.clock (c.in_err-now.ensures.asked, rose (g.K.Clock.faults c.args.clock.now) (g.K.Clock.faults c.read_minute.new.clock) c.in_err-now.ensures.counts)))
+
+pub returns-in_err-now-clause-some : goal.returns-in_err-now-clause-some
+unfolding answered_over files_in book_named
+returns-in_err-now-clause-some g c =
+    let p = err_from_is_err_and c.from_residual-in_err-now.result c.from_residual-in_err-now.ensures.1 in
+    (λ slot name. None, pos 0, rw (p.1, p.2, c.in_err-now.ensures.unread) (λ f. refl))
+
+pub returns-in_err-now-clause-read_fault : goal.returns-in_err-now-clause-read_fault
+returns-in_err-now-clause-read_fault g c =
+    let p = err_from_is_err_and c.from_residual-in_err-now.result c.from_residual-in_err-now.ensures.1 in
+    inr (record {
+      failed = rw (p.1, p.2, c.in_err-now.ensures.unread) (search rules);
+      asked = c.in_err-now.ensures.asked;
+      count = c.in_err-now.ensures.counts;
+      files = c.in_ok-read.ensures.counts;
+    })
+
+pub returns-in_err-now-clause-asked_last : goal.returns-in_err-now-clause-asked_last
+returns-in_err-now-clause-asked_last g c = λ t unread. absurd (unread (rw (c.in_ok-read.ensures.own t) (search rules)))
+
+pub returns-clause-own : goal.returns-clause-own
+unfolding answered_over
+returns-clause-own g c =
+    λ t k. let fits : FitsSigned w64 c.in_ok-now.now = search rules in
+    let exact = simp to_z-of_z at c.answer_with.ensures.exact in
+    rw (c.in_ok-read.ensures.own t, ← c.in_ok-now.ensures.own k) (meets_inside _ _ c.answer_with.result exact)
+
+pub returns-clause-some : goal.returns-clause-some
+unfolding answered_over
+returns-clause-some g c =
+    let read = c.in_ok-read.ensures.some in
+    let now = c.in_ok-now.ensures.some in
+    let fits : FitsSigned w64 c.in_ok-now.now = search rules in
+    let exact = simp to_z-of_z at c.answer_with.ensures.exact in
+    (read.0, now.0, rw (read.1, ← now.1) (meets_inside (Unit {0}) _ c.answer_with.result exact))
+
+pub returns-clause-read_fault : goal.returns-clause-read_fault
+returns-clause-read_fault g c =
+    inl (record {
+      count = rw c.answer_with.ensures.read c.in_ok-read.ensures.counts;
+      clock = c.in_ok-now.ensures.counts;
+      unasked = λ u. let no : false ≡ true = rw c.answer_with.ensures.read at u in cc;
+    })
+
+pub returns-clause-asked_last : goal.returns-clause-asked_last
+returns-clause-asked_last g c = λ t unread. absurd (unread (rw (c.in_ok-read.ensures.own t) (search rules)))
