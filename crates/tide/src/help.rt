@@ -6,30 +6,44 @@ ghost use Rattle.tide.specs.Pages.{page_of, page_text};
 use decimal_text::Words;
 
 const HELP: &str = "\
-Predicts tides: the high and low waters of a station, from its harmonic constants.
+Predicts tides and tidal currents at a station, from harmonic constants.
 
-Usage: tide predict file=F station=S begin=A end=B
-       tide stations file=F
+Usage: tide COMMAND file=F [KEY=VALUE..]
        tide --help | --version
 
-  predict   lists the high and low waters of a station
-  stations  lists the stations of a file
+  predict   high and low waters, slacks and passings of a mark in a span
+  certify   a certificate that the events of a span are complete
+  check     whether a certificate holds, whoever wrote it
+  heights   levels at even steps
+  calendar  the events day by day
+  clock     the level now, and the events of the day to come
+  stations  the stations of a file
+  sample    a file of made-up constants by a seed; it needs no file
+  trial     the counts of a trial of the program on such a file
 
-  file     a file of harmonic constants, after XTide's text files
-  station  the name of a station as it stands in the file
-  begin    the first minute asked, in UTC, as 2025-06-01T00:00Z
-  end      the minute before which the list ends
+  file         harmonic constants, after XTide's text files
+  offsets      a table of subordinate stations (CSV)
+  station      the name of a station as it stands there
+  begin, end   the first minute asked, in UTC, as 2025-06-01T00:00Z, and the
+               minute before which the list ends
+  mark         a level whose passing is listed, in the station's unit
+  zone         UTC, an offset as -05:00, or @F for a time zone's file
+  layout       plain or csv
+  step         minutes between heights, 60 if not given
+  certificate  the file to check
+  seed         a whole number
 
-The pairs may stand in any order. An event is listed at the last minute before the
-slope of the level changes side, with the level at that minute.
+The pairs may stand in any order. An event is listed at the last minute before it,
+with the level at that minute.
 
 Example:
   ./tide predict file=examples/harbours.txt \\
     station='Boston, Boston Harbor, Massachusetts' \\
-    begin=2025-06-01T00:00Z end=2025-06-08T00:00Z
+    begin=2025-06-01T00:00Z end=2025-06-08T00:00Z zone=-04:00
 
-Status: 0 done, 2 words refused, 3 file refused, 4 question refused, 5 a limit,
-6 read fault, 7 write fault, 8 no memory. One line on standard error says why.
+Status: 0 done, 1 certificate rejected, 2 words refused, 3 file refused,
+4 question refused, 5 a limit, 6 read fault, 7 write fault, 8 no memory.
+One line on standard error says why.
 
 NOT FOR NAVIGATION.
 ";

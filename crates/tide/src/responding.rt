@@ -1,8 +1,9 @@
 //! What the program does with its words.
 
-ghost use Rattle.std.specs.Prelude.{◌≡◌, ℕ, Bool, false, List, Option, None, Ok, IfSome};
-ghost use Rattle.tide_desk.specs.Answers.{answer_of};
+ghost use Rattle.std.specs.Prelude.{◌≡◌, ℤ, Bool, false, None, Ok, IfSome};
+ghost use Rattle.tide_desk.specs.Answers.{answer_from};
 ghost use Rattle.tide_desk.specs.Outcomes.{EndsAs, Wrote};
+ghost use Rattle.tide_desk.specs.Readings.{Folders};
 ghost use Rattle.tide.specs.Pages.{page_of, page_text};
 
 use crate::help::{Page, page_asked};
@@ -20,10 +21,10 @@ pub fn respond<F: Files, O: Sink, E: Sink, K: Clock>(
     err: &mut E,
     clock: &mut K,
 ) -> Status
-    ensures page { IfSome (page_of words.now) (λ page. EndsAs (Ok (record { text = page_text page; rejected = false })) result
+    ensures page { IfSome (page_of words.now) (λ page. EndsAs (Ok (record { text = page_text page; rejected = false; cells = 0 })) result
         (Wrote (O.tells out.old) (O.tells out.new) (O.taken out.old) (O.taken out.new) (O.faults out.old) (O.faults out.new))
         (Wrote (E.tells err.old) (E.tells err.new) (E.taken err.old) (E.taken err.new) (E.faults err.old) (E.faults err.new))) }
-    ensures answer { page_of words.now ≡ None → (folder : List ℕ → Option (List ℕ)) × EndsAs (answer_of folder words.now) result
+    ensures answer { page_of words.now ≡ None → (folders : Folders) × (minute : ℤ) × EndsAs (answer_from folders minute words.now) result
         (Wrote (O.tells out.old) (O.tells out.new) (O.taken out.old) (O.taken out.new) (O.faults out.old) (O.faults out.new))
         (Wrote (E.tells err.old) (E.tells err.new) (E.taken err.old) (E.taken err.new) (E.faults err.old) (E.faults err.new)) }
 {
@@ -34,7 +35,7 @@ pub fn respond<F: Files, O: Sink, E: Sink, K: Clock>(
 }
 
 fn write_page<O: Sink, E: Sink>(page: Page, out: &mut O, err: &mut E) -> Status
-    ensures { EndsAs (Ok (record { text = page_text page; rejected = false })) result
+    ensures { EndsAs (Ok (record { text = page_text page; rejected = false; cells = 0 })) result
         (Wrote (O.tells out.old) (O.tells out.new) (O.taken out.old) (O.taken out.new) (O.faults out.old) (O.faults out.new))
         (Wrote (E.tells err.old) (E.tells err.new) (E.taken err.old) (E.taken err.new) (E.faults err.old) (E.faults err.new)) }
 {
