@@ -10,7 +10,6 @@ _tide_keys() {
     clock) echo "file station offsets zone" ;;
     stations) echo "file offsets" ;;
     sample | trial) echo "seed" ;;
-    serve) echo "file offsets port" ;;
   esac
 }
 
@@ -35,7 +34,7 @@ _tide() {
   word="${line##*[[:space:]]}"
   COMPREPLY=()
   if [[ "$COMP_CWORD" -eq 1 ]]; then
-    mapfile -t COMPREPLY < <(compgen -W "predict certify check heights calendar clock stations sample trial serve --help --version" -- "$word")
+    mapfile -t COMPREPLY < <(compgen -W "predict certify check heights calendar clock stations sample trial --help --version" -- "$word")
   elif [[ "$word" == *=* ]]; then
     key="${word%%=*}" value="${word#*=}"
     [[ " $(_tide_keys "${COMP_WORDS[1]}") " == *" $key "* ]] || return
