@@ -6,12 +6,20 @@ use crate::door::Door;
 use crate::doorway::Doorway;
 use crate::failed::Failed;
 use crate::host_fault::{count_fault, outcome};
-use std::io::{Read, Write};
-use std::net::{Ipv4Addr, Net, OpenListener, TcpListener};
+use std::io::{self, Read, Write};
+use std::net::{Ipv4Addr, Net, OpenListener, OpenStream, Shutdown, TcpListener};
+use std::time::Duration;
+
+/// How many seconds a peer may be silent while its request is read, or take nothing of its reply.
+const PATIENCE: u64 = 30;
+
+/// How many seconds a peer may be silent after its reply was given.
+const FAREWELL: u64 = 1;
 
 /// A port of the machine, at 127.0.0.1 alone. It doesn't tell what comes and what is sent.
 ///
-/// It waits for the next connection for as long as it takes, so `next` never answers that no more will come.
+/// It waits for the next connection for as long as it takes, so `next` never answers that no more will come. A peer that
+/// is silent for 30 seconds fails `read` or `write`.
 #[derive(Drop)]
 pub struct HostDoor<R: Net + Drop> {
     system: R,
@@ -71,6 +79,7 @@ impl<R: Net + Drop> Door for HostDoor<R> {
         if let Some(listener) = &self.listener
             && let Ok((stream, _)) = listener.accept()
         {
+            let _ = set_patience(&stream, PATIENCE);
             self.stream = Some(stream);
             self.doorway.open();
             return Ok(true);
@@ -96,7 +105,35 @@ impl<R: Net + Drop> Door for HostDoor<R> {
     }
 
     fn close(&mut self) {
+        if let Some(stream) = &mut self.stream {
+            let _ = part_from(stream);
+        }
         self.stream = None;
         self.doorway.close();
     }
+}
+
+fn set_patience<S: OpenStream>(stream: &S, seconds: u64) -> io::Result<()> {
+    let patience = Some(Duration::from_secs(seconds));
+    stream.set_read_timeout(patience)?;
+    stream.set_write_timeout(patience)
+}
+
+// Leaves a peer that may still be sending with time to take its reply, since a system that closes a connection with
+// bytes unread may drop the reply on its way (RFC 9112, section 9.6).
+fn part_from<S: OpenStream + Read>(stream: &mut S) -> io::Result<()> {
+    let mut room = [0; 4096];
+    stream.set_nonblocking(true)?;
+    if stream.read(&mut room)? == 0 {
+        return Ok(());
+    }
+    stream.set_nonblocking(false)?;
+    stream.shutdown(Shutdown::Write)?;
+    set_patience(stream, FAREWELL)?;
+    for _ in 0..4096 {
+        if stream.read(&mut room)? == 0 {
+            break;
+        }
+    }
+    Ok(())
 }
