@@ -8,18 +8,6 @@ use Rattle.fixed_sine.specs.Table.{sines, sine_at, rise, correction}
 use Rattle.fixed_sine.specs.Sine.{scaled_between, quarter_of}
 use Rattle.fixed_sine.proofs.TableLemmas.{sines_rise}
 
--- a product divided in two parts
-pub divided_in_parts : (x c : ℕ) → x / 2400000000 * c + x % 2400000000 * c / 2400000000 ≡ x * c / 2400000000
-divided_in_parts x c =
-    let whole : x ≡ 2400000000 * (x / 2400000000) + x % 2400000000 = omega arith in
-    let product : x * c ≡ 2400000000 * (x / 2400000000 * c) + x % 2400000000 * c =
-    ap (λ n. n * c) whole ∙ (omega arith) in
-    omega arith
-
--- one division by 4 * degree and one by degree are a division by their product
-pub divided_twice : (p q n : ℕ) → n ≡ 2400000000 * p + q → (p + q / 2400000000) / 600000000 ≡ n / 1440000000000000000
-divided_twice p q n e = omega arith
-
 pub sine_at-entry : (k : ℕ) → k ≤ 90 → sine_at (pos k) ≡ pos (get_or sines k 0)
 unfolding sine_at
 sine_at-entry k h = ap (λ j. pos (get_or sines j 0)) (cond-true (nat_le k 90) k (180 - k) (le-leb k 90 h))
@@ -46,7 +34,7 @@ scaled_between-entries k r c h size =
     (joined _ _ _ _ _ _)
 
 -- the formula's quotient: the entry, and what is gained past it
-scaled_quotient : (s u g : ℕ) → (1440000000000000000 * s + u + g) / 1440000000000000000 ≡ s + (u + g) / 1440000000000000000
+pub scaled_quotient : (s u g : ℕ) → (1440000000000000000 * s + u + g) / 1440000000000000000 ≡ s + (u + g) / 1440000000000000000
 scaled_quotient s u g = omega arith
 
 pub quarter_of-entries : (p c : ℕ) → p < 90 * degree → correction (p / degree) ≡ neg_ℤ (pos c) → quarter_of p ≡ pos (get_or sines (p / degree) 0 + (4 * degree * (p % degree) * (get_or sines (p / degree + 1) 0 - get_or sines (p / degree) 0) + p % degree * (degree - p % degree) * c) / (4 * degree * degree))
@@ -56,7 +44,7 @@ quarter_of-entries p c h size =
     (ap pos (scaled_quotient _ _ _))
 
 -- the sine gains no more over a part of a degree than over the whole of it
-gain_scaled : (r q u c : ℕ) → r + q ≡ 600000000 → c ≤ 4 * u → 2400000000 * r * u + r * q * c ≤ 1440000000000000000 * u
+pub gain_scaled : (r q u c : ℕ) → r + q ≡ 600000000 → c ≤ 4 * u → 2400000000 * r * u + r * q * c ≤ 1440000000000000000 * u
 gain_scaled r q u c sum small =
     let whole : 600000000 * u ≡ r * u + q * u = ap (λ n. n * u) (sym sum) ∙ (omega arith) in
     let first : 600000000 * (r * u) ≡ r * (r * u) + q * (r * u) = ap (λ n. n * (r * u)) (sym sum) ∙ (omega arith) in
@@ -64,7 +52,7 @@ gain_scaled r q u c sum small =
     let bent : r * q * c ≤ r * q * (4 * u) = mul-le (r * q) c (r * q) (4 * u) (omega arith) small in
     omega arith
 
-pub gain_bound : (r u c : ℕ) → r < degree → c ≤ 4 * u → (4 * degree * r * u + r * (degree - r) * c) / (4 * degree * degree) ≤ u
+pub gain_bound : (r u c : ℕ) → r ≤ degree → c ≤ 4 * u → (4 * degree * r * u + r * (degree - r) * c) / (4 * degree * degree) ≤ u
 gain_bound r u c h small =
     let scaled = gain_scaled r (degree - r) u c (omega arith) small in
     omega arith

@@ -4,11 +4,11 @@ use Rattle.std.proofs.lemmas.Bool.{cases_lt, cond-true, cond-false, lt-ltb, le-l
 use Rattle.std.proofs.lemmas.Int.{ints}
 use Rattle.std.proofs.lemmas.Nat.{mul-le}
 use Rattle.fixed_sine.specs.declared.table.TheConstants.{CORRECTIONS}
-use Rattle.fixed_sine.specs.Table.{sines}
+use Rattle.fixed_sine.specs.Table.{sines, correction}
 use Rattle.fixed_sine.specs.Sine.{quarter_of, half_of, isin_of}
 use Rattle.fixed_sine.specs.Rate.{step_of, RateLaw}
 use Rattle.fixed_sine.proofs.TableLemmas.{correction-size, sines_rise}
-use Rattle.fixed_sine.proofs.QuarterLemmas.{scaled_between-entries, quarter_of-ninety}
+use Rattle.fixed_sine.proofs.QuarterLemmas.{scaled_between-entries, scaled_quotient, quarter_of-ninety}
 use Rattle.fixed_sine.proofs.CircleLemmas.{half_of-first, half_of-second, isin_of-first, isin_of-second}
 
 -- two numbers at most that far apart
@@ -100,6 +100,22 @@ quarter_of-num p h =
       | inr above ↦ (let e : p ≡ 54000000000 = omega arith in
           rw e (quarter_of-ninety ∙ ap (λ n. pos (n / 1440000000000000000)) (sym num-end)))
     ]
+
+num-between : (k r : ℕ) → k < 90 → r ≤ 600000000 → num (600000000 * k + r) ≡ scaled k r
+num-between k r h small =
+    elim (cases_lt r 600000000) [
+      | inl inside ↦ num-at (600000000 * k + r) k r refl inside
+      | inr end ↦ (let last : r ≡ 600000000 = omega arith in
+          num-at (600000000 * k + r) (k + 1) 0 (omega arith) (omega arith) ∙ sym (scaled-next k h) ∙ ap (scaled k) (sym last))
+    ]
+
+-- the sine between two degrees, the second one included
+pub quarter_of-between : (k r c : ℕ) → k < 90 → r ≤ 600000000 → correction k ≡ neg_ℤ (pos c) → quarter_of (600000000 * k + r) ≡ pos (get_or sines k 0 + (2400000000 * r * (get_or sines (k + 1) 0 - get_or sines k 0) + r * (600000000 - r) * c) / 1440000000000000000)
+unfolding scaled formula
+quarter_of-between k r c h small size =
+    let same : c ≡ get_or CORRECTIONS k 0 = omega (arith, ints, size, correction-size k h) in
+    rw same
+    (quarter_of-num (600000000 * k + r) (omega arith) ∙ ap (λ n. pos (n / 1440000000000000000)) (num-between k r h small) ∙ ap pos (scaled_quotient _ _ _))
 
 num-begin : num 0 ≡ 0
 unfolding num scaled formula sines

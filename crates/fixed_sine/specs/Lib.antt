@@ -2,3 +2,4 @@ pub mod Circle
 pub mod Table
 pub mod Sine
 pub mod Rate
+pub mod Turn

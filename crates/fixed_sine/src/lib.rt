@@ -2,7 +2,9 @@
 //!
 //! An angle is a place on a circle of [`CIRCLE`] units, [`DEGREE`] to a degree. [`reduce`] brings
 //! any number of units onto the circle. [`isin`] and [`icos`] are in billionths: a table of whole
-//! degrees, interpolated by second differences. [`step`] bounds how much they change.
+//! degrees, interpolated by second differences. [`step`] bounds how much they change. [`turn_sine`]
+//! and [`turn_cosine`] tell the same sooner, at a part of a turn ([`turn_of`]), which is added to and
+//! multiplied with no thought of whole turns.
 #![tactic(auto)]
 
 mod circle;
@@ -10,11 +12,13 @@ mod laws;
 mod rate;
 mod sine;
 mod table;
+mod turn;
 
 pub use circle::{CIRCLE, DEGREE, RADIAN, reduce};
 pub use laws::{sine_rates, sine_sizes, table_checks, worked_rows};
 pub use rate::step;
 pub use sine::{icos, isin};
+pub use turn::{turn_cosine, turn_of, turn_sine};
 
 #[cfg(test)]
 mod tests;

@@ -8,7 +8,7 @@ use crate::circle::{CIRCLE, DEGREE};
 use crate::table::{correction_size, sine_of_degree};
 
 /// The units in a degree, without a sign.
-const UNITS: u64 = DEGREE as u64;
+pub const UNITS: u64 = DEGREE as u64;
 
 /// The places of 90 and of 180 degrees.
 const QUARTER: u64 = 90 * UNITS;
@@ -17,6 +17,17 @@ const HALF: u64 = 180 * UNITS;
 
 /// The sine of 90 degrees.
 const WHOLE: u64 = 1_000_000_000;
+
+/// What the formula between two degrees is divided by.
+const SQUARE: u64 = 4 * UNITS * UNITS;
+
+/// A unit for the formula's leading digits.
+const COARSE: u128 = 1 << 46;
+
+/// What `COARSE` is of `SQUARE`, in parts of `FINE` and rounded down.
+const COARSE_SHARE: u64 = 13_432_509;
+
+const FINE: u64 = 1 << 38;
 
 /// The sine in billionths, from -1,000,000,000 to 1,000,000,000.
 pub fn isin(p: i64) -> i64
@@ -64,30 +75,38 @@ fn quarter(place: u64) -> u64
     if place == QUARTER {
         return WHOLE;
     }
-    let degrees = (place / UNITS) as usize;
+    between((place / UNITS) as usize, place % UNITS)
+}
+
+/// The sine `r` units past so many degrees of the first quarter, up to the next degree.
+pub fn between(degrees: usize, r: u64) -> u64
+    requires degrees { degrees < 90 }
+    requires part { r ≤ degree }
+    ensures value { pos result ≡ quarter_of (degree * degrees + r) }
+    ensures size { result ≤ 1000000000 }
+{
     let start = sine_of_degree(degrees);
     let rise = sine_of_degree(degrees + 1) - start;
-    start + gain(place % UNITS, rise, correction_size(degrees))
+    start + gain(r, rise, correction_size(degrees))
 }
 
 /// How much the sine gains over the first `r` units of a degree, rounded down.
 fn gain(r: u64, rise: u64, correction: u64) -> u64
-    requires part { r < degree }
+    requires part { r ≤ degree }
     requires rise { rise < 33554432 }
     requires correction { correction ≤ 4 * rise }
     ensures value { result ≡ (4 * degree * r * rise + r * (degree - r) * correction) / (4 * degree * degree) }
     ensures within { result ≤ rise }
 {
-    (r * rise + bend(r * (UNITS - r), correction)) / UNITS
+    divided(u128::from(r) * u128::from(4 * UNITS * rise + (UNITS - r) * correction))
 }
 
-/// `product * correction / (4 * degree)` rounded down, in numbers that stay within 64 bits.
-fn bend(product: u64, correction: u64) -> u64
-    requires product { product ≤ degree * degree }
-    requires correction { correction < 134217728 }
-    ensures { result ≡ product * correction / (4 * degree) }
+/// A number divided by `SQUARE`: estimated by its leading digits, and one more where as much is left.
+fn divided(scaled: u128) -> u64
+    requires { scaled ≤ 4 * degree * degree * 33554431 }
+    ensures { result ≡ scaled / (4 * degree * degree) }
 {
-    let whole = product / (4 * UNITS);
-    let rest = product % (4 * UNITS);
-    whole * correction + rest * correction / (4 * UNITS)
+    let least = (scaled / COARSE) as u64 * COARSE_SHARE / FINE;
+    let rest = (scaled - u128::from(least) * u128::from(SQUARE)) as u64;
+    if rest < SQUARE { least } else { least + 1 }
 }

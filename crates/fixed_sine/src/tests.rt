@@ -50,3 +50,26 @@ fn places_of_angles(rt: HostRuntime) {
         assert_eq!(rt; reduce(angle), place, "the place of {angle}");
     }
 }
+
+#[test]
+fn sines_and_cosines_of_turns(rt: HostRuntime) {
+    let rows = [
+        (0, 0, 1_000_000_000),
+        (8_700_000_000, 250_380_003, 968_147_637),
+        (27_000_000_001, 707_106_781, 707_106_780),
+        (53_999_999_999, 999_999_999, 0),
+        (54_000_000_000, 1_000_000_000, 0),
+        (80_999_999_999, 707_106_781, -707_106_780),
+        (108_300_000_000, -8_726_535, -999_961_920),
+        (123_456_789_012, -434_623_084, -900_612_442),
+        (162_000_000_000, -1_000_000_000, 0),
+        (187_654_321_098, -734_237_208, 678_893_009),
+        (215_999_999_999, 0, 999_999_999),
+    ];
+    for (place, sine, cosine) in rows {
+        assert!(rt; place < CIRCLE as u64);
+        let turn = turn_of(place);
+        assert_eq!(rt; turn_sine(turn), sine, "the sine at {place}");
+        assert_eq!(rt; turn_cosine(turn), cosine, "the cosine at {place}");
+    }
+}
