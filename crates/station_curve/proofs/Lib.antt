@@ -12,6 +12,7 @@ mod Answering
 pub mod Gaps
 pub mod YearChanges
 pub mod Steps
+pub mod Turning
 pub mod NearNewYear
 pub mod CellSteps
 pub mod PlainSteps

@@ -1,12 +1,13 @@
 //! A constituent in one year at one station.
 
-ghost use Rattle.std.specs.Prelude.{◌≡◌, ◌+◌, ◌*◌, ◌%◌, ◌^◌, ◌<◌, ◌≤◌, pos, ◌*ℤ◌, unsigned_abs};
-ghost use Rattle.fixed_sine.specs.Circle.{circle, IsOnCircle};
+ghost use Rattle.std.specs.Prelude.{◌≡◌, ◌*◌, ◌^◌, ◌<◌, ◌≤◌, pos, ◌*ℤ◌, unsigned_abs};
+ghost use Rattle.fixed_sine.specs.Circle.{circle};
+ghost use Rattle.fixed_sine.specs.Turn.{units_of};
 ghost use Rattle.station_curve.specs.Waves.{Harmonic, phase_at, height_at, fall_at};
 ghost use Rattle.station_curve.specs.Sums.{height_rate_of, fall_rate_of};
 
 use crate::year_sums::Sums;
-use fixed_sine::{CIRCLE, icos, isin, step};
+use fixed_sine::{step, turn_cosine, turn_of, turn_sine};
 use std::marker::Model;
 
 /// A constituent in one year at one station.
@@ -18,20 +19,22 @@ pub struct Wave {
     speed: u64,
     /// The amplitude times the speed.
     steepness: i64,
-    /// Where on the circle it stands an hour before the year begins.
-    phase: u64,
+    /// How far it turns a minute, as a part of a turn.
+    pace: u64,
+    /// The part of a turn where it stands an hour before the year begins.
+    start: u64,
 }
 
 impl Model for Wave {
-    ghost use Rattle.std.specs.Prelude.{◌≡◌, ◌*◌, ◌^◌, ◌<◌, ◌≤◌, pos, ◌*ℤ◌, unsigned_abs};
+    ghost use Rattle.fixed_sine.specs.Turn.{units_of};
     ghost use Rattle.station_curve.specs.Waves.{Harmonic};
     ghost use Rattle.station_curve.specs.Workings.Nearness.{IsWave};
 
     ghost Value = { Harmonic };
 
-    ghost view = { λ w. record { amplitude = w.amplitude; speed = w.speed; phase = w.phase } };
+    ghost view = { λ w. record { amplitude = w.amplitude; speed = w.speed; phase = units_of w.start } };
 
-    ghost invariant = { λ w. IsWave w.amplitude w.speed w.steepness w.phase };
+    ghost invariant = { λ w. IsWave w.amplitude w.speed w.steepness w.pace w.start };
 }
 
 impl Wave {
@@ -47,7 +50,8 @@ impl Wave {
             amplitude,
             speed,
             steepness: amplitude * speed as i64,
-            phase,
+            pace: turn_of(speed),
+            start: turn_of(phase),
         }
     }
 
@@ -57,7 +61,7 @@ impl Wave {
         ensures value { result ≡ height_at minutes self.now }
         ensures size { unsigned_abs result ≤ 10 ^ 9 * unsigned_abs self.now.amplitude }
     {
-        self.amplitude * icos(self.phase_after(minutes))
+        self.amplitude * turn_cosine(self.turn_after(minutes))
     }
 
     /// What it takes off the level a minute, `minutes` after an hour before the year.
@@ -67,7 +71,7 @@ impl Wave {
         ensures size { unsigned_abs result
             ≤ 10 ^ 9 * (unsigned_abs self.now.amplitude * self.now.speed) }
     {
-        i128::from(self.steepness) * i128::from(isin(self.phase_after(minutes)))
+        i128::from(self.steepness) * i128::from(turn_sine(self.turn_after(minutes)))
     }
 
     /// What it adds to each sum of its year.
@@ -91,12 +95,11 @@ impl Wave {
         }
     }
 
-    /// Where on the circle it stands, `minutes` after an hour before the year.
-    fn phase_after(&self, minutes: u64) -> i64
+    /// The part of a turn where it stands, `minutes` after an hour before the year.
+    fn turn_after(&self, minutes: u64) -> u64
         requires { minutes ≤ 600000 }
-        ensures value { unsigned_abs result ≡ phase_at self.now minutes }
-        ensures range { IsOnCircle result }
+        ensures { units_of result ≡ phase_at self.now minutes }
     {
-        ((self.phase + self.speed * minutes) % CIRCLE as u64) as i64
+        self.start.wrapping_add(self.pace.wrapping_mul(minutes))
     }
 }

@@ -1,19 +1,20 @@
 -- What keeps all numbers of a curve within their types.
 use Rattle.std.specs.Prelude.{◌≡◌, ℕ, ◌-◌, ◌<◌, ◌≤◌, ℤ, pos, ◌+ℤ◌, ◌-ℤ◌, ◌*ℤ◌, ◌≤ℤ◌, unsigned_abs}
-use Rattle.fixed_sine.specs.Circle.{circle}
+use Rattle.fixed_sine.specs.Turn.{units_of, turn_of}
 use Rattle.year_blend.specs.declared.parts.Place.{Place}
 use Rattle.year_blend.specs.declared.parts.Place.TheVariants.{Plain, Blend}
 use Rattle.year_blend.specs.Places.{start_of}
 use Rattle.year_blend.specs.Weights.{IsNearNewYear}
 use Rattle.station_curve.specs.Limits.{most_amount, most_steepness}
 
--- a wave with the product of its amplitude and its speed
-pub record IsWave (amplitude : ℤ) (speed : ℕ) (steepness : ℤ) (phase : ℕ) : Type 0 where
+-- a wave with the product of its amplitude and its speed, and with its speed and its phase as parts of a turn
+pub record IsWave (amplitude : ℤ) (speed : ℕ) (steepness : ℤ) (pace : ℕ) (start : ℕ) : Type 0 where
   pub amount : unsigned_abs amplitude ≤ most_amount
   pub steep : unsigned_abs steepness ≤ most_steepness
   pub product : steepness ≡ amplitude *ℤ pos speed
   pub quick : speed ≤ 3600000000
-  pub turn : phase < circle
+  pub paced : pace ≡ turn_of speed
+  pub started : start ≡ turn_of (units_of start)
 
 -- a minute that a year's constants are used at: at most an hour before it or after it
 pub record IsNear (first_year : ℤ) (year : ℕ) (m : ℤ) : Type 0 where

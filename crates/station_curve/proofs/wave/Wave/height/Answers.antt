@@ -8,6 +8,6 @@ pub returns-clause-size : goal.returns-clause-size
 returns-clause-size c =
     let amplitude = c.self.inside.amplitude in
     let same : amplitude ≡ c.args.self.now.amplitude = ap (λ h. h.amplitude) c.self.view_is in
-    let size = abs_times amplitude c.icos.result (unsigned_abs amplitude) (10 ^ 9) (omega arith) c.icos.ensures.size in
-    let bound : unsigned_abs (amplitude *ℤ c.icos.result) ≤ 10 ^ 9 * unsigned_abs c.args.self.now.amplitude = rw (← same) (omega (arith, size)) in
-    rw (times w64 amplitude c.icos.result (10 ^ 9) (10 ^ 9) c.self.invariant.amount c.icos.ensures.size (lit< tt) (lit< tt) (lit< tt)) bound
+    let size = abs_times amplitude c.turn_cosine.result (unsigned_abs amplitude) (10 ^ 9) (omega arith) c.turn_cosine.ensures.size in
+    let bound : unsigned_abs (amplitude *ℤ c.turn_cosine.result) ≤ 10 ^ 9 * unsigned_abs c.args.self.now.amplitude = rw (← same) (omega (arith, size)) in
+    rw (times w64 amplitude c.turn_cosine.result (10 ^ 9) (10 ^ 9) c.self.invariant.amount c.turn_cosine.ensures.size (lit< tt) (lit< tt) (lit< tt)) bound
