@@ -1,6 +1,6 @@
 //! A list of numbers that grows as it is read.
 
-ghost use Rattle.std.specs.Prelude.{◌≡◌, [], ◌∷◌, ◌++◌, length, OnOk};
+ghost use Rattle.std.specs.Prelude.{◌≡◌, [], ◌∷◌, ◌++◌, length, IfOk, OnOk};
 
 use decimal_text::Numbers;
 use std::alloc::{AllocError, Global};
@@ -28,6 +28,15 @@ impl Column {
         Column {
             items: Vec::new(alloc),
         }
+    }
+
+    /// The empty list, with the memory for so many numbers.
+    pub fn with_room(alloc: Global, count: usize) -> Result<Column, AllocError>
+        ensures { IfOk result (λ c. c ≡ []) }
+    {
+        Ok(Column {
+            items: Vec::with_capacity(alloc, count)?,
+        })
     }
 
     pub fn len(&self) -> usize

@@ -259,13 +259,14 @@ fn after_record(alloc: Global, book: Book, begun: Record, text: &[u8]) -> Result
         }
         Record::LocalTime(name, local_time) => {
             let (datum, units) = datum(text)?;
+            let count = book.constituents.as_slice().len();
             let constants = Constants {
                 name,
                 local_time,
                 datum,
                 units,
-                amplitude: Column::new(alloc),
-                epoch: Column::new(alloc),
+                amplitude: Column::with_room(alloc, count)?,
+                epoch: Column::with_room(alloc, count)?,
             };
             Ok(Draft::Stations(book, Record::Constants(constants)))
         }
