@@ -1,3 +1,5 @@
+ghost use Rattle.std.specs.Prelude.{◌<◌, ◌≤◌, length};
+
 use super::*;
 use decimal_text::Text;
 use std::alloc::{AllocError, Global};
@@ -50,6 +52,11 @@ fn the_pier_is_read(rt: HostRuntime) -> Result<(), Fail> {
 
 const REAL: [u8; 227] =
     *b"# Constituents\r\n2\r\nM2 28.9841042\r\n  S2\t30.0000000  \r\n\r\n2000\r\n1\r\nM2\r\n120.50\r\n# between\r\nS2\r\n0.00\r\n*END*\r\n1\r\nM2\r\n0.9850\r\nS2\r\n1.0000\r\n*END*\r\n# A station\r\nPort\xe9, Bay\r\n-5:00 :America/New_York\r\n2.5 feet\r\nM2 1.234 45.0\r\nS2 0.4 300.0\r\n";
+
+const ELEVEN_YEARS: &str =
+    "1\nM2 28.9841042\n1999\n11\nM2\n0 20 40 60 80 100 120 140 160 180 200\n*END*\n11\nM2\n\
+    0.9800 0.9840 0.9880 0.9920 0.9960 1.0000 1.0040 1.0080 1.0120 1.0160 1.0200\n*END*\n\
+    Pier\n0:00\n1 feet\nM2 3 40\n";
 
 #[test]
 fn a_file_as_people_write_it(rt: HostRuntime) -> Result<(), Fail> {
@@ -133,6 +140,53 @@ fn changes_of_a_line(rt: HostRuntime) -> Result<(), Fail> {
             (*at, *number),
             "line {line}: {text}"
         );
+    }
+    Ok(())
+}
+
+/// The book of a file that comes in pieces of so many bytes.
+fn read_in_pieces(alloc: Global, bytes: &[u8], count: usize) -> Result<Book, BookFault>
+    requires few { length bytes.now ≤ 400000000 }
+    requires some { 0 < count }
+{
+    let mut reader = BookReader::new(alloc)?;
+    let mut rest = bytes;
+    'pieces: while !rest.is_empty() {
+        let (piece, after) = rest.split_at(count.min(rest.len()));
+        reader.feed(piece)?;
+        rest = after;
+    }
+    reader.finish()
+}
+
+/// What a file comes to that is fed in pieces of so many bytes: its book in words, or its fault.
+fn told_in_pieces(alloc: Global, bytes: &[u8], count: usize) -> Result<String, AllocError> {
+    if bytes.len() > 400_000_000 || count == 0 {
+        return Ok(String::new(alloc));
+    }
+    format!(in alloc; "{:?}", read_in_pieces(alloc, bytes, count))
+}
+
+#[test]
+fn a_file_may_be_cut_anywhere(rt: HostRuntime) -> Result<(), Fail> {
+    let alloc = rt.alloc();
+    for file in [PIER.as_bytes(), REAL.as_slice(), ELEVEN_YEARS.as_bytes()] {
+        let whole = told_in_pieces(alloc, file, file.len())?;
+        assert!(rt; whole.starts_with("Ok("));
+        for count in [1, 7] {
+            assert_eq!(rt;
+                told_in_pieces(alloc, file, count)?.as_str(),
+                whole.as_str()
+            );
+        }
+    }
+    for (line, text, _, _) in &CHANGES {
+        let file = changed(alloc, *line, text)?;
+        let whole = told_in_pieces(alloc, file.as_bytes(), file.len())?;
+        for count in [1, 7] {
+            let told = told_in_pieces(alloc, file.as_bytes(), count)?;
+            assert_eq!(rt; told.as_str(), whole.as_str(), "line {line}: {text}");
+        }
     }
     Ok(())
 }
