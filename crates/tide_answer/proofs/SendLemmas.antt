@@ -1,11 +1,10 @@
 -- What the parts that are written come to together.
-use Rattle.std.proofs.Common.{◌≡◌, ℕ, suc, ◌+◌, ◌-◌, ◌<◌, ◌≤◌, List, [], ◌∷◌, ◌++◌, length, take, Result, Ok, Err, sym, ap, ◌∙◌, arith, append_assoc, append-nil, length-append}
+use Rattle.std.proofs.Common.{◌≡◌, ℕ, suc, ◌+◌, ◌-◌, ◌<◌, ◌≤◌, Bool, true, false, if◌then◌else◌, List, [], ◌∷◌, ◌++◌, length, take, Result, Ok, Err, refl, sym, ap, ◌∙◌, arith, append_assoc, append-nil, length-append}
 use Rattle.std.specs.Prelude.{IfOk}
-use Rattle.std.specs.List.{flat_map}
 use Rattle.std.proofs.lemmas.List.{take-append-le}
 use Rattle.tide_edge.specs.declared.writing.WriteFailed.{WriteFailed}
 use Rattle.tide_answer.specs.declared.sending.Sent.{Sent}
-use Rattle.tide_answer.specs.Workings.Sending.{Sends}
+use Rattle.tide_answer.specs.Workings.Sending.{Sends, has_room, gone_for, held_after}
 
 take_beyond : (xs ys : List ℕ) (n : ℕ) → take (length xs + n) (xs ++ ys) ≡ xs ++ take n ys
 take_beyond [] ys n = let e : 0 + n ≡ n = omega arith in ap (λ k. take k ys) e
@@ -55,26 +54,33 @@ sends_sum tells told before now after sent done text rest n k both sum result st
 pub sends_none : (tells : Type 0) (before : List ℕ) (sent : Sent) → Sends tells before before sent [] 0 (Ok sent)
 sends_none tells before sent = (omega arith, omega arith, λ t. sym (append-nil before))
 
--- ---- the lines of events
+-- ---- lines on a page
 
--- one more
-pub lines_step : {T : Type 0} (f : T → List ℕ) (left rest : List T) (x : T) (whole text piece : List ℕ) → left ≡ x ∷ rest → piece ≡ f x → text ++ flat_map f left ≡ whole → (text ++ piece) ++ flat_map f rest ≡ whole
-lines_step f left rest x whole text piece is line so_far =
-    rw line (append_assoc text (f x) (flat_map f rest) ∙ ap (λ es. text ++ flat_map f es) (sym is) ∙ so_far)
+by_room : (fits : Bool) (held line : List ℕ) → (if fits then [] else held) ++ (if fits then held ++ line else line) ≡ held ++ line
+by_room true held line = refl
+by_room false held line = refl
+
+-- no byte is lost where a line is put on a page, and none comes twice
+pub page_kept : (held line now : List ℕ) → now ≡ held_after held line → gone_for held line ++ now ≡ held ++ line
+page_kept held line now is = rw is (by_room (has_room held line) held line)
+
+pub page_length : (held line now : List ℕ) → now ≡ held_after held line → length (gone_for held line) + length now ≡ length held + length line
+page_length held line now is =
+    let all : length (gone_for held line ++ now) ≡ length (held ++ line) = ap length (page_kept held line now is) in
+    omega (arith, all, length-append (gone_for held line) now, length-append held line)
+
+-- one more line of all that are left
+pub page_step : {T : Type 0} (all : List T → List ℕ) (left rest : List T) (x : T) (whole text held line now : List ℕ) → left ≡ x ∷ rest → all (x ∷ rest) ≡ line ++ all rest → now ≡ held_after held line → text ++ (held ++ all left) ≡ whole → (text ++ gone_for held line) ++ (now ++ all rest) ≡ whole
+page_step all left rest x whole text held line now is more put so_far =
+    append_assoc text (gone_for held line) (now ++ all rest)
+    ∙ ap (λ ys. text ++ ys) (sym (append_assoc (gone_for held line) now (all rest)) ∙ ap (λ ys. ys ++ all rest) (page_kept held line now put) ∙ append_assoc held line (all rest))
+    ∙ ap (λ ys. text ++ (held ++ ys)) (sym more ∙ ap all (sym is))
+    ∙ so_far
 
 -- and the last
-pub lines_done : {T : Type 0} (f : T → List ℕ) (left : List T) (whole text : List ℕ) → left ≡ [] → text ++ flat_map f left ≡ whole → text ≡ whole
-lines_done f left whole text none so_far = sym (append-nil text) ∙ ap (λ es. text ++ flat_map f es) (sym none) ∙ so_far
-
--- ---- the lines of cells
-
-pub parts_step : {T : Type 0} (all : List T → List ℕ) (left rest : List T) (x : T) (whole text piece : List ℕ) → left ≡ x ∷ rest → all (x ∷ rest) ≡ piece ++ all rest → text ++ all left ≡ whole → (text ++ piece) ++ all rest ≡ whole
-parts_step all left rest x whole text piece is more so_far =
-    append_assoc text piece (all rest) ∙ ap (λ ys. text ++ ys) (sym more) ∙ ap (λ xs. text ++ all xs) (sym is) ∙ so_far
-
-pub parts_done : {T : Type 0} (all : List T → List ℕ) (left : List T) (whole text : List ℕ) → left ≡ [] → all [] ≡ [] → text ++ all left ≡ whole → text ≡ whole
-parts_done all left whole text none empty so_far =
-    sym (append-nil text) ∙ ap (λ ys. text ++ ys) (sym empty) ∙ ap (λ xs. text ++ all xs) (sym none) ∙ so_far
+pub page_done : {T : Type 0} (all : List T → List ℕ) (left : List T) (whole text held : List ℕ) → left ≡ [] → all [] ≡ [] → text ++ (held ++ all left) ≡ whole → text ++ held ≡ whole
+page_done all left whole text held none empty so_far =
+    ap (λ ys. text ++ ys) (sym (append-nil held) ∙ ap (λ ys. held ++ ys) (sym empty ∙ ap all (sym none))) ∙ so_far
 
 -- ---- a text from its first byte on
 
@@ -83,6 +89,10 @@ from_first tells before after text n fault sends =
     let most = sends.1 in
     let all : fault.sent - 0 ≡ fault.sent = omega arith in
     (omega (arith, most), λ t. sends.2 t ∙ ap (λ m. before ++ take m text) all)
+
+pub sent_below : (tells : Type 0) (before after : List ℕ) (sent : Sent) (text : List ℕ) (n most : ℕ) (result : Result Sent WriteFailed) → Sends tells before after sent text n result → sent.bytes + length text ≤ most → IfOk result (λ (done : Sent). done.bytes ≤ most)
+sent_below tells before after sent text n most (Ok done) sends small = let bytes = sends.0 in omega (arith, bytes, small)
+sent_below tells before after sent text n most (Err fault) sends small = tt
 
 pub ok_below : (result : Result Sent WriteFailed) (n most : ℕ) → n < most → IfOk result (λ (done : Sent). done.bytes ≤ n) → IfOk result (λ (done : Sent). done.bytes < most)
 ok_below (Ok done) n most few short = omega (arith, few, short)

@@ -1,11 +1,11 @@
 //! A certificate that is written as its cells are found. It takes no memory.
 
-ghost use Rattle.std.specs.Prelude.{◌≡◌, ◌+◌, ◌*◌, ◌<◌, ◌≤◌, ◌^◌, ◌++◌, length, map, All, IfOk, IfSome, is_err};
+ghost use Rattle.std.specs.Prelude.{◌≡◌, ◌+◌, ◌*◌, ◌<◌, ◌≤◌, ◌^◌, ◌++◌, length, map, All, IfOk, IfSome, OnOk, is_err};
 ghost use Rattle.std.specs.Option.{ForSome};
 ghost use Rattle.cert_text.specs.Certificates.{IsCell, IsMark, IsStationName};
 ghost use Rattle.cert_text.specs.Lines.{begin_line_of, end_line_of, mark_line_of, cell_line_of, track_lines_of, lines_if_there, certificate_text, ended, joined};
 ghost use Rattle.event_list.specs.Merging.{cells_left};
-ghost use Rattle.tide_answer.specs.Workings.Sending.{Sends, left_count};
+ghost use Rattle.tide_answer.specs.Workings.Sending.{Sends, gone_for, held_after, left_count};
 ghost use Rattle.tide_answer.specs.Workings.Certifying.{certificate_in};
 ghost use Rattle.tide_answer.specs.Workings.Curves.{tide_cells, IsReady};
 ghost use Rattle.tide_answer.specs.Workings.Spans.{AreMoments, IsNear};
@@ -14,6 +14,7 @@ ghost use Rattle.tide_edge.specs.Faults.{faults_after};
 
 use crate::asked::Asked;
 use crate::following::{mark_search, slack_search, turn_search};
+use crate::page::Page;
 use crate::reach::Reach;
 use crate::sending::{Sent, send, send_name};
 use crate::station::{Found, reached};
@@ -163,25 +164,33 @@ fn send_cells<C: Curve + Drop, S: Sink>(
     ensures counts { S.faults out.new ≡ faults_after (is_err result) (S.faults out.old) }
 {
     let mut search = search;
+    let mut page = Page::new();
     let mut so_far = sent;
     while let Some(found) = search.next() {
-        so_far = send_cell(out, so_far, &found.cell)?;
+        so_far = put_cell(&mut page, out, so_far, &found.cell)?;
     }
-    Ok(so_far)
+    page.end(out, so_far)
 }
 
-fn send_cell<S: Sink>(out: &mut S, sent: Sent, cell: &Cell) -> Result<Sent, WriteFailed>
+// Puts the line of a cell on a page, and counts the cell.
+fn put_cell<S: Sink>(
+    page: &mut Page,
+    out: &mut S,
+    sent: Sent,
+    cell: &Cell,
+) -> Result<Sent, WriteFailed>
     requires cell { IsCell cell.now }
-    requires few { sent.bytes + 24 < 2 ^ 64 }
+    requires few { sent.bytes + length page.old.text.bytes < 2 ^ 64 }
     requires count { sent.cells + 1 < 2 ^ 64 }
-    ensures sends { Sends (S.tells out.old) (S.taken out.old) (S.taken out.new) sent (ended (cell_line_of cell.now)) 1 result }
-    ensures short { IfOk result (λ done. done.bytes ≤ sent.bytes + 24) }
+    ensures sends { Sends (S.tells out.old) (S.taken out.old) (S.taken out.new) sent (gone_for page.old.text.bytes (ended (cell_line_of cell.now))) 1 result }
+    ensures holds { OnOk result (page.new.text.bytes ≡ held_after page.old.text.bytes (ended (cell_line_of cell.now))) }
+    ensures short { length (ended (cell_line_of cell.now)) ≤ 24 }
     ensures still_tells { S.tells out.old → S.tells out.new }
     ensures counts { S.faults out.new ≡ faults_after (is_err result) (S.faults out.old) }
 {
-    let mut line = ArrayString::new();
+    let mut line = ArrayString::<24>::new();
     cell_line(cell, &mut line);
-    let sent = send(out, sent, line.as_str())?;
+    let sent = page.put(out, sent, line.as_str())?;
     Ok(Sent {
         bytes: sent.bytes,
         cells: sent.cells + 1,

@@ -28,6 +28,7 @@ mod laws;
 mod levels;
 mod lines;
 mod loading;
+mod page;
 mod predict;
 mod reach;
 mod ready;

@@ -7,6 +7,7 @@ ghost use Rattle.tide_answer.specs.Workings.Sending.{Sends};
 ghost use Rattle.tide_edge.specs.Faults.{faults_after};
 ghost use Rattle.zone_time.specs.Zones.{IsZone};
 
+use crate::page::Page;
 use arrayvec::ArrayString;
 use curve_law::Event;
 use decimal_text::Text;
@@ -22,7 +23,7 @@ use zone_time::Zone;
 pub struct Sent {
     /// Its bytes, from the first on.
     pub bytes: u64,
-    /// The cells whose lines are written.
+    /// The cells whose lines are written, or are on a page.
     pub cells: u64,
 }
 
@@ -77,12 +78,13 @@ pub fn send_events<'a, S: Sink>(
     ensures still_tells { S.tells out.old → S.tells out.new }
     ensures counts { S.faults out.new ≡ faults_after (is_err result) (S.faults out.old) }
 {
+    let mut page = Page::new();
     let mut so_far = sent;
     while let Some(event) = merge.next() {
         let line = line_of(units, &event, zone);
-        so_far = send(out, so_far, line.as_str())?;
+        so_far = page.put(out, so_far, line.as_str())?;
     }
-    Ok(so_far)
+    page.end(out, so_far)
 }
 
 fn line_of(units: Units, event: &Event, zone: &Zone) -> ArrayString<96>

@@ -9,11 +9,12 @@ ghost use Rattle.tide_answer.specs.Givens.{IsGiven};
 use super::*;
 use decimal_text::{Bytes, Text, Words};
 use harmonics_text::{Book, BookFault, read_book};
-use question::{AskFault, Question, pairs_of_words, read_question};
-use rows::{ANSWERS, FAULTS, VERDICTS};
+use question::{AskFault, Command, Question, pairs_of_words, read_question};
+use rows::{ANSWERS, FAULTS, STREAMS, VERDICTS};
 use station_table::{OffsetFault, OffsetTable, read_offsets};
 use std::alloc::{AllocError, Global};
 use std::test::Fail;
+use tide_edge::MemorySink;
 use zone_time::Zone;
 
 const PIER: &[u8] =
@@ -88,6 +89,51 @@ fn questions_have_their_answers(rt: HostRuntime) -> Result<(), Fail> {
     for &(line, expected) in ANSWERS {
         let text = told(rt.alloc(), line, "")?;
         assert_eq!(rt; text.as_slice(), expected.as_bytes());
+    }
+    Ok(())
+}
+
+// What a sink took of an answer that is written as it is found, and how much where a write failed.
+fn streamed(
+    alloc: Global,
+    line: &str,
+    most: u64,
+    failing: u64,
+) -> Result<(MemorySink, Option<u64>), Fail> {
+    let book = pier(alloc)?;
+    let table = table(alloc)?;
+    let question = asked(alloc, line)?;
+    let given = given(alloc, "")?;
+    if !matches!(question.command, Command::Predict | Command::Certify) {
+        return Err(Fail::from(AllocError));
+    }
+    let Ok(ready) = prepare(alloc, &book, &table, &question, &given) else {
+        return Err(Fail::from(AllocError));
+    };
+    if !ready.streams() {
+        return Err(Fail::from(AllocError));
+    }
+    let mut sink = MemorySink::new(alloc, most.max(1), 100_000, [failing].to_vec(alloc)?)?;
+    let written = answer_into(&ready, &mut sink);
+    Ok((sink, written.err().map(|fault| fault.sent)))
+}
+
+#[test]
+fn answers_are_written_as_they_are_found(rt: HostRuntime) -> Result<(), Fail> {
+    let alloc = rt.alloc();
+    for &(line, calls) in STREAMS {
+        let text = told(alloc, line, "")?;
+        for &(most, failing, expected) in calls {
+            let (sink, sent) = streamed(alloc, line, most, failing)?;
+            assert_eq!(rt;
+                sent,
+                expected,
+                "{line}, call {failing} of {most} bytes fails"
+            );
+            let taken = expected.unwrap_or(text.as_slice().len() as u64);
+            assert_eq!(rt; sink.bytes().len() as u64, taken);
+            assert!(rt; text.as_slice().starts_with(sink.bytes()));
+        }
     }
     Ok(())
 }

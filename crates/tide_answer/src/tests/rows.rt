@@ -232,3 +232,33 @@ pub const FAULTS: &[(Fault, u8, &str)] = &[
     ),
     (Fault::Refused(Refusal::NoMemory), 8, "no memory\n"),
 ];
+
+// The words of a line whose answer is longer than a page of 4096 bytes; how many bytes a call takes at
+// most, which call fails, and how much is written where it does.
+pub const STREAMS: &[(&str, &[(u64, u64, Option<u64>)])] = &[
+    (
+        "predict|file=f|station=Pier|begin=2000-01-10T00:00Z|end=2000-02-24T00:00Z",
+        // The name has 4 bytes and the end of its line 1; the pages have 43 half days of 95 bytes,
+        // 43 and 4.
+        &[
+            (5000, 0, None),
+            (5000, 3, Some(5)),
+            (5000, 4, Some(4090)),
+            (5000, 5, Some(8175)),
+            (10, 0, None),
+            (10, 600, Some(5970)),
+        ],
+    ),
+    (
+        "certify|file=f|station=Flow|begin=2000-01-10T00:00Z|end=2000-01-30T00:00Z",
+        // The head has 88 bytes in four calls and the heading 11, and the track's pages 4095 and 1265. The
+        // next heading has 12, that track's pages 4093 and 337, and the last line 5.
+        &[
+            (5000, 0, None),
+            (5000, 7, Some(4194)),
+            (5000, 10, Some(9564)),
+            (1000, 16, Some(7471)),
+            (5000, 12, None),
+        ],
+    ),
+];

@@ -3,51 +3,59 @@ use Rattle.std.specs.List.{flat_map}
 use Rattle.std.proofs.lemmas.List.Elements.{All-head, All-tail}
 use Rattle.std.proofs.lemmas.Result.{err_from_is_err_and}
 use Rattle.listing.specs.Listings.{IsListed, event_line_in}
-use Rattle.tide_answer.proofs.SendLemmas.{lines_done, lines_step, sends_cut, sends_then, sends_none}
+use Rattle.tide_answer.specs.Workings.Sending.{gone_for, held_after}
+use Rattle.tide_answer.proofs.SendLemmas.{page_done, page_length, page_step, sends_cut, sends_then, sends_none}
 use Rattle.tide_answer.proofs.sending.send_events.Goals as goal
 
 pub loop-event-init : goal.loop-event-init
-loop-event-init g c = record {
-  sends = ([], refl, sends_none (g.S.Sink.tells c.args.out.now) (g.S.Sink.taken c.args.out.now) c.args.sent);
-  tells = λ t. t;
-  unfailed = refl;
-  few = c.requires.few;
-  listed = c.requires.listed;
-  all = refl;
-}
+loop-event-init g c =
+    let empty = c.new-page.ensures in
+    let few = c.requires.few in
+    let none : length c.new-page.result.text.bytes ≡ 0 = ap length empty in
+    record {
+      sends = ([], rw empty refl, sends_none (g.S.Sink.tells c.args.out.now) (g.S.Sink.taken c.args.out.now) c.args.sent);
+      tells = λ t. t;
+      unfailed = refl;
+      few = omega (arith, few, none);
+      listed = c.requires.listed;
+      all = refl;
+    }
 
 pub line_of-line-requires-clause-listed : goal.line_of-line-requires-clause-listed
 line_of-line-requires-clause-listed g c =
     All-head (IsListed c.args.units) c.in-Some.event c.next.new.self.left (rw c.in-Some.ensures.next at c.loop-event.invariant.listed)
 
-pub send-requires : goal.send-requires
-send-requires g c =
-    let fits = c.as_str.ensures.fits in
-    let few = c.loop-event.invariant.few in
-    let count : length c.loop-event.merge.left ≡ suc (length c.next.new.self.left) = ap length c.in-Some.ensures.next in
-    omega (arith, fits, few, count)
+pub put-requires-clause-short : goal.put-requires-clause-short
+put-requires-clause-short g c = let fits = c.as_str.ensures.fits in omega (arith, fits)
+
+pub put-requires-clause-few : goal.put-requires-clause-few
+put-requires-clause-few g c = let few = c.loop-event.invariant.few in omega (arith, few)
 
 pub loop-event-preserved : goal.loop-event-preserved
 loop-event-preserved g c =
     let so_far = c.loop-event.invariant in
     let is = c.in-Some.ensures.next in
     let text = so_far.sends.0 in
+    let held = c.loop-event.page.text.bytes in
     let piece = c.as_str.result.now in
+    let now = c.put.new.self.text.bytes in
     let line = c.as_str.ensures.value ∙ c.line_of-line.ensures in
+    let put = c.in_ok-so_far.ensures.holds in
     let bytes = c.in_ok-so_far.ensures.sends.0 in
     let fits = c.as_str.ensures.fits in
     let few = so_far.few in
+    let long = page_length held piece now put in
     let count : length c.loop-event.merge.left ≡ suc (length c.next.new.self.left) = ap length is in
     record {
       sends = (
-        text ++ piece,
-        lines_step (event_line_in c.args.zone.now c.args.units) c.loop-event.merge.left c.next.new.self.left c.in-Some.event _ text piece is line so_far.sends.1,
-        sends_then (g.S.Sink.tells c.args.out.now) (g.S.Sink.tells c.loop-event.out) (g.S.Sink.taken c.args.out.now) (g.S.Sink.taken c.loop-event.out) (g.S.Sink.taken c.send.new.out)
-            c.args.sent c.loop-event.so_far text piece 0 0 (Ok c.in_ok-so_far.so_far) so_far.tells so_far.sends.2 c.in_ok-so_far.ensures.sends,
+        text ++ gone_for held piece,
+        page_step (flat_map (event_line_in c.args.zone.now c.args.units)) c.loop-event.merge.left c.next.new.self.left c.in-Some.event _ text held piece now is (rw line refl) put so_far.sends.1,
+        sends_then (g.S.Sink.tells c.args.out.now) (g.S.Sink.tells c.loop-event.out) (g.S.Sink.taken c.args.out.now) (g.S.Sink.taken c.loop-event.out) (g.S.Sink.taken c.put.new.out)
+            c.args.sent c.loop-event.so_far text (gone_for held piece) 0 0 (Ok c.in_ok-so_far.so_far) so_far.tells so_far.sends.2 c.in_ok-so_far.ensures.sends,
       );
-      tells = λ t. c.send.ensures.still_tells (so_far.tells t);
+      tells = λ t. c.put.ensures.still_tells (so_far.tells t);
       unfailed = c.in_ok-so_far.ensures.counts ∙ so_far.unfailed;
-      few = omega (arith, bytes, fits, few, count);
+      few = omega (arith, bytes, fits, few, long, count);
       listed = All-tail (IsListed c.args.units) c.in-Some.event c.next.new.self.left (rw is at so_far.listed);
       all = c.next.ensures.all ∙ so_far.all;
     }
@@ -57,13 +65,23 @@ returns-in_err-so_far-clause-sends g c =
     let p = err_from_is_err_and c.from_residual.result c.from_residual.ensures.1 in
     let so_far = c.loop-event.invariant in
     let text = so_far.sends.0 in
+    let held = c.loop-event.page.text.bytes in
     let piece = c.as_str.result.now in
+    let now = held_after held piece in
+    let rest = flat_map (event_line_in c.args.zone.now c.args.units) c.next.new.self.left in
     let line = c.as_str.ensures.value ∙ c.line_of-line.ensures in
-    let whole = lines_step (event_line_in c.args.zone.now c.args.units) c.loop-event.merge.left c.next.new.self.left c.in-Some.event _ text piece c.in-Some.ensures.next line so_far.sends.1 in
-    rw (p.1, p.2, ← whole) (sends_cut _ _ _ c.args.sent (text ++ piece) (flat_map (event_line_in c.args.zone.now c.args.units) c.next.new.self.left) 0 0 _
-    (sends_then _ _ _ _ _ c.args.sent c.loop-event.so_far text piece 0 0 (Err _) so_far.tells so_far.sends.2 c.in_err-so_far.ensures.sends))
+    let whole = page_step (flat_map (event_line_in c.args.zone.now c.args.units)) c.loop-event.merge.left c.next.new.self.left c.in-Some.event _ text held piece now c.in-Some.ensures.next (rw line refl) refl so_far.sends.1 in
+    rw (p.1, p.2, ← whole) (sends_cut _ _ _ c.args.sent (text ++ gone_for held piece) (now ++ rest) 0 0 _
+    (sends_then _ _ _ _ _ c.args.sent c.loop-event.so_far text (gone_for held piece) 0 0 (Err _) so_far.tells so_far.sends.2 c.in_err-so_far.ensures.sends))
+
+pub end-requires : goal.end-requires
+end-requires g c = let few = c.loop-event.invariant.few in omega (arith, few)
 
 pub returns-clause-sends : goal.returns-clause-sends
 returns-clause-sends g c =
     let so_far = c.loop-event.invariant in
-    rw (lines_done (event_line_in c.args.zone.now c.args.units) c.loop-event.merge.left _ so_far.sends.0 c.in_default.ensures.next.0 so_far.sends.1) at so_far.sends.2
+    let text = so_far.sends.0 in
+    let held = c.loop-event.page.text.bytes in
+    let whole = page_done (flat_map (event_line_in c.args.zone.now c.args.units)) c.loop-event.merge.left _ text held c.in_default.ensures.next.0 refl so_far.sends.1 in
+    rw (← whole) (sends_then (g.S.Sink.tells c.args.out.now) (g.S.Sink.tells c.loop-event.out) (g.S.Sink.taken c.args.out.now) (g.S.Sink.taken c.loop-event.out) (g.S.Sink.taken c.end.new.out)
+    c.args.sent c.loop-event.so_far text held 0 0 c.end.result so_far.tells so_far.sends.2 c.end.ensures.sends)

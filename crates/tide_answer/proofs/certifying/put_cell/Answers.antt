@@ -1,15 +1,20 @@
 use Rattle.std.proofs.Common.{◌∙◌, arith}
 use Rattle.std.proofs.lemmas.Result.{err_from_is_err_and}
-use Rattle.tide_answer.proofs.certifying.send_cell.Goals as goal
+use Rattle.tide_answer.proofs.certifying.put_cell.Goals as goal
 
-pub send-requires : goal.send-requires
-send-requires g c = let fits = c.as_str.ensures.fits in let few = c.requires.few in omega (arith, fits, few)
+pub put-requires-clause-short : goal.put-requires-clause-short
+put-requires-clause-short g c = let fits = c.as_str.ensures.fits in omega (arith, fits)
 
 pub returns-in_err-sent-clause-sends : goal.returns-in_err-sent-clause-sends
 returns-in_err-sent-clause-sends g c =
     let p = err_from_is_err_and c.from_residual.result c.from_residual.ensures.1 in
     let line = c.as_str.ensures.value ∙ c.cell_line.ensures in
     rw (p.1, p.2) (rw line at c.in_err-sent.ensures.sends)
+
+pub returns-in_err-sent-clause-short : goal.returns-in_err-sent-clause-short
+returns-in_err-sent-clause-short g c =
+    let line = c.as_str.ensures.value ∙ c.cell_line.ensures in
+    rw line at c.as_str.ensures.fits
 
 pub returns-clause-sends : goal.returns-clause-sends
 returns-clause-sends g c =
@@ -18,8 +23,12 @@ returns-clause-sends g c =
     let cells = sends.1 in
     (sends.0, omega (arith, cells), sends.2)
 
+pub returns-clause-holds : goal.returns-clause-holds
+returns-clause-holds g c =
+    let line = c.as_str.ensures.value ∙ c.cell_line.ensures in
+    rw line at c.in_ok-sent.ensures.holds
+
 pub returns-clause-short : goal.returns-clause-short
 returns-clause-short g c =
-    let bytes = c.in_ok-sent.ensures.sends.0 in
-    let fits = c.as_str.ensures.fits in
-    omega (arith, bytes, fits)
+    let line = c.as_str.ensures.value ∙ c.cell_line.ensures in
+    rw line at c.as_str.ensures.fits
