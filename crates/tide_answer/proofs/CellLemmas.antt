@@ -1,4 +1,4 @@
--- The cells of a track's curve may stand in the track.
+-- The cells of a track's curve may stand in the track, and have usual levels.
 use Rattle.std.proofs.Common.{◌≡◌, ℕ, suc, ◌≤◌, ◌==◌, ℤ, pos, ◌+ℤ◌, Bool, true, false, ◌&&◌, cond, nat_le, List, [], ◌∷◌, All, refl, ap, ◌∙◌, arith}
 use Rattle.std.specs.Prelude.{unsigned_abs}
 use Rattle.std.specs.Ordering.{int_eq}
@@ -7,9 +7,10 @@ use Rattle.std.proofs.lemmas.Int.{ints}
 use Rattle.std.proofs.lemmas.List.Elements.{All-nil, All-cons}
 use Rattle.cert_text.specs.declared.track_name.TrackName.{TrackName}
 use Rattle.cert_text.specs.Tracks.{track_of}
-use Rattle.cert_text.specs.Certificates.{IsCellOf}
+use Rattle.cert_text.specs.Certificates.{IsCellOf, HasUsualLevel}
 use Rattle.curve_law.specs.declared.cell.Cell.{Cell}
 use Rattle.curve_law.specs.declared.cell.Cell.TheVariants.{Quiet, Still, Turn}
+use Rattle.curve_law.specs.declared.kind.Kind.{Kind}
 use Rattle.curve_law.specs.declared.verdict.Verdict.{Verdict}
 use Rattle.curve_law.specs.declared.verdict.Verdict.TheVariants.{Accepted, WrongLength, NotQuiet, WrongStep, WrongLevel}
 use Rattle.curve_law.specs.Cells.{minutes_of, all_minutes}
@@ -57,33 +58,55 @@ quiet_length c a n quiet =
     let most = length.1 in
     (grind (arith, nat_tests), grind (arith, nat_tests))
 
+-- an event that is accepted is the curve's
+accepted_event : (c : Meaning) (a : ℤ) (number : ℕ) (kind : Kind) (level : ℤ) → cell_verdict c a number (Turn kind level) ≡ Accepted → (kind ≡ (event_at c.track a).kind) × (level ≡ c.track.note a)
+unfolding cell_verdict
+accepted_event c a number kind level ok =
+    let event = accepted_if (has_event c.track a) _ (WrongStep number) (λ e. cc) ok in
+    let alike = accepted_if (same_kind kind (event_at c.track a).kind) _ (WrongStep number) (λ e. cc) event.1 in
+    let written = accepted_if (int_eq level (c.track.note a)) _ (WrongLevel number level (c.track.note a)) (λ e. cc) alike.1 in
+    (one_kind kind (event_at c.track a).kind alike.0, (Decides-int_eq level (c.track.note a)).0 written.0)
+
 accepted_cell : (track : TrackName) (c : Meaning) (a : ℤ) (number : ℕ) (cell : Cell) → IsOf track c → IsMinute c a → cell_verdict c a number cell ≡ Accepted → IsCellOf track cell
 unfolding cell_verdict
 accepted_cell track c a number (Quiet n) is at ok = quiet_length c a n (accepted_if (is_quiet c a n) _ (NotQuiet number) (λ e. cc) ok).0
 accepted_cell track c a number Still is at ok = tt
 accepted_cell track c a number (Turn kind level) is at ok =
-    let event = accepted_if (has_event c.track a) _ (WrongStep number) (λ e. cc) ok in
-    let alike = accepted_if (same_kind kind (event_at c.track a).kind) _ (WrongStep number) (λ e. cc) event.1 in
-    let written = accepted_if (int_eq level (c.track.note a)) _ (WrongLevel number level (c.track.note a)) (λ e. cc) alike.1 in
-    let same = one_kind kind (event_at c.track a).kind alike.0 in
-    let computed = (Decides-int_eq level (c.track.note a)).0 written.0 in
+    let event = accepted_event c a number kind level ok in
     let small = is.small a at in
-    (ap track_of same ∙ event_track track c (side_at c.track a) is, rw computed (omega (arith, small)))
+    (ap track_of event.0 ∙ event_track track c (side_at c.track a) is, rw event.1 (omega (arith, small)))
 
-accepted_cells : (track : TrackName) (c : Meaning) (a : ℤ) (number : ℕ) (cells : List Cell) → IsOf track c → IsSpan c a (all_minutes cells) → cells_verdict c a number cells ≡ Accepted → All (IsCellOf track) cells
+usual_cell : (track : TrackName) (c : Meaning) (a : ℤ) (number : ℕ) (cell : Cell) → IsOf track c → IsMinute c a → cell_verdict c a number cell ≡ Accepted → HasUsualLevel cell
+usual_cell track c a number (Quiet n) is at ok = tt
+usual_cell track c a number Still is at ok = tt
+usual_cell track c a number (Turn kind level) is at ok = rw (accepted_event c a number kind level ok).1 (is.small a at)
+
+-- what each accepted cell says, all do
+abbrev IfAccepted : Meaning → (Cell → Type 0) → Type 0
+IfAccepted c P = (a : ℤ) (number : ℕ) (cell : Cell) → IsMinute c a → cell_verdict c a number cell ≡ Accepted → P cell
+
+accepted_cells : (P : Cell → Type 0) (c : Meaning) (a : ℤ) (number : ℕ) (cells : List Cell) → IfAccepted c P → IsSpan c a (all_minutes cells) → cells_verdict c a number cells ≡ Accepted → All P cells
 unfolding cells_verdict all_minutes
-accepted_cells track c a number [] is span ok = All-nil (IsCellOf track)
-accepted_cells track c a number (cell ∷ cells) is span ok =
+accepted_cells P c a number [] each span ok = All-nil P
+accepted_cells P c a number (cell ∷ cells) each span ok =
     let parts = both_accepted (cell_verdict c a number cell) (cells_verdict c (a +ℤ pos (minutes_of cell)) (suc number) cells) ok in
     let first = span.first in
     let last = span.last in
-    All-cons (IsCellOf track) cell cells
-    (accepted_cell track c a number cell is (record { first = first; last = omega (arith, ints) }) parts.0)
-    (accepted_cells track c (a +ℤ pos (minutes_of cell)) (suc number) cells is (record { first = omega (arith, ints); last = omega (arith, ints) }) parts.1)
+    All-cons P cell cells
+    (each a number cell (record { first = first; last = omega (arith, ints) }) parts.0)
+    (accepted_cells P c (a +ℤ pos (minutes_of cell)) (suc number) cells each (record { first = omega (arith, ints); last = omega (arith, ints) }) parts.1)
 
-pub accepted_track : (track : TrackName) (c : Meaning) (s : Span) (cells : List Cell) → IsOf track c → IsSpan c s.begin (minutes_in s) → verdict c s.begin (minutes_in s) cells ≡ Accepted → All (IsCellOf track) cells
+accepted_all : (P : Cell → Type 0) (c : Meaning) (s : Span) (cells : List Cell) → IfAccepted c P → IsSpan c s.begin (minutes_in s) → verdict c s.begin (minutes_in s) cells ≡ Accepted → All P cells
 unfolding verdict
-accepted_track track c s cells is span ok =
+accepted_all P c s cells each span ok =
     let whole = accepted_if (all_minutes cells == minutes_in s) _ _ (λ e. cc) ok in
     let all : all_minutes cells ≡ minutes_in s = (Decides-eqb (all_minutes cells) (minutes_in s)).0 whole.0 in
-    accepted_cells track c s.begin 1 cells is (rw all span) whole.1
+    accepted_cells P c s.begin 1 cells each (rw all span) whole.1
+
+pub accepted_track : (track : TrackName) (c : Meaning) (s : Span) (cells : List Cell) → IsOf track c → IsSpan c s.begin (minutes_in s) → verdict c s.begin (minutes_in s) cells ≡ Accepted → All (IsCellOf track) cells
+accepted_track track c s cells is span ok =
+    accepted_all (IsCellOf track) c s cells (λ a number cell at right. accepted_cell track c a number cell is at right) span ok
+
+pub usual_track : (track : TrackName) (c : Meaning) (s : Span) (cells : List Cell) → IsOf track c → IsSpan c s.begin (minutes_in s) → verdict c s.begin (minutes_in s) cells ≡ Accepted → All HasUsualLevel cells
+usual_track track c s cells is span ok =
+    accepted_all HasUsualLevel c s cells (λ a number cell at right. usual_cell track c a number cell is at right) span ok

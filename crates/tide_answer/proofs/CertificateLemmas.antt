@@ -1,20 +1,23 @@
 -- The certificate that is written of a station's tracks.
-use Rattle.std.proofs.Common.{◌≡◌, ℕ, ◌^◌, ◌<◌, ◌≤◌, ℤ, Bool, true, false, List, Option, Some, None, is_some, option_map, Ok, All, refl, ap, ◌∙◌, inr}
-use Rattle.std.specs.Prelude.{unsigned_abs, IfSome}
+use Rattle.std.proofs.Common.{◌≡◌, ℕ, ◌^◌, ◌<◌, ◌≤◌, ℤ, Bool, true, false, List, [], length, Option, Some, None, is_some, option_map, Ok, All, refl, ap, ◌∙◌, inr, arith}
+use Rattle.std.specs.Prelude.{unsigned_abs, IfSome, sum_by, option_to_list, unwrap_or}
 use Rattle.std.specs.Option.{ForSome}
+use Rattle.std.proofs.lemmas.Int.{ints}
 use Rattle.cert_text.specs.declared.track_name.TrackName.{TrackName}
 use Rattle.cert_text.specs.declared.track_name.TrackName.TheVariants.{Turn, Slack, Mark}
-use Rattle.cert_text.specs.Certificates.{IsCertificate, IsCellOf, IsStationName}
+use Rattle.cert_text.specs.Certificates.{IsCertificate, IsCellOf, IsStationName, HasUsualLevel, HasUsualLevels, cell_count as cells_of_all}
 use Rattle.cert_text.specs.Lines.{certificate_text}
 use Rattle.cert_text.specs.Tracks.{track_of}
 use Rattle.curve_law.specs.declared.cell.Cell.{Cell}
 use Rattle.curve_law.specs.declared.tracks.Tracks.{Tracks}
-use Rattle.curve_law.specs.Meaning.{Meaning}
+use Rattle.curve_law.specs.declared.verdict.Verdict.TheVariants.{Accepted}
+use Rattle.curve_law.specs.Meaning.{Meaning, IsSpan}
+use Rattle.curve_law.specs.Verdicts.{verdict}
 use Rattle.curve_law.proofs.AgreeLemmas.{cover-agrees}
 use Rattle.event_list.specs.declared.span.Span.{Span}
 use Rattle.event_list.specs.Events.{Followed, IsKnown, IsAccepted, AgreeIfFollowed, AllAgree, minutes_in, cover_over, covers_of, cell_count, cells_in}
 use Rattle.event_list.specs.Shifts.{widened_of}
-use Rattle.event_list.proofs.EventLemmas.{covers-accepted}
+use Rattle.event_list.proofs.EventLemmas.{covers-accepted, cells-parts, count-few}
 use Rattle.harmonics_text.specs.declared.book.Book.{Book}
 use Rattle.rate_bound.specs.declared.version.Version.TheVariants.{Second}
 use Rattle.rate_bound.specs.Meanings.{turn_meaning}
@@ -32,7 +35,7 @@ use Rattle.tide_answer.specs.Sites.{Site, site_in}
 use Rattle.tide_answer.specs.Workings.Certifying.{certificate_in}
 use Rattle.tide_answer.specs.Workings.Curves.{followed_tide, IsReady}
 use Rattle.tide_answer.specs.Workings.Spans.{IsFound}
-use Rattle.tide_answer.proofs.CellLemmas.{IsOf, accepted_track}
+use Rattle.tide_answer.proofs.CellLemmas.{IsOf, accepted_track, usual_track}
 use Rattle.tide_answer.proofs.FollowLemmas.{found_alike, ready_known, few_cells}
 use Rattle.tide_answer.proofs.MovableLemmas.{millionths_small}
 
@@ -83,11 +86,32 @@ of_if_marked : (mark : Option ℤ) (f : ℤ → Meaning) → ((level : ℤ) → 
 of_if_marked (Some level) f is x e = let same : f level ≡ x = cc in rw (← same) (is level)
 of_if_marked None f is x e = absurd cc
 
+-- the curves of a tide have the events and the levels of their tracks
+record AreOf (f : Followed) : Type 0 where
+  pub turn : IsOf Turn f.turn
+  pub slack : ForSome f.slack (IsOf Slack)
+  pub mark : ForSome f.mark (IsOf Mark)
+
+followed_of : (found : Found) (mark : Option ℤ) → IsGentle found.curve → AreOf (followed_tide Second found mark)
+unfolding followed_tide
+followed_of found mark gentle = record {
+  turn = of_notes Turn found.curve _ gentle refl refl refl refl refl;
+  slack = of_if_asked _ _ (of_notes Slack found.curve _ gentle refl refl refl refl refl);
+  mark = of_if_marked mark _ (λ level. of_notes Mark found.curve _ gentle refl refl refl refl refl);
+}
+
+-- what an accepted track says, one that may be left out says where it is there
+track_if : (P : List Cell → Type 0) (track : TrackName) (s : Span) (curve : Option Meaning) (cells : Option (List Cell)) → ((c : Meaning) (cells : List Cell) → IsOf track c → IsSpan c s.begin (minutes_in s) → verdict c s.begin (minutes_in s) cells ≡ Accepted → P cells) → ForSome curve (IsOf track) → ForSome curve (IsKnown s) → IsAccepted s curve cells → IfSome cells P
+track_if P track s None None each of known accepted = tt
+track_if P track s None (Some cells) each of known accepted = absurd accepted
+track_if P track s (Some c) None each of known accepted = absurd accepted
+track_if P track s (Some c) (Some cells) each of known accepted = each c cells (of c refl) (known c refl).span accepted
+
 track_sound : (track : TrackName) (s : Span) (curve : Option Meaning) (cells : Option (List Cell)) → ForSome curve (IsOf track) → ForSome curve (IsKnown s) → IsAccepted s curve cells → IfSome cells (All (IsCellOf track))
-track_sound track s None None of known accepted = tt
-track_sound track s None (Some cells) of known accepted = absurd accepted
-track_sound track s (Some c) None of known accepted = absurd accepted
-track_sound track s (Some c) (Some cells) of known accepted = accepted_track track c s cells (of c refl) (known c refl).span accepted
+track_sound track s curve cells = track_if (All (IsCellOf track)) track s curve cells (λ c cells is span ok. accepted_track track c s cells is span ok)
+
+track_usual : (track : TrackName) (s : Span) (curve : Option Meaning) (cells : Option (List Cell)) → ForSome curve (IsOf track) → ForSome curve (IsKnown s) → IsAccepted s curve cells → IfSome cells (All HasUsualLevel)
+track_usual track s curve cells = track_if (All HasUsualLevel) track s curve cells (λ c cells is span ok. usual_track track c s cells is span ok)
 
 marked_alike : (mark : Option ℤ) (f : ℤ → Meaning) (g : Meaning → List Cell) → is_some (option_map g (option_map f mark)) ≡ is_some mark
 marked_alike (Some level) f g = refl
@@ -100,18 +124,54 @@ certificate_sound name asked found tracks named begin end ready same =
     let f = followed_tide Second found asked.mark in
     let known = ready_known Second asked found ready in
     let accepted = covers-accepted f s in
-    let gentle = ready.gentle in
+    let of = followed_of found asked.mark ready.gentle in
     rw same (record {
       version = inr refl;
       station = named;
       begin = begin;
       end = end;
       mark = if_some (λ level. unsigned_abs level ≤ 10000000000) asked.mark ready.mark;
-      turn = accepted_track Turn f.turn s (cover_over s f.turn) (of_notes Turn found.curve f.turn gentle refl refl refl refl refl) known.turn.span accepted.turn;
-      slack = track_sound Slack s f.slack (option_map (cover_over s) f.slack) (of_if_asked _ _ (of_notes Slack found.curve _ gentle refl refl refl refl refl)) known.slack accepted.slack;
-      crossings = track_sound Mark s f.mark (option_map (cover_over s) f.mark) (of_if_marked asked.mark _ (λ level. of_notes Mark found.curve _ gentle refl refl refl refl refl)) known.mark accepted.mark;
+      turn = accepted_track Turn f.turn s (cover_over s f.turn) of.turn known.turn.span accepted.turn;
+      slack = track_sound Slack s f.slack (option_map (cover_over s) f.slack) of.slack known.slack accepted.slack;
+      crossings = track_sound Mark s f.mark (option_map (cover_over s) f.mark) of.mark known.mark accepted.mark;
       marked = marked_alike asked.mark _ (cover_over s);
     })
+
+-- ---- the text is short
+
+pub certificate_usual : (name : List ℕ) (asked : Asked) (found : Found) (tracks : Tracks) → IsReady asked found → tracks ≡ covers_of (followed_tide Second found asked.mark) (widened_of found.basis asked.begin asked.end) → HasUsualLevels (certificate_in name asked tracks)
+certificate_usual name asked found tracks ready same =
+    let s = widened_of found.basis asked.begin asked.end in
+    let f = followed_tide Second found asked.mark in
+    let known = ready_known Second asked found ready in
+    let accepted = covers-accepted f s in
+    let of = followed_of found asked.mark ready.gentle in
+    rw same (record {
+      turn = usual_track Turn f.turn s (cover_over s f.turn) of.turn known.turn.span accepted.turn;
+      slack = track_usual Slack s f.slack (option_map (cover_over s) f.slack) of.slack known.slack accepted.slack;
+      crossings = track_usual Mark s f.mark (option_map (cover_over s) f.mark) of.mark known.mark accepted.mark;
+    })
+
+-- the longest span, and a day at both ends
+pub looked_few : (asked : Asked) (found : Found) → IsReady asked found → minutes_in (widened_of found.basis asked.begin asked.end) ≤ 5273280
+looked_few asked found ready =
+    let few = ready.few in
+    let forward = ready.forward in
+    let begins = ready.beside.begins in
+    let ends = ready.beside.ends in
+    omega (arith, ints)
+
+cells_there : (cells : Option (List Cell)) → sum_by length (option_to_list cells) ≡ length (unwrap_or cells [])
+cells_there None = refl
+cells_there (Some cells) = omega arith
+
+pub certificate_few : (name : List ℕ) (asked : Asked) (found : Found) (tracks : Tracks) → IsReady asked found → tracks ≡ covers_of (followed_tide Second found asked.mark) (widened_of found.basis asked.begin asked.end) → cells_of_all (certificate_in name asked tracks) ≤ 15819840
+unfolding cell_count
+certificate_few name asked found tracks ready same =
+    let s = widened_of found.basis asked.begin asked.end in
+    let f = followed_tide Second found asked.mark in
+    let few = count-few f s in
+    rw same (omega (arith, looked_few asked found ready, few, cells-parts (covers_of f s), cells_there (covers_of f s).slack, cells_there (covers_of f s).mark))
 
 -- ---- the answer
 

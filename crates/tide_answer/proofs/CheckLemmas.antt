@@ -51,6 +51,7 @@ use Rattle.tide_answer.specs.Workings.Certifying.{accepted, rejected, judged_in,
 use Rattle.tide_answer.specs.Workings.Curves.{followed_tide, tide_events, IsReady}
 use Rattle.tide_answer.specs.Workings.Spans.{IsFound, IsNear}
 use Rattle.tide_answer.proofs.CellLemmas.{accepted_if}
+use Rattle.tide_answer.proofs.CertificateLemmas.{looked_few}
 use Rattle.tide_answer.proofs.FollowLemmas.{found_alike, found_events, ready_known, ready_movable}
 use Rattle.tide_answer.proofs.FoundLemmas.{excused_then}
 
@@ -164,17 +165,10 @@ tracks_short f s t few ok =
       mark = short_if s f.mark t.mark few ok.mark;
     }
 
-looked_few : (asked : Asked) (found : Found) → IsReady asked found → minutes_in (widened_of found.basis asked.begin asked.end) ≤ 6000000
-looked_few asked found ready =
-    let few = ready.few in
-    let forward = ready.forward in
-    let begins = ready.beside.begins in
-    let ends = ready.beside.ends in
-    omega (arith, ints)
-
 pub ready_short : (found : Found) (cert : Certificate) → IsReady (asked_in cert) found → IsCertificate cert → tide_rejection found cert ≡ None → AreShort cert.tracks
 ready_short found cert ready sound none =
-    tracks_short (followed_tide (version_of cert) found cert.mark) (widened_of found.basis cert.begin cert.end) cert.tracks (looked_few (asked_in cert) found ready) (tide_accepted found cert sound none)
+    tracks_short (followed_tide (version_of cert) found cert.mark) (widened_of found.basis cert.begin cert.end) cert.tracks
+    (omega (arith, looked_few (asked_in cert) found ready)) (tide_accepted found cert sound none)
 
 -- what a step gives is another name's
 pub ok_same : (A E : Type 0) (r : Result A E) (x y : A) → x ≡ y → IfOk r (λ v. v ≡ x) → IfOk r (λ v. v ≡ y)

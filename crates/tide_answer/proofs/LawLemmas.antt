@@ -1,11 +1,11 @@
--- What certificates come to: what is accepted is true, and what is certified is accepted.
-use Rattle.std.proofs.Common.{◌≡◌, ℕ, ℤ, pos, Bool, true, false, List, Option, Some, None, is_some, option_map, Result, Ok, Err, refl, sym, subst, ap, ◌∙◌}
+-- What certificates come to: what is accepted is true, and what is certified is accepted and short.
+use Rattle.std.proofs.Common.{◌≡◌, ◌<◌, ◌≤◌, ℕ, ℤ, pos, Bool, true, false, List, length, Option, Some, None, is_some, option_map, Result, Ok, Err, refl, sym, subst, ap, ◌∙◌}
 use Rattle.std.specs.Option.{ForSome}
 use Rattle.cert_text.specs.declared.certificate.Certificate.{Certificate}
 use Rattle.cert_text.specs.declared.fault.CertFault.{CertFault}
 use Rattle.cert_text.specs.declared.track_name.TrackName.{TrackName}
 use Rattle.cert_text.specs.declared.track_name.TrackName.TheVariants as names
-use Rattle.cert_text.specs.Certificates.{IsCertificate}
+use Rattle.cert_text.specs.Certificates.{IsCertificate, HasUsualLevels, cell_count}
 use Rattle.cert_text.specs.Lines.{certificate_text}
 use Rattle.cert_text.specs.Readings.{certificate_of}
 use Rattle.cert_text.specs.Spelling.{IsTextOf, Reads}
@@ -18,11 +18,13 @@ use Rattle.event_list.specs.Events.{Followed, IsKnown, IsAccepted, AgreeIfFollow
 use Rattle.event_list.specs.Shifts.{widened_of}
 use Rattle.event_list.proofs.EventLemmas.{covers-accepted}
 use Rattle.harmonics_text.specs.declared.book.Book.{Book}
+use Rattle.harmonics_text.specs.Books.{IsBook}
 use Rattle.question.specs.declared.question.Layout.TheVariants.{Plain}
 use Rattle.rate_bound.specs.declared.version.Version.{Version}
 use Rattle.rate_bound.specs.declared.version.Version.TheVariants.{Second}
 use Rattle.rate_bound.specs.Meanings.{mark_meaning}
 use Rattle.station_table.specs.declared.offsets.Offsets.{Offsets}
+use Rattle.station_table.specs.Offsets.{IsTable}
 use Rattle.zone_time.specs.declared.zone.Zone.{Zone}
 use Rattle.tide_answer.specs.declared.asked.Asked.{Asked}
 use Rattle.tide_answer.specs.declared.reach.Reach.TheVariants.{Events}
@@ -32,14 +34,14 @@ use Rattle.tide_answer.specs.declared.text.Answer.{Answer}
 use Rattle.tide_answer.specs.Answers.{predicted, certified, checked, certificate_by, certificate_from, version_of, judged, text_of_events, events_text}
 use Rattle.tide_answer.specs.Asking.{asked_in}
 use Rattle.tide_answer.specs.Following.{asks_slack, slack_times, slack_plus, if_asked, followed, followed_by, events_of, tracks_of}
-use Rattle.tide_answer.specs.Laws.{IsAskable, AcceptsListing, TellsTrack, TellsTracks, AcceptsWhatIsCertified, AcceptsOnlyWhatIsTrue}
+use Rattle.tide_answer.specs.Laws.{IsAskable, AcceptsListing, TellsTrack, TellsTracks, AcceptsWhatIsCertified, AcceptsOnlyWhatIsTrue, CertifiesInShort}
 use Rattle.tide_answer.specs.Rejections.{slack_fault, fault_from, track_fault, rejection_of}
 use Rattle.tide_answer.specs.Sites.{Site, site_in}
 use Rattle.tide_answer.specs.Workings.Certifying.{tide_rejection}
-use Rattle.tide_answer.specs.Workings.Curves.{followed_tide}
+use Rattle.tide_answer.specs.Workings.Curves.{followed_tide, IsReady}
 use Rattle.tide_answer.specs.Workings.Spans.{IsFound, IsNear}
 use Rattle.tide_answer.proofs.AnswerLemmas.{moment_near}
-use Rattle.tide_answer.proofs.CertificateLemmas.{certificate_sound, tracks_alike}
+use Rattle.tide_answer.proofs.CertificateLemmas.{certificate_few, certificate_sound, certificate_usual, tracks_alike}
 use Rattle.tide_answer.proofs.CheckLemmas.{checked_by, judged_by, near_read, site_rejection, tide_accepted}
 use Rattle.tide_answer.proofs.FollowLemmas.{found_alike, ready_known, ready_of_found}
 use Rattle.tide_answer.proofs.NameLemmas.{site_name}
@@ -186,24 +188,58 @@ all_none f s =
 near_asked : (asked : Asked) → IsAskable asked → IsNear asked
 near_asked asked is = record { begin = moment_near asked.begin is.begin; end = moment_near asked.end is.end; mark = is.mark }
 
-was_certified : (book : Book) (table : List Offsets) (name : List ℕ) (asked : Asked) (certificate : Answer) → certified book table name asked ≡ Ok certificate → (site : Site) × (site_in Events book table name asked ≡ Ok site) × (certificate.text ≡ certificate_text (certificate_by book site name asked))
+-- what was certified is the text of a certificate
+record WasCertified (book : Book) (table : List Offsets) (name : List ℕ) (asked : Asked) (certificate : Answer) : Type 0 where
+  pub site : Site
+  pub expected : site_in Events book table name asked ≡ Ok site
+  pub text : certificate.text ≡ certificate_text (certificate_by book site name asked)
+  pub found : IsFound Events book asked site (found_at book site)
+  pub ready : IsReady asked (found_at book site)
+  pub tracks : tracks_of book site asked ≡ covers_of (followed_tide Second (found_at book site) asked.mark) (widened_of site.basis asked.begin asked.end)
+  pub sound : IsCertificate (certificate_by book site name asked)
+
+site_certified : (book : Book) (table : List Offsets) (name : List ℕ) (asked : Asked) (certificate : Answer) → certified book table name asked ≡ Ok certificate → (site : Site) × (site_in Events book table name asked ≡ Ok site) × (certificate.text ≡ certificate_text (certificate_by book site name asked))
 unfolding certified
-was_certified book table name asked certificate ok =
+site_certified book table name asked certificate ok =
     let site = then_ok (site_in Events book table name asked) _ certificate ok in
     (site.0, site.1, (let last = site.2 in cc))
 
-pub certified_accepted : ((c : Certificate) → IsCertificate c → certificate_of (certificate_text c) ≡ Ok c) → AcceptsWhatIsCertified
-unfolding tracks_of
-certified_accepted again book table name asked zone certificate is rows askable ok =
-    let was = was_certified book table name asked certificate ok in
+was_certified : (book : Book) (table : List Offsets) (name : List ℕ) (asked : Asked) (certificate : Answer) → IsBook book → IsTable table → IsAskable asked → certified book table name asked ≡ Ok certificate → WasCertified book table name asked certificate
+was_certified book table name asked certificate is rows askable ok =
+    let was = site_certified book table name asked certificate ok in
     let site = was.0 in
     let near = near_asked asked askable in
+    let found = found_of_site book table name asked site is rows near was.1 in
+    let ready = ready_of_found book asked site (found_at book site) near found in
+    let tracks = sym (tracks_alike book asked site (found_at book site) (covers_of (followed_tide Second (found_at book site) asked.mark) (widened_of site.basis asked.begin asked.end)) found refl) in
+    record {
+      site = site;
+      expected = was.1;
+      text = was.2;
+      found = found;
+      ready = ready;
+      tracks = tracks;
+      sound = certificate_sound name asked (found_at book site) (tracks_of book site asked) (site_name Events book table name asked site is rows was.1) askable.begin askable.end ready tracks;
+    }
+
+pub certified_accepted : ((c : Certificate) → IsCertificate c → certificate_of (certificate_text c) ≡ Ok c) → AcceptsWhatIsCertified
+certified_accepted again book table name asked zone certificate is rows askable ok =
+    let was = was_certified book table name asked certificate is rows askable ok in
+    let site = was.site in
     let found = found_at book site in
-    let is_found = found_of_site book table name asked site is rows near was.1 in
-    let ready = ready_of_found book asked site found near is_found in
-    let tracks = tracks_alike book asked site found (covers_of (followed_tide Second found asked.mark) (widened_of found.basis asked.begin asked.end)) is_found refl in
     let cert = certificate_by book site name asked in
-    let sound : IsCertificate cert = certificate_sound name asked found (tracks_of book site asked) (site_name Events book table name asked site is rows was.1) askable.begin askable.end ready (sym tracks) in
-    let none : tide_rejection found cert ≡ None = rw (← tracks) (all_none (followed_tide Second found asked.mark) (widened_of found.basis asked.begin asked.end)) in
-    let judges = judged_by book table cert zone site found was.1 is_found ∙ ap (λ r. Ok (judged book site cert zone r)) none in
-    (judged book site cert zone None, ap (λ text. checked book table text zone) was.2 ∙ checked_by book table (certificate_text cert) zone cert (again cert sound) ∙ judges, lists book table cert zone site was.1)
+    let none : tide_rejection found cert ≡ None = rw was.tracks (all_none (followed_tide Second found asked.mark) (widened_of found.basis asked.begin asked.end)) in
+    let judges = judged_by book table cert zone site found was.expected was.found ∙ ap (λ r. Ok (judged book site cert zone r)) none in
+    (judged book site cert zone None, ap (λ text. checked book table text zone) was.text ∙ checked_by book table (certificate_text cert) zone cert (again cert was.sound) ∙ judges, lists book table cert zone site was.expected)
+
+-- ---- what is certified is short
+
+pub certified_short : ((c : Certificate) → IsCertificate c → HasUsualLevels c → cell_count c ≤ 15819840 → length (certificate_text c) < 333000000) → CertifiesInShort
+certified_short fits book table name asked certificate is rows askable ok =
+    let was = was_certified book table name asked certificate is rows askable ok in
+    let found = found_at book was.site in
+    let tracks = tracks_of book was.site asked in
+    rw was.text
+    (fits (certificate_by book was.site name asked) was.sound
+    (certificate_usual name asked found tracks was.ready was.tracks)
+    (certificate_few name asked found tracks was.ready was.tracks))

@@ -1,5 +1,5 @@
--- What certificates come to: what is certified is accepted, and what is accepted tells exactly the events of its own question (this project).
-use Rattle.std.specs.Prelude.{◌≡◌, ℕ, false, List, ◌++◌, codes, Option, Some, None, Result, Ok}
+-- What certificates come to: what is certified is accepted and short, and what is accepted tells exactly the events of its own question (this project).
+use Rattle.std.specs.Prelude.{◌≡◌, ◌<◌, ℕ, false, List, ◌++◌, length, codes, Option, Some, None, Result, Ok}
 use Rattle.std.specs.Option.{ForSome}
 use Rattle.cert_text.specs.declared.certificate.Certificate.{Certificate}
 use Rattle.cert_text.specs.Certificates.{IsMark}
@@ -42,6 +42,11 @@ abbrev pub AcceptsWhatIsCertified : Type 0
 AcceptsWhatIsCertified = (book : Book) (table : List Offsets) (name : List ℕ) (asked : Asked) (zone : Zone) (certificate : Answer) →
     IsBook book → IsTable table → IsAskable asked → certified book table name asked ≡ Ok certificate →
     (answer : Answer) × (checked book table certificate.text zone ≡ Ok answer) × AcceptsListing (predicted book table name asked Plain zone) answer
+
+-- the text that was made has fewer than 333,000,000 bytes
+abbrev pub CertifiesInShort : Type 0
+CertifiesInShort = (book : Book) (table : List Offsets) (name : List ℕ) (asked : Asked) (certificate : Answer) →
+    IsBook book → IsTable table → IsAskable asked → certified book table name asked ≡ Ok certificate → length certificate.text < 333000000
 
 -- the events in a track's cells are those of the plain list, which looks at every minute of the span; no track is there without its curve
 abbrev pub TellsTrack : Span → Option Meaning → Option (List Cell) → Type 0

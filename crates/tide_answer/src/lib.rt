@@ -53,7 +53,7 @@ pub use built::check_built;
 pub use fault::{Fault, fault_status};
 pub use given::Given;
 pub use heights::worked_rows;
-pub use laws::{accepted_is_true, certified_is_accepted};
+pub use laws::{accepted_is_true, certified_is_accepted, certified_is_short};
 pub use levels::worked_levels;
 pub use lines::fault_line;
 pub use loading::{LoadFault, load_book};
