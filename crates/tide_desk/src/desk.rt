@@ -1,21 +1,16 @@
 //! One run, from the words to the status.
 
 ghost use Rattle.std.specs.Prelude.{◌≡◌, ◌⊎◌, ℤ, Bool, if◌then◌else◌};
-ghost use Rattle.station_table.specs.declared.offsets.Offsets.{Offsets};
-ghost use Rattle.tide_answer.specs.Faults.{IsTold as IsToldFault, line_of as line_of_fault, status_of as status_of_fault};
 ghost use Rattle.tide_answer.specs.declared.status.Status.{Status};
 ghost use Rattle.tide_desk.specs.Answers.{AsksClock, HasFiles, NamesFile, answer_from, answer_of, asked_of};
-ghost use Rattle.tide_desk.specs.NoAnswers.{IsTold};
 ghost use Rattle.tide_desk.specs.Outcomes.{ClockFailed, EndsAs, FilesFailed, IsFirm, IsSilent, IsUntouched, Wrote, is_read_fault};
 ghost use Rattle.tide_desk.specs.Readings.{Folders};
-ghost use Rattle.tide_desk.specs.Workings.Telling.{Tells, TellsFault};
 
 use crate::answering::answer_words;
-use crate::no_answer::NoAnswer;
+use crate::telling::{refuse, tell};
 use decimal_text::Words;
-use station_table::OffsetTable;
 use std::alloc::Global;
-use tide_answer::{Fault, Status, fault_line, fault_status};
+use tide_answer::Status;
 use tide_edge::{Clock, Files, Sink, write_all};
 
 /// Answers the words from the files: writes the whole answer to `out`, or one line that says why
@@ -69,46 +64,5 @@ fn judged(rejected: bool) -> Status
         Status::Rejected
     } else {
         Status::Done
-    }
-}
-
-// Writes the line of a fault, and answers its status.
-fn tell<E: Sink>(alloc: Global, none: NoAnswer, err: &mut E) -> Status
-    requires { IsTold none }
-    ensures { Tells none result
-        (Wrote (E.tells err.old) (E.tells err.new) (E.taken err.old) (E.taken err.new) (E.faults err.old) (E.faults err.new)) }
-{
-    match none {
-        NoAnswer::Unread => refuse(err, Status::ReadFault, b"read fault\n"),
-        NoAnswer::Told(fault) => {
-            let table = OffsetTable::new(alloc);
-            tell_fault(alloc, &fault, &table, err)
-        }
-        NoAnswer::Refused(refusal, table) => {
-            tell_fault(alloc, &Fault::Refused(refusal), &table, err)
-        }
-    }
-}
-
-fn tell_fault<E: Sink>(alloc: Global, fault: &Fault, table: &OffsetTable, err: &mut E) -> Status
-    requires { IsToldFault table.now fault.now }
-    ensures { TellsFault (status_of_fault fault.now) (line_of_fault table.now fault.now) result
-        (Wrote (E.tells err.old) (E.tells err.new) (E.taken err.old) (E.taken err.new) (E.faults err.old) (E.faults err.new)) }
-{
-    match fault_line(alloc, fault, table) {
-        Ok(line) => refuse(err, fault_status(fault), line.as_slice()),
-        Err(_) => refuse(err, Status::NoMemory, b"no memory\n"),
-    }
-}
-
-// Writes a line, and answers the status that goes with it.
-fn refuse<E: Sink>(err: &mut E, status: Status, line: &[u8]) -> Status
-    ensures same { result ≡ status }
-    ensures line { (failed : Bool)
-        × Wrote (E.tells err.old) (E.tells err.new) (E.taken err.old) (E.taken err.new) (E.faults err.old) (E.faults err.new) failed line.now }
-{
-    match write_all(err, line) {
-        Ok(()) => status,
-        Err(_) => status,
     }
 }

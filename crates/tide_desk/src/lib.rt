@@ -12,11 +12,14 @@ mod laws;
 mod materials;
 mod no_answer;
 mod reading;
+mod telling;
 mod worked;
 
 pub use desk::run;
 pub use laws::run_in_memory;
 pub use no_answer::NoAnswer;
+pub use reading::{read_book, read_table};
+pub use telling::{refuse, tell};
 pub use tide_answer::Status;
 pub use worked::{worked_faults, worked_files};
 

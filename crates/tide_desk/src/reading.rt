@@ -44,7 +44,7 @@ pub fn read_files<F: Files>(
     ensures as_steady { F.steady files.new ≡ F.steady files.old }
     ensures still_tells { F.tells files.old → F.tells files.new }
 {
-    let book = load_file(alloc, files, name)?;
+    let book = read_book(alloc, files, name)?;
     let table = read_table(alloc, files, &question.offsets)?;
     let zone = read_zone_named(alloc, files, &question.zone)?;
     let certificate = read_certificate(alloc, files, &question.certificate)?;
@@ -56,8 +56,8 @@ pub fn read_files<F: Files>(
     })
 }
 
-// The book of harmonic constants.
-fn load_file<F: Files>(alloc: Global, files: &mut F, name: &Text) -> Result<Book, NoAnswer>
+/// The book of harmonic constants of a name.
+pub fn read_book<F: Files>(alloc: Global, files: &mut F, name: &Text) -> Result<Book, NoAnswer>
     ensures own { F.tells files.old
         → MeetsIf (IsTrue (F.steady files.old)) source_of (book_named (F.folder files.old) name.now) result }
     ensures some { (folder : Folder) × MeetsIf (Unit {0}) source_of (book_named folder name.now) result }
@@ -74,8 +74,8 @@ fn load_file<F: Files>(alloc: Global, files: &mut F, name: &Text) -> Result<Book
     }
 }
 
-// The table of subordinate stations, which has no row where none is named.
-fn read_table<F: Files>(
+/// The table of subordinate stations, which has no row where none is named.
+pub fn read_table<F: Files>(
     alloc: Global,
     files: &mut F,
     name: &Option<Text>,

@@ -21,7 +21,7 @@ pub returns-in_err-table-clause-own : goal.returns-in_err-table-clause-own
 unfolding files_in
 returns-in_err-table-clause-own g c =
     λ t. let book = c.in_ok-book.ensures.own t in
-    rw book (meets_at (IsTrue (g.F.Files.steady c.args.files.now)) (table_named (g.F.Files.folder c.args.files.now) c.args.question.now.offsets) _ c.from_residual-in_err-table.result _ c.from_residual-in_err-table.ensures.1 (rw (c.load_file.ensures.same_files, c.load_file.ensures.as_steady) at (c.in_err-table.ensures.own (c.load_file.ensures.still_tells t))))
+    rw book (meets_at (IsTrue (g.F.Files.steady c.args.files.now)) (table_named (g.F.Files.folder c.args.files.now) c.args.question.now.offsets) _ c.from_residual-in_err-table.result _ c.from_residual-in_err-table.ensures.1 (rw (c.read_book.ensures.same_files, c.read_book.ensures.as_steady) at (c.in_err-table.ensures.own (c.read_book.ensures.still_tells t))))
 
 pub returns-in_err-table-clause-some : goal.returns-in_err-table-clause-some
 unfolding files_in
@@ -36,8 +36,8 @@ pub returns-in_err-zone-clause-own : goal.returns-in_err-zone-clause-own
 unfolding files_in
 returns-in_err-zone-clause-own g c =
     λ t. let book = c.in_ok-book.ensures.own t in
-    let table = rw c.load_file.ensures.same_files at (c.in_ok-table.ensures.own (c.load_file.ensures.still_tells t)) in
-    rw (book, table) (meets_at (IsTrue (g.F.Files.steady c.args.files.now)) (zone_named (g.F.Files.folder c.args.files.now) c.args.question.now.zone) _ c.from_residual-in_err-zone.result _ c.from_residual-in_err-zone.ensures.1 (rw (c.read_table.ensures.same_files, c.load_file.ensures.same_files, c.read_table.ensures.as_steady, c.load_file.ensures.as_steady) at (c.in_err-zone.ensures.own (c.read_table.ensures.still_tells (c.load_file.ensures.still_tells t)))))
+    let table = rw c.read_book.ensures.same_files at (c.in_ok-table.ensures.own (c.read_book.ensures.still_tells t)) in
+    rw (book, table) (meets_at (IsTrue (g.F.Files.steady c.args.files.now)) (zone_named (g.F.Files.folder c.args.files.now) c.args.question.now.zone) _ c.from_residual-in_err-zone.result _ c.from_residual-in_err-zone.ensures.1 (rw (c.read_table.ensures.same_files, c.read_book.ensures.same_files, c.read_table.ensures.as_steady, c.read_book.ensures.as_steady) at (c.in_err-zone.ensures.own (c.read_table.ensures.still_tells (c.read_book.ensures.still_tells t)))))
 
 pub returns-in_err-zone-clause-some : goal.returns-in_err-zone-clause-some
 unfolding files_in
@@ -53,9 +53,9 @@ pub returns-in_err-certificate-clause-own : goal.returns-in_err-certificate-clau
 unfolding files_in
 returns-in_err-certificate-clause-own g c =
     λ t. let book = c.in_ok-book.ensures.own t in
-    let table = rw c.load_file.ensures.same_files at (c.in_ok-table.ensures.own (c.load_file.ensures.still_tells t)) in
-    let zone = rw (c.read_table.ensures.same_files, c.load_file.ensures.same_files) at (c.in_ok-zone.ensures.own (c.read_table.ensures.still_tells (c.load_file.ensures.still_tells t))) in
-    rw (book, table, zone) (meets_at (IsTrue (g.F.Files.steady c.args.files.now)) (certificate_named (g.F.Files.folder c.args.files.now) c.args.question.now.certificate) _ c.from_residual-in_err-certificate.result _ c.from_residual-in_err-certificate.ensures.1 (rw (c.read_zone_named.ensures.same_files, c.read_table.ensures.same_files, c.load_file.ensures.same_files, c.read_zone_named.ensures.as_steady, c.read_table.ensures.as_steady, c.load_file.ensures.as_steady) at (c.in_err-certificate.ensures.own (c.read_zone_named.ensures.still_tells (c.read_table.ensures.still_tells (c.load_file.ensures.still_tells t))))))
+    let table = rw c.read_book.ensures.same_files at (c.in_ok-table.ensures.own (c.read_book.ensures.still_tells t)) in
+    let zone = rw (c.read_table.ensures.same_files, c.read_book.ensures.same_files) at (c.in_ok-zone.ensures.own (c.read_table.ensures.still_tells (c.read_book.ensures.still_tells t))) in
+    rw (book, table, zone) (meets_at (IsTrue (g.F.Files.steady c.args.files.now)) (certificate_named (g.F.Files.folder c.args.files.now) c.args.question.now.certificate) _ c.from_residual-in_err-certificate.result _ c.from_residual-in_err-certificate.ensures.1 (rw (c.read_zone_named.ensures.same_files, c.read_table.ensures.same_files, c.read_book.ensures.same_files, c.read_zone_named.ensures.as_steady, c.read_table.ensures.as_steady, c.read_book.ensures.as_steady) at (c.in_err-certificate.ensures.own (c.read_zone_named.ensures.still_tells (c.read_table.ensures.still_tells (c.read_book.ensures.still_tells t))))))
 
 pub returns-in_err-certificate-clause-some : goal.returns-in_err-certificate-clause-some
 unfolding files_in
@@ -72,9 +72,9 @@ pub returns-clause-own : goal.returns-clause-own
 unfolding files_in
 returns-clause-own g c =
     λ t. let book = c.in_ok-book.ensures.own t in
-    let table = rw c.load_file.ensures.same_files at (c.in_ok-table.ensures.own (c.load_file.ensures.still_tells t)) in
-    let zone = rw (c.read_table.ensures.same_files, c.load_file.ensures.same_files) at (c.in_ok-zone.ensures.own (c.read_table.ensures.still_tells (c.load_file.ensures.still_tells t))) in
-    let certificate = rw (c.read_zone_named.ensures.same_files, c.read_table.ensures.same_files, c.load_file.ensures.same_files) at (c.in_ok-certificate.ensures.own (c.read_zone_named.ensures.still_tells (c.read_table.ensures.still_tells (c.load_file.ensures.still_tells t)))) in
+    let table = rw c.read_book.ensures.same_files at (c.in_ok-table.ensures.own (c.read_book.ensures.still_tells t)) in
+    let zone = rw (c.read_table.ensures.same_files, c.read_book.ensures.same_files) at (c.in_ok-zone.ensures.own (c.read_table.ensures.still_tells (c.read_book.ensures.still_tells t))) in
+    let certificate = rw (c.read_zone_named.ensures.same_files, c.read_table.ensures.same_files, c.read_book.ensures.same_files) at (c.in_ok-certificate.ensures.own (c.read_zone_named.ensures.still_tells (c.read_table.ensures.still_tells (c.read_book.ensures.still_tells t)))) in
     rw (book, table, zone, certificate) refl
 
 pub returns-clause-some : goal.returns-clause-some

@@ -1,5 +1,5 @@
 use Rattle.std.proofs.Common.{inl, inr, refl}
-use Rattle.tide_desk.proofs.desk.tell.Goals as goal
+use Rattle.tide_desk.proofs.telling.tell.Goals as goal
 
 pub returns-in-Unread : goal.returns-in-Unread
 returns-in-Unread g c = rw c.in-Unread.is (inl (c.refuse.ensures.same, c.refuse.ensures.line))

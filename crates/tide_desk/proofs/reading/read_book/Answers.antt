@@ -1,5 +1,5 @@
 use Rattle.tide_desk.proofs.ReadingLemmas.{excuses_book, named_book, some_book}
-use Rattle.tide_desk.proofs.reading.load_file.Goals as goal
+use Rattle.tide_desk.proofs.reading.read_book.Goals as goal
 
 pub returns-in-Ok-clause-own : goal.returns-in-Ok-clause-own
 returns-in-Ok-clause-own g c =
