@@ -1,3 +1,4 @@
 pub mod Materials
 pub mod Meetings
+pub mod Replies
 pub mod Telling

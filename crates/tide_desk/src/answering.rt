@@ -17,20 +17,22 @@ use crate::asking::read_words;
 use crate::materials::Materials;
 use crate::no_answer::NoAnswer;
 use crate::reading::read_files;
+use crate::reply::Reply;
+use crate::replying::reply_to;
 use decimal_text::{Text, Words};
 use question::{Command, Question};
 use std::alloc::Global;
-use tide_answer::{Answer, Fault, Given, answer, answer_alone};
+use tide_answer::{Fault, Given, answer_alone};
 use tide_edge::{Clock, Files};
 
-/// The text that answers the words, or the first fault in the order of refusals: the words, what
+/// What is written for the words, or the first fault in the order of refusals: the words, what
 /// isn't built, the files, the clock, and then those of what is asked of the files.
 pub fn answer_words<F: Files, K: Clock>(
     alloc: Global,
     words: &Words,
     files: &mut F,
     clock: &mut K,
-) -> Result<Answer, NoAnswer>
+) -> Result<Reply, NoAnswer>
     ensures own { F.tells files.old → K.tells clock.old
         → MeetsIf (IsFirm (F.steady files.old) (AsksClock (asked_of words.now)) (K.faults clock.old) (K.faults clock.new)) source_of
         (answer_of (F.folder files.old) (K.minute_held clock.old) words.now) result }
@@ -55,14 +57,14 @@ pub fn answer_words<F: Files, K: Clock>(
 }
 
 // The answer to a question that names no file.
-fn answer_without(alloc: Global, question: &Question) -> Result<Answer, NoAnswer>
+fn answer_without(alloc: Global, question: &Question) -> Result<Reply, NoAnswer>
     requires { IsAsked question.now }
     ensures exact { Gives wants_memory (told (refused_from (answered_alone question.now))) result }
     ensures told { IfErr result IsTold }
     ensures read { reading_failed result ≡ false }
 {
     match answer_alone(alloc, question) {
-        Ok(answer) => Ok(answer),
+        Ok(answer) => Ok(Reply::made(answer)),
         Err(refusal) => Err(NoAnswer::Told(Fault::Refused(refusal))),
     }
 }
@@ -74,7 +76,7 @@ fn answer_over<F: Files, K: Clock>(
     name: &Text,
     files: &mut F,
     clock: &mut K,
-) -> Result<Answer, NoAnswer>
+) -> Result<Reply, NoAnswer>
     requires { IsAsked question.now }
     ensures own { F.tells files.old → K.tells clock.old
         → MeetsIf (IsFirm (F.steady files.old) (IsTrue (asks_clock question.now.command)) (K.faults clock.old) (K.faults clock.new)) source_of
@@ -129,7 +131,7 @@ fn answer_with(
     read: Materials,
     question: &Question,
     now: i64,
-) -> Result<Answer, NoAnswer>
+) -> Result<Reply, NoAnswer>
     requires materials { AreMaterials read }
     requires asked { IsAsked question.now }
     requires now { IsClockMinute now }
@@ -148,8 +150,8 @@ fn answer_with(
         certificate,
         now,
     };
-    match answer(alloc, &book, &table, question, &given) {
-        Ok(answer) => Ok(answer),
+    match reply_to(alloc, &book, &table, question, &given) {
+        Ok(reply) => Ok(reply),
         Err(refusal) => Err(NoAnswer::Refused(refusal, table)),
     }
 }

@@ -11,7 +11,7 @@ use crate::telling::{refuse, tell};
 use decimal_text::Words;
 use std::alloc::Global;
 use tide_answer::Status;
-use tide_edge::{Clock, Files, Sink, write_all};
+use tide_edge::{Clock, Files, Sink};
 
 /// Answers the words from the files: writes the whole answer to `out`, or one line that says why
 /// there is none to `err`. A failure to write to `err` changes nothing of the status. Nothing is
@@ -48,8 +48,8 @@ pub fn run<F: Files, O: Sink, E: Sink, K: Clock>(
     ensures clock_still_tells { K.tells clock.old → K.tells clock.new }
 {
     match answer_words(alloc, words, files, clock) {
-        Ok(answer) => match write_all(out, answer.text.as_slice()) {
-            Ok(()) => judged(answer.rejected),
+        Ok(reply) => match reply.write(out) {
+            Ok(rejected) => judged(rejected),
             Err(_) => refuse(err, Status::WriteFault, b"write fault\n"),
         },
         Err(none) => tell(alloc, none, err),

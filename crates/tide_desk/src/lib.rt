@@ -7,11 +7,14 @@
 
 mod answering;
 mod asking;
+mod body;
 mod desk;
 mod laws;
 mod materials;
 mod no_answer;
 mod reading;
+mod reply;
+mod replying;
 mod telling;
 mod worked;
 

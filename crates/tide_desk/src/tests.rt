@@ -1,3 +1,4 @@
+mod failing;
 mod files;
 mod rows;
 
@@ -286,68 +287,5 @@ fn files_have_limits(rt: HostRuntime) -> Result<(), Fail> {
         let outcome = run_over_all(alloc, held, words, 4096, NONE)?;
         assert_outcome(&rt, &outcome, 3, "", line);
     }
-    Ok(())
-}
-
-#[test]
-fn each_call_of_the_files_may_fail(rt: HostRuntime) -> Result<(), Fail> {
-    let alloc = rt.alloc();
-    // the file is opened once and read to its end once
-    for failing in 1..=4 {
-        let file = pier_with(alloc, 0, "")?;
-        let fails = Fails {
-            files: failing,
-            ..NONE
-        };
-        let outcome = run_over(alloc, file, PREDICT, 4096, fails)?;
-        if failing < 4 {
-            assert_outcome(&rt, &outcome, 6, "", "read fault\n");
-        } else {
-            assert_outcome(&rt, &outcome, 0, DAY, "");
-        }
-    }
-    Ok(())
-}
-
-#[test]
-fn each_write_may_fail(rt: HostRuntime) -> Result<(), Fail> {
-    let alloc = rt.alloc();
-    // 195 bytes in pieces of ten
-    for failing in 1..=21 {
-        let file = pier_with(alloc, 0, "")?;
-        let fails = Fails {
-            out: failing,
-            ..NONE
-        };
-        let outcome = run_over(alloc, file, PREDICT, 10, fails)?;
-        let out = outcome.out.as_slice();
-        if failing < 21 {
-            assert_eq!(rt; outcome.status.number(), 7);
-            assert_eq!(rt; out.len() as u64, 10 * (failing - 1));
-            assert!(rt; DAY.as_bytes().starts_with(out));
-            assert_eq!(rt; outcome.err.as_slice(), b"write fault\n".as_slice());
-        } else {
-            assert_outcome(&rt, &outcome, 0, DAY, "");
-        }
-    }
-    Ok(())
-}
-
-#[test]
-fn a_line_that_fails_changes_no_status(rt: HostRuntime) -> Result<(), Fail> {
-    let alloc = rt.alloc();
-    for (failing, err) in [(1, ""), (2, "refused: n"), (3, "refused: no station\n")] {
-        let file = pier_with(alloc, 13, "Quay")?;
-        let fails = Fails {
-            err: failing,
-            ..NONE
-        };
-        let outcome = run_over(alloc, file, PREDICT, 10, fails)?;
-        assert_outcome(&rt, &outcome, 4, "", err);
-    }
-    // a long line of which the first call fails isn't tried again
-    let fails = Fails { err: 1, ..NONE };
-    let outcome = run_over(alloc, pier_with(alloc, 0, "")?, LATE, 4096, fails)?;
-    assert_outcome(&rt, &outcome, 4, "", "");
     Ok(())
 }

@@ -11,14 +11,7 @@ returns-in-Ok-clause-some_files g c =
       some.1,
       rw (c.refuse.ensures.same, some.2) (record {
         says = tt;
-        output = record {
-          count = c.in-Err-write_all.ensures.counts;
-          told = c.in-Err-write_all.ensures.still_tells;
-          stands = λ t.
-              let short = rw c.as_slice.ensures at c.in-Err-write_all.ensures.cut_short in
-              let sent = rw c.as_slice.ensures at (c.in-Err-write_all.ensures.sent t) in
-              (c.in-Err-write_all.field-0.sent, short, sent);
-        };
+        output = c.in-Err-write.ensures.wrote;
         failed = c.refuse.ensures.line.0;
         line = c.refuse.ensures.line.1;
       }),

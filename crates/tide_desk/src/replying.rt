@@ -1,0 +1,61 @@
+//! The way in which a question's answer is written.
+
+ghost use Rattle.std.specs.Prelude.{◌≡◌, IfErr, IsTrue};
+ghost use Rattle.decimal_text.specs.Expected.{Gives};
+ghost use Rattle.harmonics_text.specs.Books.{IsBook};
+ghost use Rattle.question.specs.Asked.{IsAsked};
+ghost use Rattle.station_table.specs.Offsets.{IsTable};
+ghost use Rattle.tide_answer.specs.Answers.{answered};
+ghost use Rattle.tide_answer.specs.Faults.{wants_memory_of_refusal, IsToldRefusal};
+ghost use Rattle.tide_answer.specs.Givens.{IsGiven};
+ghost use Rattle.tide_answer.specs.Streams.{can_stream};
+
+use crate::reply::Reply;
+use harmonics_text::Book;
+use question::{Command, Layout, Question};
+use station_table::OffsetTable;
+use std::alloc::Global;
+use tide_answer::{Given, Refusal, answer, prepare};
+use zone_time::Zone;
+
+/// The answer to a question over a book and a table, or the first refusal, as
+/// [`answer`](tide_answer::answer) has it. The text is made only where it doesn't stream.
+pub fn reply_to(
+    alloc: Global,
+    book: &Book,
+    table: &OffsetTable,
+    question: &Question,
+    given: &Given,
+) -> Result<Reply, Refusal>
+    requires book { IsBook book.now }
+    requires table { IsTable table.now }
+    requires asked { IsAsked question.now }
+    requires given { IsGiven given.now }
+    ensures exact { Gives wants_memory_of_refusal (answered book.now table.now question.now given.entry.now) result }
+    ensures told { IfErr result (IsToldRefusal table.now) }
+{
+    if may_stream(question, &given.zone) {
+        let ready = prepare(alloc, book, table, question, given)?;
+        if ready.streams() {
+            return Ok(Reply::found(ready));
+        }
+    }
+    Ok(Reply::made(answer(alloc, book, table, question, given)?))
+}
+
+// Whether the answer streams at a station that has the events of its reference as they are.
+fn may_stream(question: &Question, zone: &Zone) -> bool
+    ensures { IsTrue result → IsTrue (can_stream question.now.command) }
+{
+    can_stream(question.command) && question.layout == Layout::Plain && !is_file(zone)
+}
+
+fn can_stream(command: Command) -> bool
+    ensures { result ≡ can_stream command }
+{
+    matches!(command, Command::Predict | Command::Certify)
+}
+
+fn is_file(zone: &Zone) -> bool {
+    matches!(zone, Zone::File(_))
+}
