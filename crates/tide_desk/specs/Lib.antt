@@ -1,4 +1,5 @@
 pub mod Answers
+pub mod Laws
 pub mod NoAnswers
 pub mod Outcomes
 pub mod Readings

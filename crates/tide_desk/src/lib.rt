@@ -8,6 +8,7 @@
 mod answering;
 mod asking;
 mod body;
+mod certificate_laws;
 mod desk;
 mod laws;
 mod materials;
@@ -18,6 +19,7 @@ mod replying;
 mod telling;
 mod worked;
 
+pub use certificate_laws::{what_certify_answers_is_accepted, what_check_accepts_is_true};
 pub use desk::run;
 pub use laws::run_in_memory;
 pub use no_answer::NoAnswer;

@@ -1,0 +1,166 @@
+-- What is known of the files of a question that were read, and of an answer over them.
+use Rattle.std.proofs.Common.{◌≡◌, ℕ, ℤ, ◌≤◌, Bool, true, false, cond, List, [], length, nat_le, Option, Some, None, Result, Ok, Err, refl, subst, sym, ap, ◌∙◌, arith}
+use Rattle.std.proofs.lemmas.Bool.{leb-true, le-leb}
+use Rattle.std.proofs.lemmas.List.Elements.{All-nil}
+use Rattle.harmonics_text.specs.declared.book.Book.{Book as TheBook}
+use Rattle.harmonics_text.specs.Books.{IsBook}
+use Rattle.harmonics_text.specs.Reading.{At, book_of}
+use Rattle.harmonics_text.proofs.Readers.{book_sound}
+use Rattle.question.specs.declared.question.Question.{Question}
+use Rattle.station_table.specs.declared.fault.OffsetFault.{OffsetFault}
+use Rattle.station_table.specs.declared.offsets.Offsets.{Offsets as Row}
+use Rattle.station_table.specs.Offsets.{IsOffsets, IsTable}
+use Rattle.station_table.specs.Table.{table_of}
+use Rattle.tide_answer.specs.declared.refusal.Refusal.{Refusal}
+use Rattle.tide_answer.specs.declared.refusal.Refusal.TheVariants.{NotBuilt}
+use Rattle.tide_answer.specs.declared.slot.Slot.{Slot}
+use Rattle.tide_answer.specs.declared.slot.Slot.TheVariants as slots
+use Rattle.tide_answer.specs.declared.text.Answer.{Answer}
+use Rattle.tide_answer.specs.Answers.{answered, answered_alone, built, text_by, text_from}
+use Rattle.tide_answer.proofs.SiteLemmas.{then_ok}
+use Rattle.tide_edge.specs.declared.read_all_fault.ReadAllFault.TheVariants as reading
+use Rattle.tide_desk.specs.declared.materials.Materials.{Materials}
+use Rattle.tide_desk.specs.Answers.{answer_from, answer_of, answered_by, answered_over, asked_of}
+use Rattle.tide_desk.specs.NoAnswers.{refused_over}
+use Rattle.tide_desk.specs.Laws.{Holds, HoldSame}
+use Rattle.tide_desk.specs.Readings.{Folder, limit_of, bytes_from, bytes_of, book_from, book_named, table_from, table_named, zone_named, certificate_named, files_in, minute_for, given_with}
+use Rattle.tide_desk.proofs.TableLemmas.{table_sound}
+
+-- ---- the bytes under a name
+
+read_within : (slot : Slot) (within : Bool) (held bytes : List ℕ) → bytes_from slot (cond within (Ok held) (Err reading.TooLong)) ≡ Ok bytes → (within ≡ true) × (held ≡ bytes)
+read_within slot true held bytes ok = (refl, cc)
+read_within slot false held bytes ok = absurd cc
+
+bytes_held : (slot : Slot) (file : Option (List ℕ)) (bytes : List ℕ) → bytes_of slot file ≡ Ok bytes → (file ≡ Some bytes) × (length bytes ≤ limit_of slot)
+bytes_held slot None bytes ok = absurd cc
+bytes_held slot (Some held) bytes ok =
+    let read = read_within slot (nat_le (length held) (limit_of slot)) held bytes ok in
+    (ap Some read.1, subst (λ (bs : List ℕ). length bs ≤ limit_of slot) read.1 (leb-true (length held) (limit_of slot) read.0))
+
+bytes_whole : (slot : Slot) (file : Option (List ℕ)) (bytes : List ℕ) → file ≡ Some bytes → length bytes ≤ limit_of slot → bytes_of slot file ≡ Ok bytes
+bytes_whole slot file bytes held few = rw (held, le-leb (length bytes) (limit_of slot) few) refl
+
+-- ---- the book and the table
+
+book_ok : (read : Result TheBook At) (book : TheBook) → book_from read ≡ Ok book → read ≡ Ok book
+book_ok (Ok found) book ok = cc
+book_ok (Err at) book ok = absurd cc
+
+table_ok : (read : Result (List Row) OffsetFault) (table : List Row) → table_from read ≡ Ok table → read ≡ Ok table
+table_ok (Ok rows) table ok = cc
+table_ok (Err fault) table ok = absurd cc
+
+pub named_book : (folder : Folder) (name : List ℕ) (book : TheBook) → book_named folder name ≡ Ok book → IsBook book
+unfolding book_named
+named_book folder name book ok =
+    let bytes = then_ok (bytes_of slots.File (folder name)) _ book ok in
+    book_sound bytes.0 (Ok book) (book_ok (book_of bytes.0) book bytes.2)
+
+no_rows : IsTable []
+no_rows = record { few = omega arith; each = All-nil IsOffsets }
+
+pub named_table : (folder : Folder) (named : Option (List ℕ)) (table : List Row) → table_named folder named ≡ Ok table → IsTable table
+unfolding table_named
+named_table folder None table ok = let none : [] ≡ table = cc in subst IsTable none no_rows
+named_table folder (Some name) table ok =
+    let bytes = then_ok (bytes_of slots.Offsets (folder name)) _ table ok in
+    let held = bytes_held slots.Offsets (folder name) bytes.0 bytes.1 in
+    table_sound bytes.0 table (omega (arith, held.1)) (table_ok (table_of bytes.0) table bytes.2)
+
+-- ---- the certificate
+
+pub certificate_there : (folder : Folder) (named : Option (List ℕ)) (text : List ℕ) → Holds folder named text → length text ≤ 400000000 → certificate_named folder named ≡ Ok text
+unfolding certificate_named
+certificate_there folder None text held few = absurd held
+certificate_there folder (Some name) text held few = bytes_whole slots.Certificate (folder name) text held few
+
+-- it is held under a name, or has no byte
+pub certificate_held : (folder : Folder) (named : Option (List ℕ)) (text : List ℕ) → certificate_named folder named ≡ Ok text → (text ≡ [] → ⊥) → Holds folder named text
+unfolding certificate_named
+certificate_held folder None text ok some = absurd (some cc)
+certificate_held folder (Some name) text ok some = (bytes_held slots.Certificate (folder name) text ok).0
+
+-- ---- what two folders hold alike reads alike
+
+pub book_alike : (before after : Folder) (name : List ℕ) → HoldSame before after (Some name) → book_named after name ≡ book_named before name
+unfolding book_named
+book_alike before after name same = rw same refl
+
+pub table_alike : (before after : Folder) (named : Option (List ℕ)) → HoldSame before after named → table_named after named ≡ table_named before named
+unfolding table_named
+table_alike before after None same = refl
+table_alike before after (Some name) same = rw same refl
+
+-- ---- all files of a question
+
+pub record WasRead (folder : Folder) (question : Question) (name : List ℕ) (read : Materials) : Type 0 where
+  pub book : book_named folder name ≡ Ok read.book
+  pub table : table_named folder question.offsets ≡ Ok read.table
+  pub zone : zone_named folder question.zone ≡ Ok read.zone
+  pub certificate : certificate_named folder question.certificate ≡ Ok read.certificate
+
+files_read : (folder : Folder) (question : Question) (name : List ℕ) (read : Materials) → files_in (λ slot. folder) question name ≡ Ok read → WasRead folder question name read
+unfolding files_in
+files_read folder question name read ok =
+    let book = then_ok (book_named folder name) _ read ok in
+    let table = then_ok (table_named folder question.offsets) _ read book.2 in
+    let zone = then_ok (zone_named folder question.zone) _ read table.2 in
+    let certificate = then_ok (certificate_named folder question.certificate) _ read zone.2 in
+    let same : record { book = book.0; table = table.0; zone = zone.0; certificate = certificate.0 } ≡ read = (let last = certificate.2 in cc) in
+    subst (WasRead folder question name) same
+    (record { book = book.1; table = table.1; zone = zone.1; certificate = certificate.1 })
+
+read_whole : (folder : Folder) (question : Question) (name : List ℕ) (read : Materials) → WasRead folder question name read → files_in (λ slot. folder) question name ≡ Ok read
+unfolding files_in
+read_whole folder question name read was = rw (was.book, was.table, was.zone, was.certificate) refl
+
+-- ---- an answer over them
+
+pub record WasAnswered (folder : Folder) (minute : ℤ) (question : Question) (answer : Answer) : Type 0 where
+  pub name : List ℕ
+  pub file : question.file ≡ Some name
+  pub read : Materials
+  pub files : WasRead folder question name read
+  pub text : text_by question.command read.book read.table question (given_with read (minute_for question.command minute)) ≡ Ok answer
+
+unrefused : (table : List Row) (result : Result Answer Refusal) (answer : Answer) → refused_over table result ≡ Ok answer → result ≡ Ok answer
+unrefused table (Ok found) answer ok = cc
+unrefused table (Err refusal) answer ok = absurd cc
+
+-- a command that reads files has no answer without them
+abbrev pub ReadsFiles : Question → Type 0
+ReadsFiles question = (seed : Option ℕ) → text_from question.command seed ≡ Err NotBuilt
+
+over_file : (folder : Folder) (minute : ℤ) (question : Question) (name : List ℕ) (answer : Answer) → question.file ≡ Some name → answered_over (λ slot. folder) minute question name ≡ Ok answer → WasAnswered folder minute question answer
+unfolding answered_over answered
+over_file folder minute question name answer file ok =
+    let read = then_ok (files_in (λ slot. folder) question name) _ answer ok in
+    let given = given_with read.0 (minute_for question.command minute) in
+    let whole = unrefused read.0.table (answered read.0.book read.0.table question given) answer read.2 in
+    let is = then_ok (built question) _ answer whole in
+    record { name = name; file = file; read = read.0; files = files_read folder question name read.0 read.1; text = is.2 }
+
+by_file : (folder : Folder) (minute : ℤ) (question : Question) (file : Option (List ℕ)) (answer : Answer) → question.file ≡ file → ReadsFiles question → answered_by (λ slot. folder) minute question file ≡ Ok answer → WasAnswered folder minute question answer
+unfolding answered_alone
+by_file folder minute question (Some name) answer file reads ok = over_file folder minute question name answer file ok
+by_file folder minute question None answer file reads ok = absurd (let none = rw (reads question.seed) at ok in cc)
+
+-- words that ask a question are answered as it is
+pub words_answer : (folder : Folder) (minute : ℤ) (words : List (List ℕ)) (question : Question) → asked_of words ≡ Ok question → answer_of folder minute words ≡ answered_by (λ slot. folder) minute question question.file
+unfolding answer_from
+words_answer folder minute words question asked = rw asked refl
+
+pub was_answered : (folder : Folder) (minute : ℤ) (words : List (List ℕ)) (question : Question) (answer : Answer) → asked_of words ≡ Ok question → ReadsFiles question → answer_of folder minute words ≡ Ok answer → WasAnswered folder minute question answer
+was_answered folder minute words question answer asked reads ok =
+    by_file folder minute question question.file answer refl reads (sym (words_answer folder minute words question asked) ∙ ok)
+
+-- and what the files and the question come to is the answer
+is_over_file : (folder : Folder) (minute : ℤ) (question : Question) (answer : Answer) (was : WasAnswered folder minute question answer) → built question ≡ Ok tt → answered_over (λ slot. folder) minute question was.name ≡ Ok answer
+unfolding answered_over answered
+is_over_file folder minute question answer was is =
+    rw (read_whole folder question was.name was.read was.files, is, was.text) refl
+
+pub is_answered : (folder : Folder) (minute : ℤ) (question : Question) (answer : Answer) → built question ≡ Ok tt → WasAnswered folder minute question answer → answered_by (λ slot. folder) minute question question.file ≡ Ok answer
+is_answered folder minute question answer is was =
+    ap (answered_by (λ slot. folder) minute question) was.file ∙ is_over_file folder minute question answer was is

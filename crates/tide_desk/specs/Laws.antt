@@ -1,0 +1,110 @@
+-- What certificates come to over files and words: what `certify` answers `check` accepts, and what `check` accepts is true (this project).
+use Rattle.std.specs.Prelude.{◌≡◌, ℕ, ℤ, false, List, ◌++◌, codes, Option, Some, None, IfSome, IsSomeAnd, Ok}
+use Rattle.cert_text.specs.declared.certificate.Certificate.{Certificate}
+use Rattle.harmonics_text.specs.declared.book.Book.{Book}
+use Rattle.question.specs.declared.command.Command.{Command}
+use Rattle.question.specs.declared.command.Command.TheVariants.{Predict, Certify, Check}
+use Rattle.question.specs.declared.question.Layout.TheVariants.{Plain}
+use Rattle.question.specs.declared.question.Question.{Question}
+use Rattle.station_table.specs.declared.offsets.Offsets.{Offsets}
+use Rattle.zone_time.specs.declared.zone.Zone.{Zone}
+use Rattle.tide_answer.specs.declared.text.Answer.{Answer}
+use Rattle.tide_answer.specs.Answers.{text_alone}
+use Rattle.tide_answer.specs.Laws.{IsTrueCertificate}
+use Rattle.tide_desk.specs.Answers.{answer_of, answered_by, asked_of}
+use Rattle.tide_desk.specs.Readings.{Folder, book_named, table_named, zone_named}
+
+-- ---- what is asked
+
+-- the words ask this question, which is one of the command
+pub record Asks (words : List (List ℕ)) (command : Command) (question : Question) : Type 0 where
+  pub asked : asked_of words ≡ Ok question
+  pub is : question.command ≡ command
+
+-- both name one file of constants, and one table or none
+pub record NameSameFiles (question other : Question) : Type 0 where
+  pub file : question.file ≡ other.file
+  pub offsets : question.offsets ≡ other.offsets
+
+-- the station, the span and the mark of a question, and of a certificate
+pub record Subject : Type 0 where
+  pub station : Option (List ℕ)
+  pub begin : Option ℤ
+  pub end : Option ℤ
+  pub mark : Option ℤ
+
+abbrev pub subject_of : Question → Subject
+subject_of question =
+    record { station = question.station; begin = question.begin; end = question.end; mark = question.mark }
+
+abbrev pub subject_in : Certificate → Subject
+subject_in certificate = record {
+  station = Some certificate.station;
+  begin = Some certificate.begin;
+  end = Some certificate.end;
+  mark = certificate.mark;
+}
+
+-- asks `predict` for the plain listing of a subject, of the files and in the zone of a check
+pub record AsksListing (check : Question) (subject : Subject) (question : Question) : Type 0 where
+  pub command : question.command ≡ Predict
+  pub files : NameSameFiles question check
+  pub about : subject_of question ≡ subject
+  pub zone : question.zone ≡ check.zone
+  pub layout : question.layout ≡ Plain
+
+-- ---- what is held
+
+-- under a name, where there is one, both folders hold the same
+abbrev pub HoldSame : Folder → Folder → Option (List ℕ) → Type 0
+HoldSame before after named = IfSome named (λ name. after name ≡ before name)
+
+-- under a name there is this text
+abbrev pub Holds : Folder → Option (List ℕ) → List ℕ → Type 0
+Holds folder named text = IsSomeAnd named (λ name. folder name ≡ Some text)
+
+-- the file of constants and the table of a check are as they were, and the text is its certificate
+pub record HoldsCertificate (before after : Folder) (check : Question) (text : List ℕ) : Type 0 where
+  pub file : HoldSame before after check.file
+  pub offsets : HoldSame before after check.offsets
+  pub certificate : Holds after check.certificate text
+
+-- ---- what is answered
+
+-- the word that accepts, and then the listing that `predict` answers over the same folder: to whatever words ask for it, at
+-- whatever minute, and to such a question of no words, which names no certificate either
+pub record AcceptsWithListing (folder : Folder) (check : Question) (subject : Subject) (answer : Answer) : Type 0 where
+  pub listing : Answer
+  pub text : answer ≡ text_alone (codes "Accepted\n" ++ listing.text)
+  pub to_words : (minute : ℤ) (words : List (List ℕ)) (question : Question) →
+      asked_of words ≡ Ok question → AsksListing check subject question → answer_of folder minute words ≡ Ok listing
+  pub to_question : (minute : ℤ) (question : Question) →
+      AsksListing check subject question → question.certificate ≡ None → answered_by (λ slot. folder) minute question question.file ≡ Ok listing
+
+-- what `certify` answers is accepted, with the listing of its question, by each later check that has the same files and
+-- the answer's text as its certificate
+abbrev pub AcceptsWhatCertifyAnswers : Type 0
+AcceptsWhatCertifyAnswers = (before after : Folder) (minute later : ℤ) (words more : List (List ℕ)) (certify check : Question) (certificate : Answer) (zone : Zone) →
+    Asks words Certify certify → answer_of before minute words ≡ Ok certificate →
+    Asks more Check check → NameSameFiles check certify → HoldsCertificate before after check certificate.text →
+    zone_named after check.zone ≡ Ok zone →
+    (answer : Answer) × (answer_of after later more ≡ Ok answer) × AcceptsWithListing after check (subject_of certify) answer
+
+-- over the file, the table and the zone that the check names, the text under its certificate's name is a true certificate,
+-- and the answer has the listing of that certificate's own question
+pub record IsTrueAnswer (folder : Folder) (check : Question) (answer : Answer) : Type 0 where
+  pub book : Book
+  pub table : List Offsets
+  pub zone : Zone
+  pub text : List ℕ
+  pub file : IsSomeAnd check.file (λ name. book_named folder name ≡ Ok book)
+  pub offsets : table_named folder check.offsets ≡ Ok table
+  pub shown : zone_named folder check.zone ≡ Ok zone
+  pub held : Holds folder check.certificate text
+  pub is_true : IsTrueCertificate book table text zone answer
+  pub listing : AcceptsWithListing folder check (subject_in is_true.certificate) answer
+
+-- whatever `check` accepts, whoever wrote it, is true
+abbrev pub AcceptsOnlyTrueCertificates : Type 0
+AcceptsOnlyTrueCertificates = (folder : Folder) (minute : ℤ) (words : List (List ℕ)) (check : Question) (answer : Answer) →
+    Asks words Check check → answer_of folder minute words ≡ Ok answer → answer.rejected ≡ false → IsTrueAnswer folder check answer
