@@ -18,14 +18,17 @@ status_of code.Unprocessable = codes "422 Unprocessable Content"
 status_of code.FieldsTooLarge = codes "431 Request Header Fields Too Large"
 status_of code.Unavailable = codes "503 Service Unavailable"
 
--- a response of a type, with a line that names the methods allowed or none, and with its body or none; the length is the body's
-abbrev pub response : Code → List ℕ → List ℕ → List ℕ → Bool → List ℕ
-response code kind allow body bodiless =
+-- the head of a response of a type, for a body of a length, with a line that names the methods allowed or none
+abbrev pub response_head : Code → List ℕ → List ℕ → ℕ → List ℕ
+response_head code kind allow size =
     codes "HTTP/1.1 " ++ status_of code
-    ++ codes "\r\nContent-Type: " ++ kind ++ codes "; charset=utf-8\r\nContent-Length: " ++ decimal (length body) ++ codes "\r\n"
+    ++ codes "\r\nContent-Type: " ++ kind ++ codes "; charset=utf-8\r\nContent-Length: " ++ decimal size ++ codes "\r\n"
     ++ allow
     ++ codes "Connection: close\r\n\r\n"
-    ++ (if bodiless then [] else body)
+
+-- a response with its body or without it; the length is the body's
+abbrev pub response : Code → List ℕ → List ℕ → List ℕ → Bool → List ℕ
+response code kind allow body bodiless = response_head code kind allow (length body) ++ (if bodiless then [] else body)
 
 -- ---- the fixed rows
 
@@ -71,3 +74,13 @@ rejection_of rejection bodiless =
 abbrev pub fixed_of : Row → Option (List ℕ)
 fixed_of (rejects rejection bodiless) = Some (rejection_of rejection bodiless)
 fixed_of (asks asking) = None
+
+-- ---- want of memory
+
+abbrev pub is_bodiless : Row → Bool
+is_bodiless (rejects rejection bodiless) = bodiless
+is_bodiless (asks asking) = asking.bodiless
+
+-- the reply that stands for any other one where memory is wanting
+abbrev pub unavailable_of : Row → List ℕ
+unavailable_of row = response code.Unavailable (codes "text/plain") [] (codes "no memory\n") (is_bodiless row)

@@ -26,6 +26,9 @@ is_read_path path =
 abbrev pub is_post_path : List ℕ → Bool
 is_post_path path = bytes_eq path (codes "/check")
 
+abbrev pub is_known_path : List ℕ → Bool
+is_known_path path = is_read_path path || is_post_path path
+
 abbrev pub is_head : Head → Bool
 is_head head = bytes_eq head.method (codes "HEAD")
 
@@ -64,7 +67,7 @@ abbrev pub field_rows : Head → List (Bool × Rejection)
 field_rows head =
     (nat_lt 1 head.host.count || (head.minor == 1 && (head.host.count == 0)), BadRequest)
     ∷ (not (starts_with (λ a b. a == b) head.target (codes "/")), BadRequest)
-    ∷ (not (is_read_path (path_of head.target) || is_post_path (path_of head.target)), NotFound)
+    ∷ (not (is_known_path (path_of head.target)), NotFound)
     ∷ (is_read_path (path_of head.target) && not (is_read head), WantsGet)
     ∷ (is_post_path (path_of head.target) && not (is_post head), WantsPost)
     ∷ (is_post head && (head.size.count == 0), LengthRequired)

@@ -3,7 +3,7 @@
 ghost use Rattle.std.specs.Prelude.{◌≡◌, ◌==◌, nat_lt, not, ◌&&◌, ◌||◌, ◌++◌, Some, None, IfOk, IfErr, codes};
 ghost use Rattle.std.specs.List.{starts_with};
 ghost use Rattle.tide_server.specs.Rows.{is_read, is_post, is_head, is_size, field_rows, body_rows, first_row, path_of, query_of, asking};
-ghost use Rattle.tide_server.specs.Workings.Views.{head_seen, asking_seen};
+ghost use Rattle.tide_server.specs.Workings.Views.{IsAsking, head_seen, asking_seen};
 
 use crate::head::{Head, is_head};
 use crate::rejection::Rejection;
@@ -59,6 +59,7 @@ pub(crate) fn asked<'a>(head: &Head<'a>, rest: &'a [u8]) -> Result<Asking<'a>, R
         × (asking_seen a ≡ asking (head_seen head.now) rest.now)) }
     ensures rejects { IfErr result (λ r.
         first_row (field_rows (head_seen head.now) ++ body_rows (head_seen head.now) rest.now) ≡ Some r) }
+    ensures known { IfOk result (λ a. IsAsking (asking_seen a)) }
 {
     let path = path_of(head.target);
     if has_bad_host(head) {

@@ -1,12 +1,12 @@
 //! What a request's bytes decide by themselves.
 
 ghost use Rattle.std.specs.Prelude.{◌≡◌, [], is_some, unwrap_or};
-ghost use Rattle.tide_server.specs.Responses.{fixed_of};
+ghost use Rattle.tide_server.specs.Responses.{fixed_of, unavailable_of};
 ghost use Rattle.tide_server.specs.Rows.{is_settled, is_settled_by, IsRow};
 ghost use Rattle.tide_server.specs.Rows as rows;
 
 use crate::rejection::Rejection;
-use crate::response::write_rejection;
+use crate::response::{write_rejection, write_unavailable};
 use crate::row::{Row, row_for};
 use arrayvec::ArrayString;
 
@@ -38,5 +38,16 @@ pub fn fixed_reply(request: &[u8], out: &mut ArrayString<256>) -> bool
             true
         }
         Row::Asks(_) => false,
+    }
+}
+
+/// Writes the reply that stands for another one where memory is wanting. It takes no memory.
+pub fn unavailable_reply(request: &[u8], out: &mut ArrayString<256>)
+    requires { out.old.bytes ≡ [] }
+    ensures { (row : rows.Row) × IsRow request.now row × (out.new.bytes ≡ unavailable_of row) }
+{
+    match row_for(request) {
+        Row::Rejects(_, bodiless) => write_unavailable(bodiless, out),
+        Row::Asks(asking) => write_unavailable(asking.bodiless, out),
     }
 }

@@ -1,6 +1,14 @@
-//! What is true of the rows of requests.
+//! What is true of the rows of requests, and of the replies.
 
-ghost use Rattle.std.specs.Prelude.{◌≡◌, ℕ, ◌≤◌, List, ◌++◌, length, IsTrue};
+ghost use Rattle.std.specs.Prelude.{◌≡◌, ℕ, ℤ, ◌≤◌, false, List, ◌++◌, length, Option, Some, Ok, IsTrue};
+ghost use Rattle.harmonics_text.specs.declared.book.Book.{Book};
+ghost use Rattle.question.specs.Questions.{question_of};
+ghost use Rattle.question.specs.declared.origin.Origin.{Origin};
+ghost use Rattle.question.specs.declared.pairs.Item.{Item};
+ghost use Rattle.question.specs.declared.question.Question.{Question};
+ghost use Rattle.station_table.specs.declared.offsets.Offsets.{Offsets};
+ghost use Rattle.tide_server.specs.Replies.{IsReply, names_file};
+ghost use Rattle.tide_server.specs.Responses.{fixed_of};
 ghost use Rattle.tide_server.specs.Rows.{Row, IsRow, is_settled};
 
 /// A request has one row.
@@ -17,4 +25,30 @@ pub fn settled_rows_stay()
 /// The longest request has 4,202,496 bytes: so many settle the row.
 pub fn long_requests_are_settled()
     ensures { (request : List ℕ) (row : Row) → IsRow request row → 4202496 ≤ length request → IsTrue (is_settled row) }
+{}
+
+/// A request has one reply.
+pub fn one_reply()
+    ensures { (book : Book) (table : List Offsets) (minute : ℤ) (request a b : List ℕ)
+        → IsReply book table minute request a → IsReply book table minute request b → a ≡ b }
+{}
+
+/// Where the bytes that came so far settle the row, no more bytes change the reply.
+pub fn settled_replies_stay()
+    ensures { (book : Book) (table : List Offsets) (minute : ℤ) (request more reply : List ℕ) (row : Row)
+        → IsRow request row → IsTrue (is_settled row)
+        → IsReply book table minute request reply → IsReply book table minute (request ++ more) reply }
+{}
+
+/// The reply of a fixed row is the same over every book.
+pub fn fixed_rows_reply()
+    ensures { (book : Book) (table : List Offsets) (minute : ℤ) (request reply : List ℕ) (row : Row)
+        → IsRow request row → fixed_of row ≡ Some reply → IsReply book table minute request reply }
+{}
+
+/// A query names no file of a zone.
+pub fn queries_name_no_file()
+    ensures { (command : Option (List ℕ)) (items : List Item) (question : Question)
+        → question_of record { origin = Origin.Query; command = command; items = items } ≡ Ok question
+        → names_file question.zone ≡ false }
 {}

@@ -1,7 +1,8 @@
 //! Tides over HTTP: requests, and the replies to them.
 //!
-//! [`enough`] tells when the bytes that came settle the reply. [`fixed_reply`] makes the replies that need no answer of
-//! the predictor, as to a head that is no head or to a path that isn't known.
+//! [`enough`] tells when the bytes that came settle the reply, and [`reply`] makes it. [`fixed_reply`] makes the replies
+//! that need no answer of the predictor, as to a head that is no head or to a path that isn't known, and
+//! [`unavailable_reply`] the one that stands for another where memory is wanting. Neither takes memory.
 #![tactic(auto)]
 
 mod asking;
@@ -10,7 +11,9 @@ mod deciding;
 mod head;
 mod laws;
 mod lines;
+mod query;
 mod rejection;
+mod replying;
 mod response;
 mod row;
 mod size;
@@ -18,10 +21,14 @@ mod target;
 mod worked;
 
 pub use code::Code;
-pub use deciding::{enough, fixed_reply};
-pub use laws::{long_requests_are_settled, one_row, settled_rows_stay};
+pub use deciding::{enough, fixed_reply, unavailable_reply};
+pub use laws::{
+    fixed_rows_reply, long_requests_are_settled, one_reply, one_row, queries_name_no_file,
+    settled_replies_stay, settled_rows_stay,
+};
 pub use rejection::Rejection;
-pub use worked::{worked_replies, worked_rows};
+pub use replying::reply;
+pub use worked::{worked_answers, worked_queries, worked_replies, worked_rows};
 
 #[cfg(test)]
 mod tests;

@@ -1,13 +1,15 @@
-//! Responses written. None takes memory.
+//! Responses written.
 
-ghost use Rattle.std.specs.Prelude.{◌≡◌, ◌≤◌, ◌+◌, ◌++◌, [], length, codes, decimal};
+ghost use Rattle.std.specs.Prelude.{◌≡◌, ◌≤◌, ◌+◌, ◌++◌, [], length, codes, decimal, IfOk};
 ghost use Rattle.arrayvec.specs.ArrayString.{array_string_len};
-ghost use Rattle.tide_server.specs.Responses.{status_of, code_of, body_of, allow_of, rejection_of};
+ghost use Rattle.tide_server.specs.Responses.{status_of, code_of, body_of, allow_of, response_head, response, rejection_of};
 
 use crate::code::Code;
 use crate::rejection::Rejection;
 use arrayvec::ArrayString;
+use decimal_text::Bytes;
 use itoa::Buffer;
+use std::alloc::{AllocError, Global};
 
 #[tactic(auto, unfolding(crate::specs::Responses::status_of))]
 fn status_of(code: Code) -> &'static str
@@ -81,20 +83,76 @@ fn push_number(number: usize, out: &mut ArrayString<256>)
     out.push_str(buffer.format(number));
 }
 
+/// Writes the head of a response for a body of so many bytes.
+fn write_head(code: Code, kind: &str, allow: &str, size: usize, out: &mut ArrayString<256>)
+    requires empty { out.old.bytes ≡ [] }
+    requires kind { length kind.now ≤ 10 }
+    requires allow { length allow.now ≤ 18 }
+    ensures bytes { out.new.bytes ≡ response_head code kind.now allow.now size }
+    ensures short { array_string_len out.new ≤ 184 }
+{
+    out.push_str("HTTP/1.1 ");
+    out.push_str(status_of(code));
+    out.push_str("\r\nContent-Type: ");
+    out.push_str(kind);
+    out.push_str("; charset=utf-8\r\nContent-Length: ");
+    push_number(size, out);
+    out.push_str("\r\n");
+    out.push_str(allow);
+    out.push_str("Connection: close\r\n\r\n");
+}
+
+/// Writes a response of plain text.
+fn write_plain(code: Code, allow: &str, body: &str, bodiless: bool, out: &mut ArrayString<256>)
+    requires empty { out.old.bytes ≡ [] }
+    requires allow { length allow.now ≤ 18 }
+    requires body { length body.now ≤ 24 }
+    ensures { out.new.bytes ≡ response code (codes "text/plain") allow.now body.now bodiless }
+{
+    write_head(code, "text/plain", allow, body.len(), out);
+    if !bodiless {
+        out.push_str(body);
+    }
+}
+
 /// Writes the reply of a fixed row.
 pub(crate) fn write_rejection(rejection: Rejection, bodiless: bool, out: &mut ArrayString<256>)
     requires { out.old.bytes ≡ [] }
     ensures { out.new.bytes ≡ rejection_of rejection bodiless }
 {
-    let body = body_of(rejection);
-    out.push_str("HTTP/1.1 ");
-    out.push_str(status_of(code_of(rejection)));
-    out.push_str("\r\nContent-Type: ");
-    out.push_str("text/plain");
-    out.push_str("; charset=utf-8\r\nContent-Length: ");
-    push_number(body.len(), out);
-    out.push_str("\r\n");
-    out.push_str(allow_of(rejection));
-    out.push_str("Connection: close\r\n\r\n");
-    out.push_str(if bodiless { "" } else { body });
+    write_plain(
+        code_of(rejection),
+        allow_of(rejection),
+        body_of(rejection),
+        bodiless,
+        out,
+    );
+}
+
+/// Writes the reply that stands for another one where memory is wanting.
+pub(crate) fn write_unavailable(bodiless: bool, out: &mut ArrayString<256>)
+    requires { out.old.bytes ≡ [] }
+    ensures { out.new.bytes ≡ response Code.Unavailable (codes "text/plain") [] (codes "no memory\n") bodiless }
+{
+    write_plain(Code::Unavailable, "", "no memory\n", bodiless, out);
+}
+
+/// A response with its body, or with the head alone.
+pub(crate) fn response(
+    alloc: Global,
+    code: Code,
+    kind: &str,
+    body: &[u8],
+    bodiless: bool,
+) -> Result<Bytes, AllocError>
+    requires { length kind.now ≤ 10 }
+    ensures { IfOk result (λ bytes. bytes ≡ response code kind.now [] body.now bodiless) }
+{
+    let mut head = ArrayString::<256>::new();
+    write_head(code, kind, "", body.len(), &mut head);
+    let mut bytes = head.as_bytes().to_vec(alloc)?;
+    if !bodiless {
+        bytes.extend_from_slice(body)?;
+    }
+    Ok(Bytes::from_vec(bytes))
 }

@@ -3,7 +3,7 @@
 ghost use Rattle.std.specs.Prelude.{◌≡◌, Option};
 ghost use Rattle.tide_server.specs.Heads as heads;
 ghost use Rattle.tide_server.specs.Rows as rows;
-ghost use Rattle.tide_server.specs.Workings.Views.{row_seen};
+ghost use Rattle.tide_server.specs.Workings.Views.{IsAskingRow, row_seen};
 
 use crate::asking::{Asking, asked};
 use crate::head::{is_head, read_head};
@@ -24,7 +24,8 @@ pub(crate) enum Row<'a> {
 
 /// The row that answers the whole request.
 pub(crate) fn row_for(request: &[u8]) -> Row<'_>
-    ensures { rows.IsRow request.now (row_seen result) }
+    ensures row { rows.IsRow request.now (row_seen result) }
+    ensures known { IsAskingRow (row_seen result) }
 {
     match head_end(request) {
         Some(end) => {
@@ -46,8 +47,9 @@ fn unended_row(request: &[u8]) -> Row<'_>
 }
 
 fn ended_row<'a>(bytes: &'a [u8], rest: &'a [u8]) -> Row<'a>
-    ensures { (read : Option heads.Head) × heads.ReadsAs bytes.now read
+    ensures row { (read : Option heads.Head) × heads.ReadsAs bytes.now read
         × (row_seen result ≡ rows.ended_row bytes.now read rest.now) }
+    ensures known { IsAskingRow (row_seen result) }
 {
     let read = read_head(bytes);
     if line_feeds(bytes) > MOST_LINES {

@@ -1,3 +1,5 @@
+mod replies;
+
 use super::*;
 use arrayvec::ArrayString;
 use std::alloc::{AllocError, Global};
@@ -144,4 +146,22 @@ fn a_request_is_enough_once_it_is_whole(rt: HostRuntime) {
         assert!(rt; !enough(&request[..length]));
     }
     assert!(rt; enough(request));
+}
+
+#[test]
+fn want_of_memory_has_a_reply(rt: HostRuntime) {
+    for (request, expected) in [
+        (
+            "GET /stations HTTP/1.1\r\nHost: a\r\n\r\n",
+            "HTTP/1.1 503 Service Unavailable\r\nContent-Type: text/plain; charset=utf-8\r\nContent-Length: 10\r\nConnection: close\r\n\r\nno memory\n",
+        ),
+        (
+            "HEAD /stations HTTP/1.1\r\nHost: a\r\n\r\n",
+            "HTTP/1.1 503 Service Unavailable\r\nContent-Type: text/plain; charset=utf-8\r\nContent-Length: 10\r\nConnection: close\r\n\r\n",
+        ),
+    ] {
+        let mut out = ArrayString::new();
+        unavailable_reply(request.as_bytes(), &mut out);
+        assert_eq!(rt; out.as_str(), expected);
+    }
 }

@@ -1,9 +1,13 @@
 //! Worked rows of the definitions that contracts cite.
 
-ghost use Rattle.std.specs.Prelude.{◌≡◌, true, false, [], ◌∷◌, Some, None, codes};
+ghost use Rattle.std.specs.Prelude.{◌≡◌, ℤ, true, false, List, [], ◌∷◌, Some, None, codes};
+ghost use Rattle.harmonics_text.specs.declared.book.Book.{Book};
+ghost use Rattle.station_table.specs.declared.offsets.Offsets.{Offsets};
 ghost use Rattle.tide_server.specs.Heads.{head_length, head_of};
+ghost use Rattle.tide_server.specs.Queries.{items_of, said_by};
+ghost use Rattle.tide_server.specs.Replies.{reply_of};
 ghost use Rattle.tide_server.specs.Responses.{rejection_of};
-ghost use Rattle.tide_server.specs.Rows.{path_of, query_of, is_size, field_rows, first_row};
+ghost use Rattle.tide_server.specs.Rows.{asks, path_of, query_of, is_size, field_rows, first_row};
 
 use crate::rejection::Rejection;
 
@@ -32,4 +36,24 @@ pub fn worked_replies()
         ((codes "HOST", codes "a") ∷ []))) ≡ None }
     ensures left_out { rejection_of Rejection.WantsPost true
         ≡ codes "HTTP/1.1 405 Method Not Allowed\r\nContent-Type: text/plain; charset=utf-8\r\nContent-Length: 19\r\nAllow: POST\r\nConnection: close\r\n\r\n" }
+{}
+
+/// Checks what a few queries say.
+pub fn worked_queries()
+    ensures items { items_of (codes "station=Pier+test&&zone=%2B05:30&mark") ≡
+        record { key = codes "station"; value = Some (codes "Pier test") }
+        ∷ record { key = codes "zone"; value = Some (codes "+05:30") }
+        ∷ record { key = codes "mark"; value = Some [] }
+        ∷ [] }
+    ensures no_text { said_by (codes "%FFa") ≡ 239 ∷ 191 ∷ 189 ∷ 97 ∷ [] }
+{}
+
+/// Checks the replies to queries that ask nothing.
+pub fn worked_answers()
+    ensures none_asked { (book : Book) (table : List Offsets) (minute : ℤ)
+        → reply_of book table minute (asks record { path = codes "/clock"; query = codes "zone=UTC"; body = []; bodiless = false })
+        ≡ codes "HTTP/1.1 400 Bad Request\r\nContent-Type: text/plain; charset=utf-8\r\nContent-Length: 26\r\nConnection: close\r\n\r\nwords: station is missing\n" }
+    ensures head_alone { (book : Book) (table : List Offsets) (minute : ℤ)
+        → reply_of book table minute (asks record { path = codes "/stations"; query = codes "offsets=o"; body = []; bodiless = true })
+        ≡ codes "HTTP/1.1 400 Bad Request\r\nContent-Type: text/plain; charset=utf-8\r\nContent-Length: 33\r\nConnection: close\r\n\r\n" }
 {}

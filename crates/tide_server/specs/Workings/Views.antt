@@ -1,4 +1,5 @@
--- What the server's own types are in the definitions (this project).
+-- What the server's own types are in the definitions, and what is known of them (this project).
+use Rattle.std.specs.Prelude.{◌≤◌, IsTrue, length}
 use Rattle.tide_server.specs.Heads as heads
 use Rattle.tide_server.specs.Rows as rows
 use Rattle.tide_server.specs.declared.asking.Asking.{Asking}
@@ -26,3 +27,12 @@ asking_seen a = record { path = a.path.now; query = a.query.now; body = a.body.n
 abbrev pub row_seen : Row → rows.Row
 row_seen (Rejects rejection bodiless) = rows.rejects rejection bodiless
 row_seen (Asks asking) = rows.asks (asking_seen asking)
+
+-- what is asked stands behind the fixed rows
+pub record IsAsking (a : rows.Asking) : Type 0 where
+  pub path : IsTrue (rows.is_known_path a.path)
+  pub body : length a.body ≤ 4194304
+
+abbrev pub IsAskingRow : rows.Row → Type 0
+IsAskingRow (rows.rejects rejection bodiless) = Unit {0}
+IsAskingRow (rows.asks asking) = IsAsking asking

@@ -1,0 +1,23 @@
+-- The question that a path and a query ask (URL Standard, section 5; the commands and the keys are this project's).
+use Rattle.std.specs.Prelude.{ℕ, List, map, drop, Some}
+use Rattle.std.specs.Str.Lossy.{utf8_lossy}
+use Rattle.form_urlencoded.specs.Form.{raw_pairs, decode}
+use Rattle.question.specs.declared.origin.Origin.TheVariants.{Query}
+use Rattle.question.specs.declared.pairs.Item.{Item}
+use Rattle.question.specs.declared.pairs.Pairs.{Pairs}
+use Rattle.tide_server.specs.Rows.{Asking}
+
+-- what a name or a value says: bytes that aren't UTF-8 become U+FFFD
+unfoldable pub said_by : List ℕ → List ℕ
+said_by encoded = utf8_lossy (decode encoded)
+
+-- each pair has a value, which may be empty
+abbrev pub item_of : List ℕ × List ℕ → Item
+item_of pair = record { key = said_by pair.0; value = Some (said_by pair.1) }
+
+abbrev pub items_of : List ℕ → List Item
+items_of query = map item_of (raw_pairs query)
+
+-- the command is the path without its `/`
+abbrev pub pairs_of : Asking → Pairs
+pairs_of asking = record { origin = Query; command = Some (drop 1 asking.path); items = items_of asking.query }

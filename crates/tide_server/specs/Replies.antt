@@ -1,0 +1,71 @@
+-- The reply to a request, over a book of harmonic constants, a table of offsets and the present minute (this project).
+use Rattle.std.specs.Prelude.{◌≡◌, ℕ, ℤ, Bool, true, false, List, [], codes, Result, Ok, Err}
+use Rattle.harmonics_text.specs.declared.book.Book.{Book}
+use Rattle.question.specs.declared.fault.AskFault.{AskFault}
+use Rattle.question.specs.declared.question.Layout.{Layout}
+use Rattle.question.specs.declared.question.Layout.TheVariants.{Plain, Csv}
+use Rattle.question.specs.declared.question.Question.{Question}
+use Rattle.question.specs.declared.question.ZoneWord.{ZoneWord}
+use Rattle.question.specs.declared.question.ZoneWord.TheVariants as words
+use Rattle.question.specs.Questions.{question_of}
+use Rattle.station_table.specs.declared.offsets.Offsets.{Offsets}
+use Rattle.tide_answer.specs.declared.fault.Fault.{Fault}
+use Rattle.tide_answer.specs.declared.fault.Fault.TheVariants.{Ask, Refused}
+use Rattle.tide_answer.specs.declared.given.Given.{Given}
+use Rattle.tide_answer.specs.declared.refusal.Refusal.{Refusal}
+use Rattle.tide_answer.specs.declared.text.Answer.{Answer}
+use Rattle.tide_answer.specs.Answers.{answered}
+use Rattle.tide_answer.specs.Faults.{line_of}
+use Rattle.zone_time.specs.declared.zone.Zone.{Zone}
+use Rattle.zone_time.specs.declared.zone.Zone.TheVariants.{Utc, Fixed}
+use Rattle.tide_server.specs.declared.code.Code.{Code}
+use Rattle.tide_server.specs.declared.code.Code.TheVariants as code
+use Rattle.tide_server.specs.Queries.{pairs_of}
+use Rattle.tide_server.specs.Responses.{response, rejection_of}
+use Rattle.tide_server.specs.Rows.{Row, rejects, asks, Asking, IsRow}
+
+abbrev pub names_file : ZoneWord → Bool
+names_file words.Utc = false
+names_file (words.Fixed minutes) = false
+names_file (words.Named name) = true
+
+-- the zone of a query's word, which never names a file
+abbrev pub zone_of : ZoneWord → Zone
+zone_of words.Utc = Utc
+zone_of (words.Fixed minutes) = Fixed minutes
+zone_of (words.Named name) = Utc
+
+-- the body is the certificate
+abbrev pub given_with : Question → Asking → ℤ → Given
+given_with question asking minute = record { zone = zone_of question.zone; certificate = asking.body; now = minute }
+
+-- the type of an answer's text
+abbrev pub type_of : Layout → List ℕ
+type_of Plain = codes "text/plain"
+type_of Csv = codes "text/csv"
+
+-- the line of what keeps a question from its answer
+abbrev pub fault_reply : Code → List Offsets → Fault → Bool → List ℕ
+fault_reply code table fault bodiless = response code (codes "text/plain") [] (line_of table fault) bodiless
+
+-- an answer, which also a rejected certificate has, or a refusal
+unfoldable pub answer_reply : List Offsets → Layout → Result Answer Refusal → Bool → List ℕ
+answer_reply table layout (Ok answer) bodiless = response code.Success (type_of layout) [] answer.text bodiless
+answer_reply table layout (Err refusal) bodiless = fault_reply code.Unprocessable table (Refused refusal) bodiless
+
+-- what is asked is a question, or it isn't
+unfoldable pub question_reply : Book → List Offsets → ℤ → Asking → Result Question AskFault → List ℕ
+question_reply book table minute asking (Ok question) =
+    answer_reply table question.layout (answered book table question (given_with question asking minute)) asking.bodiless
+question_reply book table minute asking (Err fault) = fault_reply code.BadRequest table (Ask fault) asking.bodiless
+
+unfoldable pub asking_reply : Book → List Offsets → ℤ → Asking → List ℕ
+asking_reply book table minute asking = question_reply book table minute asking (question_of (pairs_of asking))
+
+abbrev pub reply_of : Book → List Offsets → ℤ → Row → List ℕ
+reply_of book table minute (rejects rejection bodiless) = rejection_of rejection bodiless
+reply_of book table minute (asks asking) = asking_reply book table minute asking
+
+-- the reply to the whole of a request
+abbrev pub IsReply : Book → List Offsets → ℤ → List ℕ → List ℕ → Type 0
+IsReply book table minute request reply = (row : Row) × IsRow request row × (reply ≡ reply_of book table minute row)

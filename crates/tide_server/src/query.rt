@@ -1,0 +1,74 @@
+//! What a path and a query say.
+
+ghost use Rattle.std.specs.Prelude.{◌≡◌, drop, IfOk, IsTrue};
+ghost use Rattle.tide_server.specs.Queries.{item_of, items_of, pairs_of, said_by};
+ghost use Rattle.tide_server.specs.Rows.{is_known_path};
+ghost use Rattle.tide_server.specs.Workings.Views.{IsAsking, asking_seen};
+
+use crate::asking::Asking;
+use decimal_text::Text;
+use form_urlencoded::{decode, raw_pairs};
+use question::{Item, Items, Origin, Pairs};
+use std::alloc::{AllocError, Global};
+
+/// The command and the items of what is asked.
+pub(crate) fn pairs_of(alloc: Global, asking: &Asking<'_>) -> Result<Pairs, AllocError>
+    requires { IsAsking (asking_seen asking.now) }
+    ensures { IfOk result (λ pairs. pairs ≡ pairs_of (asking_seen asking.now)) }
+{
+    Ok(Pairs {
+        origin: Origin::Query,
+        command: Some(Text::from_str(alloc, command_of(asking.path))?),
+        items: Items::from_vec(items_of(alloc, asking.query)?),
+    })
+}
+
+/// The command that a path names.
+fn command_of(path: &[u8]) -> &'static str
+    requires { IsTrue (is_known_path path.now) }
+    ensures { result.now ≡ drop 1 path.now }
+{
+    if path == b"/predict".as_slice() {
+        "predict"
+    } else if path == b"/certify".as_slice() {
+        "certify"
+    } else if path == b"/heights".as_slice() {
+        "heights"
+    } else if path == b"/calendar".as_slice() {
+        "calendar"
+    } else if path == b"/clock".as_slice() {
+        "clock"
+    } else if path == b"/stations".as_slice() {
+        "stations"
+    } else {
+        "check"
+    }
+}
+
+fn items_of(alloc: Global, query: &[u8]) -> Result<Vec<Item>, AllocError>
+    ensures { IfOk result (λ items. items.items ≡ items_of query.now) }
+{
+    let mut items = Vec::new(alloc);
+    for (name, value) in raw_pairs(query) {
+        items.push(item_of(alloc, name, value)?)?;
+    }
+    Ok(items)
+}
+
+fn item_of(alloc: Global, name: &[u8], value: &[u8]) -> Result<Item, AllocError>
+    ensures { IfOk result (λ item. item ≡ item_of (name.now, value.now)) }
+{
+    Ok(Item {
+        key: said_by(alloc, name)?,
+        value: Some(said_by(alloc, value)?),
+    })
+}
+
+/// The text that a name or a value stands for.
+#[tactic(auto, unfolding(crate::specs::Queries::said_by))]
+fn said_by(alloc: Global, encoded: &[u8]) -> Result<Text, AllocError>
+    ensures { IfOk result (λ text. text ≡ said_by encoded.now) }
+{
+    let text = decode(alloc, encoded)?;
+    Text::from_str(alloc, text.as_str())
+}
