@@ -1,7 +1,11 @@
+pub mod AnswerLemmas
+pub mod ConnectionLemmas
 pub mod EndLemmas
 pub mod HeadLemmas
 pub mod LineLemmas
+pub mod OpeningLemmas
 pub mod QueryLemmas
 pub mod ReplyLemmas
 pub mod RowLemmas
 pub mod SizeLemmas
+pub mod StepLemmas

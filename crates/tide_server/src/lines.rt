@@ -21,7 +21,7 @@ fn empty_line(bytes: &[u8]) -> Option<usize>
     }
 }
 
-fn rest_from(bytes: &[u8], at: usize) -> &[u8]
+pub(crate) fn rest_from(bytes: &[u8], at: usize) -> &[u8]
     requires { at ≤ length bytes.now }
     ensures { result.now ≡ drop at bytes.now }
 {

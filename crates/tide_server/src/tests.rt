@@ -1,4 +1,5 @@
 mod replies;
+mod serving;
 
 use super::*;
 use arrayvec::ArrayString;
