@@ -1,7 +1,7 @@
 //! What the program tells of itself.
 
 ghost use Rattle.std.specs.Prelude.{◌≡◌};
-ghost use Rattle.tide.specs.Pages.{page_of, page_text};
+ghost use Rattle.tide.specs.Pages.{asks_to_serve, page_of, page_text};
 
 use decimal_text::Words;
 
@@ -20,6 +20,7 @@ Usage: tide COMMAND file=F [KEY=VALUE..]
   stations  the stations of a file
   sample    a file of made-up constants by a seed; it needs no file
   trial     the counts of a trial of the program on such a file
+  serve     a web server of these answers, at 127.0.0.1; it ends by a signal
 
   file         harmonic constants, after XTide's text files
   offsets      a table of subordinate stations (CSV)
@@ -32,6 +33,7 @@ Usage: tide COMMAND file=F [KEY=VALUE..]
   step         minutes between heights, 60 if not given
   certificate  the file to check
   seed         a whole number
+  port         where the server listens, 8080 if not given
 
 The pairs may stand in any order. An event is listed at the last minute before it,
 with the level at that minute.
@@ -78,5 +80,15 @@ pub fn page_asked(words: &Words) -> Option<Page>
         "-h" | "--help" => Some(Page::Help),
         "-V" | "--version" => Some(Page::Version),
         _ => None,
+    }
+}
+
+/// Whether the first word asks to serve.
+pub fn asks_to_serve(words: &Words) -> bool
+    ensures { result ≡ asks_to_serve words.now }
+{
+    match words.as_slice().first() {
+        Some(word) => word.as_str() == "serve",
+        None => false,
     }
 }

@@ -1,4 +1,4 @@
-//! The program: the host's words, files, streams and clock, handed to the top call.
+//! The program: the host's words, files, streams, clock and port, handed to the top calls.
 #![tactic(auto)]
 
 mod arguments;
@@ -7,12 +7,12 @@ mod responding;
 
 use arguments::words_of;
 use decimal_text::Words;
-use responding::{refuse, respond};
+use responding::respond;
 use std::env;
 use std::io::ErrorKind;
 use std::process::ExitCode;
-use tide_desk::Status;
-use tide_edge::{HostClock, HostFiles, HostSink};
+use tide_desk::{Status, refuse};
+use tide_edge::{HostClock, HostDoor, HostFiles, HostSink};
 
 fn main(rt: HostRuntime) -> ExitCode {
     ExitCode::from(run_words(&rt).number())
@@ -26,17 +26,19 @@ fn run_words(rt: &HostRuntime) -> Status {
         Ok(words) => {
             let mut files = HostFiles::new(rt);
             let mut clock = HostClock::new(rt);
+            let mut door = HostDoor::new(rt);
             respond(
                 rt.alloc(),
                 &words,
                 &mut files,
+                &mut door,
                 &mut out,
                 &mut err,
                 &mut clock,
             )
         }
-        Err(Status::NoMemory) => refuse(&mut err, Status::NoMemory, "no memory\n"),
-        Err(_) => refuse(&mut err, Status::Words, "words: refused\n"),
+        Err(Status::NoMemory) => refuse(&mut err, Status::NoMemory, b"no memory\n"),
+        Err(_) => refuse(&mut err, Status::Words, b"words: refused\n"),
     }
 }
 
