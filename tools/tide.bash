@@ -9,6 +9,7 @@ _tide_keys() {
     calendar) echo "file station begin end mark offsets zone" ;;
     clock) echo "file station offsets zone" ;;
     stations) echo "file offsets" ;;
+    serve) echo "file offsets port" ;;
     sample | trial) echo "seed" ;;
   esac
 }
@@ -34,7 +35,7 @@ _tide() {
   word="${line##*[[:space:]]}"
   COMPREPLY=()
   if [[ "$COMP_CWORD" -eq 1 ]]; then
-    mapfile -t COMPREPLY < <(compgen -W "predict certify check heights calendar clock stations sample trial --help --version" -- "$word")
+    mapfile -t COMPREPLY < <(compgen -W "predict certify check heights calendar clock stations serve sample trial --help --version" -- "$word")
   elif [[ "$word" == *=* ]]; then
     key="${word%%=*}" value="${word#*=}"
     [[ " $(_tide_keys "${COMP_WORDS[1]}") " == *" $key "* ]] || return
