@@ -33,6 +33,15 @@ const NOT_FOUND: &str =
 const BAD: &str =
     "HTTP/1.1 400 Bad Request\r\nContent-Type: text/plain; charset=utf-8\r\nContent-Length: 12\r\nConnection: close\r\n\r\nbad request\n";
 
+const TOO_LARGE: &str =
+    "HTTP/1.1 413 Content Too Large\r\nContent-Type: text/plain; charset=utf-8\r\nContent-Length: 18\r\nConnection: close\r\n\r\ncontent too large\n";
+
+const FIELDS_TOO_LARGE: &str =
+    "HTTP/1.1 431 Request Header Fields Too Large\r\nContent-Type: text/plain; charset=utf-8\r\nContent-Length: 24\r\nConnection: close\r\n\r\nheader fields too large\n";
+
+const NO_CERTIFICATE: &str =
+    "HTTP/1.1 422 Unprocessable Content\r\nContent-Type: text/plain; charset=utf-8\r\nContent-Length: 20\r\nConnection: close\r\n\r\ncertificate: line 1\n";
+
 const NOTICE: &str = "http://127.0.0.1:8080/\n";
 
 const FAILED: &str = "http://127.0.0.1:8080/\nread fault\n";
@@ -61,19 +70,20 @@ struct Outcome {
     err: MemorySink,
 }
 
-/// A request that comes in one piece, or byte by byte.
+/// A request that comes in one piece, as a text or as bytes, or byte by byte.
 #[derive(Clone, Copy)]
-enum Coming {
-    Whole(&'static str),
-    ByBytes(&'static str),
+enum Coming<'a> {
+    Whole(&'a str),
+    Bytes(&'a [u8]),
+    ByBytes(&'a str),
 }
 
-fn whole(alloc: Global, request: &str) -> Result<Vec<Bytes>, AllocError>
+fn whole(alloc: Global, request: &[u8]) -> Result<Vec<Bytes>, AllocError>
     ensures { IfOk result (λ pieces. IsTrue (are_pieces pieces.items)) }
 {
     let mut pieces = Vec::new(alloc);
-    if !request.as_bytes().is_empty() {
-        pieces.push(Bytes::from_vec(request.as_bytes().to_vec(alloc)?))?;
+    if !request.is_empty() {
+        pieces.push(Bytes::from_vec(request.to_vec(alloc)?))?;
     }
     Ok(pieces)
 }
@@ -90,16 +100,17 @@ fn by_bytes(alloc: Global, request: &str) -> Result<Vec<Bytes>, AllocError>
     Ok(pieces)
 }
 
-fn pieces_of(alloc: Global, coming: Coming) -> Result<Vec<Bytes>, AllocError>
+fn pieces_of(alloc: Global, coming: Coming<'_>) -> Result<Vec<Bytes>, AllocError>
     ensures { IfOk result (λ pieces. IsTrue (are_pieces pieces.items)) }
 {
     match coming {
-        Coming::Whole(request) => whole(alloc, request),
+        Coming::Whole(request) => whole(alloc, request.as_bytes()),
+        Coming::Bytes(request) => whole(alloc, request),
         Coming::ByBytes(request) => by_bytes(alloc, request),
     }
 }
 
-fn requests_of(alloc: Global, all: &[Coming]) -> Result<Vec<Vec<Bytes>>, AllocError>
+fn requests_of(alloc: Global, all: &[Coming<'_>]) -> Result<Vec<Vec<Bytes>>, AllocError>
     ensures { IfOk result (λ requests. IsTrue (list_all (λ request. are_pieces request.items) requests.items)) }
 {
     let mut requests = Vec::new(alloc);
@@ -136,7 +147,7 @@ fn words_of(alloc: Global, line: &str) -> Result<Words, AllocError> {
 fn serve_over(
     alloc: Global,
     line: &str,
-    requests: &[Coming],
+    requests: &[Coming<'_>],
     room: u64,
     fails: Fails,
 ) -> Result<Outcome, AllocError> {
@@ -190,6 +201,54 @@ fn a_question_is_answered_however_it_comes(rt: HostRuntime) -> Result<(), Fail> 
         assert_reply(&rt, &outcome, 0, Some(LISTED));
         assert_reply(&rt, &outcome, 1, Some(""));
         assert_reply(&rt, &outcome, 2, None);
+    }
+    Ok(())
+}
+
+/// Requests of strangers, and their replies.
+const HOSTILE: &[(&str, &str)] = &[
+    (
+        "POST /check HTTP/1.1\r\nHost: a\r\nContent-Length: +5\r\n\r\n",
+        BAD,
+    ),
+    (
+        "POST /check HTTP/1.1\r\nHost: a\r\nContent-Length: 4194305\r\n\r\n",
+        TOO_LARGE,
+    ),
+    (
+        "POST /check HTTP/1.1\r\nHost: a\r\nContent-Length: 5\r\nContent-Length: 5\r\n\r\nabcde",
+        BAD,
+    ),
+    (
+        "POST /check HTTP/1.1\r\nHost: a\r\nContent-Length: 5\r\n\r\nabcd",
+        BAD,
+    ),
+    (
+        "POST /check HTTP/1.1\r\nHost: a\r\nContent-Length: 5\r\n\r\nabcde",
+        NO_CERTIFICATE,
+    ),
+];
+
+#[test]
+fn hostile_requests_are_answered(rt: HostRuntime) -> Result<(), Fail> {
+    let alloc = rt.alloc();
+    for &(request, expected) in HOSTILE {
+        let requests = [Coming::Whole(request), Coming::Whole(LOST)];
+        let outcome = serve_over(alloc, ASKED, &requests, 4096, NONE)?;
+        assert_reply(&rt, &outcome, 0, Some(expected));
+        assert_reply(&rt, &outcome, 1, Some(NOT_FOUND));
+    }
+    Ok(())
+}
+
+#[test]
+fn heads_that_are_too_large_are_answered(rt: HostRuntime) -> Result<(), Fail> {
+    let alloc = rt.alloc();
+    for head in [vec![in alloc; b'a'; 8_192]?, with_fields(alloc, 65)?] {
+        let requests = [Coming::Bytes(&head), Coming::Whole(LOST)];
+        let outcome = serve_over(alloc, ASKED, &requests, 4096, NONE)?;
+        assert_reply(&rt, &outcome, 0, Some(FIELDS_TOO_LARGE));
+        assert_reply(&rt, &outcome, 1, Some(NOT_FOUND));
     }
     Ok(())
 }
