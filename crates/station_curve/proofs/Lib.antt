@@ -8,6 +8,7 @@ mod ReadyYears
 mod Circling
 pub mod Gentle
 pub mod Predicting
+mod Around
 mod Answering
 pub mod Gaps
 pub mod YearChanges

@@ -1,5 +1,5 @@
 -- What a station's curve that is ready says of its tide.
-use Rattle.std.proofs.Common.{◌≡◌, ℕ, ◌<◌, ◌≤◌, [], length, get_or, sym, ap, subst, ◌∙◌, arith}
+use Rattle.std.proofs.Common.{◌≡◌, ℕ, suc, ◌<◌, ◌≤◌, [], length, get_or, sym, ap, subst, ◌∙◌, arith}
 use Rattle.std.proofs.lemmas.List.{get_or-map, length-map}
 use Rattle.year_blend.specs.Places.{start_of}
 use Rattle.station_curve.specs.declared.years.Year.{Year}
@@ -13,6 +13,7 @@ use Rattle.station_curve.specs.Sums.{sums_of}
 -- a year as it is kept beside the tide's
 pub record IsYearOf (tide : Tide) (year : ℕ) (y : Year) : Type 0 where
   pub start : y.start ≡ start_of tide.first_year year
+  pub end : y.end ≡ start_of tide.first_year (suc year)
   pub waves : y.waves.items ≡ waves_in tide year
   pub amount : amount_of y.waves.items ≤ most_amount
   pub steepness : steepness_of y.waves.items ≤ most_steepness
@@ -25,6 +26,7 @@ inside_year s year y ready in_list is =
     ap (λ y. y.waves.items) is ∙ sym (get_or-map (λ y. y.waves.items) s.years.items year y [] in_years) in
     record {
       start = ap (λ y. y.start) is ∙ ready.starts year y in_years;
+      end = ap (λ y. y.end) is ∙ ready.ends year y in_years;
       waves = waves;
       amount = rw waves (ready.gentle.amounts year [] in_list);
       steepness = rw waves (ready.gentle.steepnesses year [] in_list);

@@ -38,6 +38,7 @@ ready_none b s = record {
   counted = refl;
   waves = λ k d h. absurd (omega (arith, h));
   starts = λ k d h. absurd (omega (arith, h));
+  ends = λ k d h. absurd (omega (arith, h));
   sums = λ k d h. absurd (omega (arith, h));
   within = refl;
 }
@@ -52,11 +53,12 @@ last_too P years y count counted before last k d h =
           subst (λ (i : ℕ). P i (get_or (years ++ y ∷ []) i d)) at (rw (get_or-append_seam years y [] d) (rw counted last))
     ]
 
-pub ready_more : (b : Book) (s : Station) (year : ℕ) (years : List Year) (y : Year) → AreReady b s year years → year_fault b s year ≡ None → y.start ≡ start_of b.first_year year → y.waves.items ≡ filter is_present (waves_of b s year) → y.sums ≡ sums_of y.waves.items → AreReady b s (year + 1) (years ++ y ∷ [])
-ready_more b s year years y ready fault start waves sums = record {
+pub ready_more : (b : Book) (s : Station) (year : ℕ) (years : List Year) (y : Year) → AreReady b s year years → year_fault b s year ≡ None → y.start ≡ start_of b.first_year year → y.end ≡ start_of b.first_year (suc year) → y.waves.items ≡ filter is_present (waves_of b s year) → y.sums ≡ sums_of y.waves.items → AreReady b s (year + 1) (years ++ y ∷ [])
+ready_more b s year years y ready fault start end waves sums = record {
   counted = length-append years (y ∷ []) ∙ ap (λ n. n + 1) ready.counted;
   waves = last_too (λ k y. y.waves.items ≡ filter is_present (waves_of b s k)) years y year ready.counted ready.waves waves;
   starts = last_too (λ k y. y.start ≡ start_of b.first_year k) years y year ready.counted ready.starts start;
+  ends = last_too (λ k y. y.end ≡ start_of b.first_year (suc k)) years y year ready.counted ready.ends end;
   sums = last_too (λ k y. y.sums ≡ sums_of y.waves.items) years y year ready.counted ready.sums sums;
   within = none_more b s year ready.within fault;
 }

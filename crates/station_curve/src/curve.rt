@@ -6,6 +6,7 @@ ghost use Rattle.station_curve.specs.Curves.{is_hydraulic};
 ghost use Rattle.year_blend.specs.Years.{year_start_of};
 ghost use Rattle.year_blend.specs.declared.parts.Place.TheVariants.{Plain};
 ghost use Rattle.year_blend.specs.Places.{InDomain};
+ghost use Rattle.year_blend.specs.Stretches.{stretch_of};
 ghost use Rattle.year_blend.specs.Weights.{total_weight};
 
 use crate::blend::{drift, mixed, weighted};
@@ -17,7 +18,7 @@ use decimal_text::rounded;
 use harmonics_text::{Book, Station, Units};
 use std::alloc::{AllocError, Global};
 use std::marker::Model;
-use year_blend::{Place, TOTAL_WEIGHT, place, weight, year_start};
+use year_blend::{Place, Stretch, TOTAL_WEIGHT, place, stretch, weight, year_start};
 
 /// The level and the slope of a station at each minute of a book's years.
 ///
@@ -30,6 +31,9 @@ pub struct StationCurve {
     datum: i64,
     years: Vec<Year>,
 }
+
+/// The whole minutes of a mean year of the calendar.
+const MEAN_YEAR: u64 = 525_949;
 
 /// Billionths of a millionth in a millionth.
 const BILLION: i128 = 1_000_000_000;
@@ -52,7 +56,7 @@ impl StationCurve {
     ghost use Rattle.station_curve.specs.Workings.Prepared.{AreReady};
     ghost use Rattle.station_curve.specs.Waves.{heights_of, falls_of};
     ghost use Rattle.station_curve.specs.Limits.{IsGentle, AreGentle};
-    ghost use Rattle.station_curve.specs.Workings.Nearness.{IsNear, IsNearPlace};
+    ghost use Rattle.station_curve.specs.Workings.Nearness.{IsNear, IsNearPlace, IsAround};
     ghost use Rattle.station_curve.specs.Sums.{sums_of};
     ghost use Rattle.station_curve.specs.Levels.{minutes_into, waves_in, place_in_tide, year_level, year_slope, level_of, slope_of, millionths_of};
 
@@ -188,13 +192,53 @@ impl StationCurve {
         rounded(self.level(m), TOTAL_WEIGHT as u64 * 1_000_000_000) as i64
     }
 
+    /// Where the minutes from `m` to `m + n` lie, both included and told: in the plain part of one
+    /// year, or across one new year. `n` is at most 1,024.
+    pub fn stretch(&self, m: i64, n: u32) -> Stretch
+        requires first { InDomain self.now.first_year (length self.now.years) m }
+        requires last { InDomain self.now.first_year (length self.now.years) (m +ℤ pos n) }
+        requires short { n ≤ 1024 }
+        ensures { result ≡ stretch_of self.now.first_year (length self.now.years) m n }
+    {
+        self.known();
+        match self.year_around(m, m + i64::from(n)) {
+            Some(year) => Stretch::Within { year },
+            None => stretch(self.first_year, self.years(), m, n),
+        }
+    }
+
     /// The place of a minute among the years.
     fn place(&self, m: i64) -> Place
         requires { InDomain self.now.first_year (length self.now.years) m }
         ensures value { result ≡ place_in_tide self.now m }
         ensures near { IsNearPlace self.now.first_year (length self.now.years) m result }
     {
-        place(self.first_year, self.years(), m)
+        match self.year_around(m, m) {
+            Some(year) => Place::Plain { year },
+            None => place(self.first_year, self.years(), m),
+        }
+    }
+
+    /// The year that minutes lie in, where it is the likely one and they are far from its ends.
+    fn year_around(&self, first: i64, last: i64) -> Option<u32>
+        requires first { InDomain self.now.first_year (length self.now.years) first }
+        requires last { InDomain self.now.first_year (length self.now.years) last }
+        ensures { IfSome result (λ year. IsAround self.now.first_year (length self.now.years) first last year) }
+    {
+        let year = self.likely_year(first);
+        if self.years[year as usize].surrounds(first, last) {
+            Some(year)
+        } else {
+            None
+        }
+    }
+
+    /// The year that a minute would be in if all years had one length.
+    fn likely_year(&self, m: i64) -> u32
+        ensures { result < length self.now.years }
+    {
+        let ended = m.abs_diff(self.years[0].start) / MEAN_YEAR;
+        ended.min(self.years.len() as u64 - 1) as u32
     }
 
     /// The level by one year's constants.

@@ -5,7 +5,7 @@ use super::*;
 use harmonics_text::{Book, BookFault, read_book};
 use std::alloc::Global;
 use std::test::Fail;
-use year_blend::year_start;
+use year_blend::{Stretch, year_start};
 
 /// A book of one constituent, three years from 1999 and one station.
 fn pier(
@@ -59,6 +59,36 @@ fn levels_round_a_new_year(rt: HostRuntime) -> Result<(), Fail> {
     assert_eq!(rt; curve.last(), year_start(2002));
     assert_eq!(rt; curve.first_year(), 1999);
     assert_eq!(rt; curve.years(), 3);
+    Ok(())
+}
+
+/// Where minutes lie.
+fn lying(curve: &StationCurve, m: i64, n: u32) -> Option<Stretch> {
+    let end = m.checked_add(i64::from(n))?;
+    if m < curve.first() || curve.last() < end || 1_024 < n {
+        return None;
+    }
+    Some(curve.stretch(m, n))
+}
+
+#[test]
+fn stretches_round_new_years(rt: HostRuntime) -> Result<(), Fail> {
+    let book = pier(rt.alloc(), "30", "60", "1", "feet")?;
+    assert_eq!(rt; book.stations.as_slice().len(), 1);
+    let curve = StationCurve::new(rt.alloc(), &book, 0)?;
+    let rows = [
+        (15_252_480, 1_024, Stretch::Within { year: 0 }),
+        (15_776_996, 1_024, Stretch::Within { year: 0 }),
+        (15_776_997, 1_024, Stretch::Across { year: 1 }),
+        (15_778_139, 1, Stretch::Across { year: 1 }),
+        (15_778_140, 1_024, Stretch::Within { year: 1 }),
+        (16_000_000, 1_024, Stretch::Within { year: 1 }),
+        (16_305_059, 121, Stretch::Across { year: 2 }),
+        (16_829_696, 1_024, Stretch::Within { year: 2 }),
+    ];
+    for (m, n, want) in rows {
+        assert_eq!(rt; lying(&curve, m, n), Some(want), "{n} minutes from {m}");
+    }
     Ok(())
 }
 

@@ -1,6 +1,6 @@
 //! The waves of each year.
 
-ghost use Rattle.std.specs.Prelude.{◌≡◌, ◌<◌, ◌≤◌, length, Some, MatchResult, ◌⊎◌, pos, ◌+ℤ◌, ◌-ℤ◌, ◌≤ℤ◌, unsigned_abs};
+ghost use Rattle.std.specs.Prelude.{◌≡◌, ◌<◌, ◌≤◌, ◌↔◌, IsTrue, length, Some, MatchResult, ◌⊎◌, pos, ◌+ℤ◌, ◌-ℤ◌, ◌≤ℤ◌, unsigned_abs};
 ghost use Rattle.harmonics_text.specs.Books.{IsBook, IsStation};
 ghost use Rattle.station_curve.specs.Curves.{first_fault};
 ghost use Rattle.station_curve.specs.Workings.Prepared.{AreReady};
@@ -14,11 +14,16 @@ use harmonics_text::{Book, Station};
 use std::alloc::Global;
 use year_blend::year_start;
 
+/// Half of a blend.
+const HOUR: i64 = 60;
+
 /// The waves of one year.
 #[derive(Debug, Drop)]
 pub struct Year {
     /// Its first minute.
     pub start: i64,
+    /// The first minute of the next year.
+    pub end: i64,
     pub waves: Vec<Wave>,
     /// What its waves sum to.
     pub sums: Sums,
@@ -32,7 +37,17 @@ impl Year {
         ensures value { result ≡ unsigned_abs ((m -ℤ self.now.start) +ℤ pos 60) }
         ensures small { result ≤ 600000 }
     {
-        (m - self.start + 60) as u64
+        (m - self.start + HOUR) as u64
+    }
+
+    /// Whether minutes from one to another lie in it, an hour or more from both its ends.
+    pub fn surrounds(&self, first: i64, last: i64) -> bool
+        requires first { unsigned_abs first ≤ 4000000000 }
+        requires last { unsigned_abs last ≤ 4000000000 }
+        ensures { IsTrue result
+            ↔ (((self.now.start +ℤ pos 60) ≤ℤ first) × ((last +ℤ pos 60) ≤ℤ self.now.end)) }
+    {
+        self.start <= first - HOUR && last + HOUR <= self.end
     }
 }
 
@@ -49,10 +64,17 @@ pub fn years_of(alloc: Global, book: &Book, station: &Station) -> Result<Vec<Yea
         if let Err(fault) = check_year(book, station, year) {
             return Err(fault);
         }
-        let start = year_start(book.first_year + year as i32);
+        let calendar_year = book.first_year + year as i32;
+        let start = year_start(calendar_year);
+        let end = year_start(calendar_year + 1);
         let waves = year_waves(alloc, book, station, year)?;
         let sums = sums_of_waves(waves.as_slice());
-        years.push(Year { start, waves, sums })?;
+        years.push(Year {
+            start,
+            end,
+            waves,
+            sums,
+        })?;
     }
     Ok(years)
 }

@@ -1,5 +1,5 @@
 -- What a station's curve keeps, and the tide that it is seen as.
-use Rattle.std.specs.Prelude.{◌≡◌, ℕ, ◌<◌, length, map, slice_index_or}
+use Rattle.std.specs.Prelude.{◌≡◌, ℕ, suc, ◌<◌, length, map, slice_index_or}
 use Rattle.year_blend.specs.Places.{start_of}
 use Rattle.station_curve.specs.declared.years.Year.{Year}
 use Rattle.station_curve.specs.declared.curve.StationCurve.TheInside.{Inside}
@@ -14,4 +14,5 @@ tide_in s = record { first_year = s.first_year; datum = s.datum; years = map (λ
 pub record IsReady (s : Inside) : Type 0 where
   pub gentle : IsGentle (tide_in s)
   pub starts : (k : ℕ) (d : Year) → k < length s.years.items → (slice_index_or s.years.items k d).start ≡ start_of s.first_year k
+  pub ends : (k : ℕ) (d : Year) → k < length s.years.items → (slice_index_or s.years.items k d).end ≡ start_of s.first_year (suc k)
   pub sums : (k : ℕ) (d : Year) → k < length s.years.items → (slice_index_or s.years.items k d).sums ≡ sums_of (slice_index_or s.years.items k d).waves.items

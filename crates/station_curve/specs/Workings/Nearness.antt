@@ -1,5 +1,5 @@
 -- What keeps all numbers of a curve within their types.
-use Rattle.std.specs.Prelude.{◌≡◌, ℕ, ◌-◌, ◌<◌, ◌≤◌, ℤ, pos, ◌+ℤ◌, ◌-ℤ◌, ◌*ℤ◌, ◌≤ℤ◌, unsigned_abs}
+use Rattle.std.specs.Prelude.{◌≡◌, ℕ, suc, ◌-◌, ◌<◌, ◌≤◌, ℤ, pos, ◌+ℤ◌, ◌-ℤ◌, ◌*ℤ◌, ◌≤ℤ◌, unsigned_abs}
 use Rattle.fixed_sine.specs.Turn.{units_of, turn_of}
 use Rattle.year_blend.specs.declared.parts.Place.{Place}
 use Rattle.year_blend.specs.declared.parts.Place.TheVariants.{Plain, Blend}
@@ -26,3 +26,9 @@ abbrev pub IsNearPlace : ℤ → ℕ → ℤ → Place → Type 0
 IsNearPlace first_year years m (Plain year) = (year < years) × IsNear first_year year m
 IsNearPlace first_year years m (Blend year x) =
     (0 < year) × (year < years) × IsNear first_year year m × IsNear first_year (year - 1) m × IsNearNewYear x
+
+-- minutes from one to another that are an hour or more from both ends of their year
+pub record IsAround (first_year : ℤ) (years : ℕ) (first last : ℤ) (year : ℕ) : Type 0 where
+  pub one_of : year < years
+  pub past_start : (start_of first_year year +ℤ pos 60) ≤ℤ first
+  pub before_end : (last +ℤ pos 60) ≤ℤ start_of first_year (suc year)

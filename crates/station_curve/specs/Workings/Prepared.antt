@@ -1,5 +1,5 @@
 -- The years of a book's station as a curve keeps them.
-use Rattle.std.specs.Prelude.{◌≡◌, ℕ, ◌<◌, List, length, filter, None, slice_index_or}
+use Rattle.std.specs.Prelude.{◌≡◌, ℕ, suc, ◌<◌, List, length, filter, None, slice_index_or}
 use Rattle.harmonics_text.specs.declared.book.Station.{Station}
 use Rattle.harmonics_text.specs.declared.book.Book.{Book}
 use Rattle.year_blend.specs.Places.{start_of}
@@ -12,5 +12,6 @@ pub record AreReady (b : Book) (s : Station) (count : ℕ) (years : List Year) :
   pub counted : length years ≡ count
   pub waves : (k : ℕ) (d : Year) → k < count → (slice_index_or years k d).waves.items ≡ filter is_present (waves_of b s k)
   pub starts : (k : ℕ) (d : Year) → k < count → (slice_index_or years k d).start ≡ start_of b.first_year k
+  pub ends : (k : ℕ) (d : Year) → k < count → (slice_index_or years k d).end ≡ start_of b.first_year (suc k)
   pub sums : (k : ℕ) (d : Year) → k < count → (slice_index_or years k d).sums ≡ sums_of (slice_index_or years k d).waves.items
   pub within : first_fault b s count ≡ None

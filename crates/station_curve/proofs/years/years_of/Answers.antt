@@ -1,4 +1,4 @@
-use Rattle.std.proofs.Common.{◌≡◌, pos, ◌+ℤ◌, inr, ◌∙◌, arith, lit<}
+use Rattle.std.proofs.Common.{◌≡◌, suc, pos, ◌+ℤ◌, inr, ◌∙◌, arith, lit<}
 use Rattle.std.proofs.lemmas.Int.{ints}
 use mir.Syntax.{w32, w64}
 use mir.Val.{to_z, of_z}
@@ -27,7 +27,13 @@ loop-year-preserved c =
     let size = year_start_of_size (b.first_year +ℤ pos year) (record { least = omega (arith, ints, first.least); most = omega (arith, ints, first.most, few, below) }) in
     let small : to_z w64 (of_z w64 c.year_start-start.result) ≡ c.year_start-start.result =
     rw is_start (cast_small w64 (start_of b.first_year year) 4000000000 (omega (arith, size)) (lit< tt)) in
-    rw c.in_ok-push.ensures.items (ready_more b c.args.station.now year c.loop-year.years.items _ c.loop-year.invariant c.in_default.ensures (small ∙ is_start) c.in_ok-waves.ensures (rw c.as_slice.ensures.value at c.sums_of_waves-sums.ensures))
+    let calendar_next : to_z w32 (of_z w32 (to_z w32 (of_z w32 (to_z w32 (of_z w32 b.first_year) +ℤ to_z w32 year)) +ℤ pos 1)) ≡ b.first_year +ℤ pos (suc year) =
+    omega (arith, ints, first.least, first.most, few, below) in
+    let is_end : c.year_start-end.result ≡ start_of b.first_year (suc year) = rw calendar_next at c.year_start-end.ensures in
+    let end_size = year_start_of_size (b.first_year +ℤ pos (suc year)) (record { least = omega (arith, ints, first.least); most = omega (arith, ints, first.most, few, below) }) in
+    let end_small : to_z w64 (of_z w64 c.year_start-end.result) ≡ c.year_start-end.result =
+    rw is_end (cast_small w64 (start_of b.first_year (suc year)) 4000000000 (omega (arith, end_size)) (lit< tt)) in
+    rw c.in_ok-push.ensures.items (ready_more b c.args.station.now year c.loop-year.years.items _ c.loop-year.invariant c.in_default.ensures (small ∙ is_start) (end_small ∙ is_end) c.in_ok-waves.ensures (rw c.as_slice.ensures.value at c.sums_of_waves-sums.ensures))
 
 pub sums_of_waves-sums-requires-clause-amount : goal.sums_of_waves-sums-requires-clause-amount
 sums_of_waves-sums-requires-clause-amount c =

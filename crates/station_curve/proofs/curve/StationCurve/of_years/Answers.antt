@@ -1,4 +1,4 @@
-use Rattle.std.proofs.Common.{◌≡◌, ◌^◌, sym, ap, subst, ◌∙◌, arith, lit<}
+use Rattle.std.proofs.Common.{◌≡◌, suc, ◌^◌, sym, ap, subst, ◌∙◌, arith, lit<}
 use mir.Syntax.{w32, w64}
 use mir.Val.{to_z, of_z}
 use Rattle.year_blend.specs.Places.{start_of}
@@ -18,6 +18,7 @@ invariant_of-result c =
     record {
       gentle = subst IsGentle (sym (kept_tide b s c.args.years.items _ _ c.requires.years first datum)) (gentle_tide b s c.requires.book c.requires.station c.requires.years.within);
       starts = λ k d h. c.requires.years.starts k d (omega (arith, h, c.requires.years.counted)) ∙ ap (λ f. start_of f k) (sym first);
+      ends = λ k d h. c.requires.years.ends k d (omega (arith, h, c.requires.years.counted)) ∙ ap (λ f. start_of f (suc k)) (sym first);
       sums = λ k d h. c.requires.years.sums k d (omega (arith, h, c.requires.years.counted));
     }
 
