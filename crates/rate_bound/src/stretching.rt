@@ -6,7 +6,7 @@ ghost use Rattle.rate_bound.specs.Rates.{tide_stretch};
 ghost use Rattle.rate_bound.specs.Workings.Cells.{NamesYears};
 
 use station_curve::StationCurve;
-use year_blend::{Stretch, stretch};
+use year_blend::Stretch;
 
 /// Where `n` minutes of a station from `a` on lie, at most 1,024 of them.
 pub fn stretch_of(station: &StationCurve, a: i64, n: u32) -> Stretch
@@ -17,5 +17,5 @@ pub fn stretch_of(station: &StationCurve, a: i64, n: u32) -> Stretch
     ensures years { NamesYears (length station.now.years) result }
 {
     station.known();
-    stretch(station.first_year(), station.years(), a, n)
+    station.stretch(a, n)
 }
