@@ -59,86 +59,91 @@ fn right_cells_are_accepted(rt: HostRuntime) -> Result<(), AllocError> {
     Ok(())
 }
 
+fn wrong_length(covered: i64, wanted: i64) -> Verdict {
+    Verdict::WrongLength { covered, wanted }
+}
+
+fn wrong_level(cell: u32) -> Verdict {
+    Verdict::WrongLevel {
+        cell,
+        written: 3,
+        computed: 2,
+    }
+}
+
 #[test]
-fn the_first_wrong_cell_is_named(rt: HostRuntime) -> Result<(), AllocError> {
-    let alloc = rt.alloc();
+fn lengths_are_tested_first(rt: HostRuntime) -> Result<(), AllocError> {
+    let turn = Cell::Turn(Kind::Low, 2);
+    let still = Cell::Still;
+    let longest = Cell::Quiet(u32::MAX);
+    let rows: [(i64, &[Cell], Verdict); 4] = [
+        (
+            8,
+            &[Cell::Quiet(2), turn, still, Cell::Quiet(3)],
+            wrong_length(7, 8),
+        ),
+        (8, &[longest, longest], wrong_length(8_589_934_590, 8)),
+        (8, &[], wrong_length(0, 8)),
+        (0, &[still], wrong_length(1, 0)),
+    ];
+    for (end, cells, wanted) in rows {
+        assert!(rt; finds(rt.alloc(), rising(), 0, end, cells, wanted)?);
+    }
+    Ok(())
+}
+
+#[test]
+fn the_first_cell_that_is_not_quiet_is_named(rt: HostRuntime) -> Result<(), AllocError> {
+    let still = Cell::Still;
+    let rows: [(i64, &[Cell], u32); 4] = [
+        (8, &[Cell::Quiet(8)], 1),
+        (1025, &[Cell::Quiet(1025)], 1),
+        (2, &[still, Cell::Quiet(1)], 2),
+        (1, &[still, Cell::Quiet(0)], 2),
+    ];
+    for (end, cells, cell) in rows {
+        assert!(rt;
+            finds(
+                rt.alloc(),
+                rising(),
+                0,
+                end,
+                cells,
+                Verdict::NotQuiet { cell }
+            )?
+        );
+    }
+    let quiet = [Cell::Quiet(2)];
+    let without_rate = Verdict::NotQuiet { cell: 1 };
+    assert!(rt; finds(rt.alloc(), Ripple::new(), 0, 2, &quiet, without_rate)?);
+    Ok(())
+}
+
+#[test]
+fn the_first_wrong_minute_is_named(rt: HostRuntime) -> Result<(), AllocError> {
     let turn = Cell::Turn(Kind::Low, 2);
     let still = Cell::Still;
     let low = Cell::Turn(Kind::Low, 3);
     let high = Cell::Turn(Kind::High, 3);
-    let rows: [(i64, &[Cell], Verdict); 14] = [
-        (8, &[Cell::Quiet(8)], Verdict::NotQuiet { cell: 1 }),
-        (
-            8,
-            &[Cell::Quiet(2), turn, still, Cell::Quiet(3)],
-            Verdict::WrongLength {
-                covered: 7,
-                wanted: 8,
-            },
-        ),
-        (
-            8,
-            &[Cell::Quiet(u32::MAX), Cell::Quiet(u32::MAX)],
-            Verdict::WrongLength {
-                covered: 8_589_934_590,
-                wanted: 8,
-            },
-        ),
-        (
-            8,
-            &[],
-            Verdict::WrongLength {
-                covered: 0,
-                wanted: 8,
-            },
-        ),
-        (
-            0,
-            &[still],
-            Verdict::WrongLength {
-                covered: 1,
-                wanted: 0,
-            },
-        ),
-        (1025, &[Cell::Quiet(1025)], Verdict::NotQuiet { cell: 1 }),
-        (2, &[still, Cell::Quiet(1)], Verdict::NotQuiet { cell: 2 }),
-        (1, &[still, Cell::Quiet(0)], Verdict::NotQuiet { cell: 2 }),
-        (3, &[Cell::Quiet(2), still], Verdict::WrongStep { cell: 2 }),
+    let quiet = Cell::Quiet(2);
+    let rows: [(i64, &[Cell], Verdict); 6] = [
+        (3, &[quiet, still], Verdict::WrongStep { cell: 2 }),
         (
             1,
             &[Cell::Turn(Kind::Low, 0)],
             Verdict::WrongStep { cell: 1 },
         ),
-        (3, &[Cell::Quiet(2), high], Verdict::WrongStep { cell: 2 }),
-        (
-            3,
-            &[Cell::Quiet(2), low],
-            Verdict::WrongLevel {
-                cell: 2,
-                written: 3,
-                computed: 2,
-            },
-        ),
+        (3, &[quiet, high], Verdict::WrongStep { cell: 2 }),
+        (3, &[quiet, low], wrong_level(2)),
         (
             4,
             &[still, still, high, turn],
             Verdict::WrongStep { cell: 3 },
         ),
-        (
-            4,
-            &[still, still, low, turn],
-            Verdict::WrongLevel {
-                cell: 3,
-                written: 3,
-                computed: 2,
-            },
-        ),
+        (4, &[still, still, low, turn], wrong_level(3)),
     ];
     for (end, cells, wanted) in rows {
-        assert!(rt; finds(alloc, rising(), 0, end, cells, wanted)?);
+        assert!(rt; finds(rt.alloc(), rising(), 0, end, cells, wanted)?);
     }
-    let quiet = [Cell::Quiet(2)];
-    let without_rate = Verdict::NotQuiet { cell: 1 };
-    assert!(rt; finds(alloc, Ripple::new(), 0, 2, &quiet, without_rate)?);
     Ok(())
 }

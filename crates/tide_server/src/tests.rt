@@ -48,58 +48,61 @@ fn fixed_rows_are_told_by_their_bytes(rt: HostRuntime) -> Result<(), Fail> {
     Ok(())
 }
 
+/// Requests that a fixed row answers, whether they are enough, and the row's status.
+const FIRST_ROWS: [(&str, bool, &str); 16] = [
+    ("", false, "400"),
+    ("GET /clock HTTP/1.1\r\nHost: a\r\n\r", false, "400"),
+    ("\n\nGET /clock HTTP/1.0\r\n\r\n", true, "400"),
+    ("GET /clock HTTP/1.1\r\n\r\n", true, "400"),
+    (
+        "GET /tides HTTP/1.1\r\nHost: a\r\nHost: a\r\n\r\n",
+        true,
+        "400",
+    ),
+    ("GET clock HTTP/1.0\r\n\r\n", true, "400"),
+    ("PUT /tides HTTP/1.0\r\n\r\n", true, "404"),
+    ("GET /Clock HTTP/1.0\r\n\r\n", true, "404"),
+    ("POST /check HTTP/1.0\r\n\r\n", true, "411"),
+    (
+        "POST /check HTTP/1.0\r\nTransfer-Encoding: chunked\r\n\r\n",
+        true,
+        "411",
+    ),
+    (
+        "POST /check HTTP/1.0\r\nContent-Length: +5\r\n\r\nabcde",
+        true,
+        "400",
+    ),
+    (
+        "POST /check HTTP/1.0\r\nContent-Length: 0000000000000000005\r\n\r\nabcde",
+        true,
+        "400",
+    ),
+    (
+        "POST /check HTTP/1.0\r\nContent-Length: 5\r\ncontent-length: 5\r\n\r\nabcde",
+        true,
+        "400",
+    ),
+    (
+        "POST /check HTTP/1.0\r\nContent-Length: 5\r\nTransfer-Encoding: x\r\n\r\nabcde",
+        true,
+        "400",
+    ),
+    (
+        "POST /check HTTP/1.0\r\nContent-Length: 4194305\r\n\r\n",
+        true,
+        "413",
+    ),
+    (
+        "POST /check HTTP/1.0\r\nContent-Length: 5\r\n\r\nabcd",
+        false,
+        "400",
+    ),
+];
+
 #[test]
 fn the_first_row_that_fits_answers(rt: HostRuntime) -> Result<(), Fail> {
-    for (request, settled, status) in [
-        ("", false, "400"),
-        ("GET /clock HTTP/1.1\r\nHost: a\r\n\r", false, "400"),
-        ("\n\nGET /clock HTTP/1.0\r\n\r\n", true, "400"),
-        ("GET /clock HTTP/1.1\r\n\r\n", true, "400"),
-        (
-            "GET /tides HTTP/1.1\r\nHost: a\r\nHost: a\r\n\r\n",
-            true,
-            "400",
-        ),
-        ("GET clock HTTP/1.0\r\n\r\n", true, "400"),
-        ("PUT /tides HTTP/1.0\r\n\r\n", true, "404"),
-        ("GET /Clock HTTP/1.0\r\n\r\n", true, "404"),
-        ("POST /check HTTP/1.0\r\n\r\n", true, "411"),
-        (
-            "POST /check HTTP/1.0\r\nTransfer-Encoding: chunked\r\n\r\n",
-            true,
-            "411",
-        ),
-        (
-            "POST /check HTTP/1.0\r\nContent-Length: +5\r\n\r\nabcde",
-            true,
-            "400",
-        ),
-        (
-            "POST /check HTTP/1.0\r\nContent-Length: 0000000000000000005\r\n\r\nabcde",
-            true,
-            "400",
-        ),
-        (
-            "POST /check HTTP/1.0\r\nContent-Length: 5\r\ncontent-length: 5\r\n\r\nabcde",
-            true,
-            "400",
-        ),
-        (
-            "POST /check HTTP/1.0\r\nContent-Length: 5\r\nTransfer-Encoding: x\r\n\r\nabcde",
-            true,
-            "400",
-        ),
-        (
-            "POST /check HTTP/1.0\r\nContent-Length: 4194305\r\n\r\n",
-            true,
-            "413",
-        ),
-        (
-            "POST /check HTTP/1.0\r\nContent-Length: 5\r\n\r\nabcd",
-            false,
-            "400",
-        ),
-    ] {
+    for (request, settled, status) in FIRST_ROWS {
         let mut out = ArrayString::new();
         assert_eq!(rt; enough(request.as_bytes()), settled, "{request}");
         assert!(rt; fixed_reply(request.as_bytes(), &mut out));
