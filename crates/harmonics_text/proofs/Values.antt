@@ -1,8 +1,10 @@
 -- The values of a line, one token after the other, and the constants of a constituent.
-use Rattle.std.proofs.Common.{◌≡◌, ℕ, ℤ, zero, suc, ◌+◌, ◌-◌, ◌<◌, ◌≤◌, true, false, ltb, List, [], ◌∷◌, ◌++◌, length, length-append, get_or, Result, Ok, Err, refl, sym, ap, ◌∙◌, arith}
-use Rattle.std.proofs.lemmas.Bool.{lt-ltb, le-ltb}
+use Rattle.std.proofs.Common.{◌≡◌, ℕ, ℤ, pos, codes, zero, suc, ◌+◌, ◌-◌, ◌<◌, ◌≤◌, true, ltb, List, [], ◌∷◌, ◌++◌, length, get_or, Result, Ok, Err, refl, sym, ap, ◌∙◌, arith}
+use Rattle.std.specs.Str.{bytes_eq}
+use Rattle.std.specs.Result.{IfOk}
+use Rattle.std.proofs.lemmas.Bool.{lt-ltb}
+use Rattle.std.proofs.lemmas.Slice.Eq.{bytes_eq-Decides}
 use Rattle.std.proofs.lemmas.List.{get_or_default}
-use Rattle.harmonics_text.specs.declared.book.Station.{Station}
 use Rattle.harmonics_text.specs.declared.book.Book.{Book}
 use Rattle.harmonics_text.specs.declared.fault.Why.{Why}
 use Rattle.harmonics_text.specs.declared.fault.Why.TheVariants.{BadNumber}
@@ -11,12 +13,15 @@ use Rattle.harmonics_text.specs.declared.fault.LineFault.TheVariants.{NoMemory, 
 use Rattle.harmonics_text.specs.declared.scale.Scale.{Scale}
 use Rattle.harmonics_text.specs.declared.table.Table.{Table}
 use Rattle.harmonics_text.specs.declared.record.Constants.{Constants}
+use Rattle.harmonics_text.specs.declared.record.Record.{Record}
 use Rattle.harmonics_text.specs.declared.record.Record.TheVariants as records
+use Rattle.harmonics_text.specs.declared.draft.Draft.{Draft}
 use Rattle.harmonics_text.specs.declared.draft.Draft.TheVariants as drafts
 use Rattle.harmonics_text.specs.Lines.{tokens}
+use Rattle.decimal_text.specs.Decimal.{after_point, made_of, decimal_of, scaled, scaled_or_bad, read_of}
 use Rattle.decimal_text.specs.Expected.{◌>>=◌}
-use Rattle.harmonics_text.specs.Rules.{number_of, values_from, pair_of}
-use Rattle.harmonics_text.specs.Workings.Drafts.{Fails, pushed, after_values, at_place, after_pair, station_of}
+use Rattle.harmonics_text.specs.Rules.{in_scale, number_of, values_from, pair_from, pair_of}
+use Rattle.harmonics_text.specs.Workings.Drafts.{Fails, Gives, pushed, after_values, at_place, with_pair, after_pair, after_record, after_text}
 use Rattle.harmonics_text.proofs.Steps.{unnamed}
 
 pub pushed_is : (s : Scale) (values : List ℤ) (token : List ℕ) (n : ℤ) (new : List ℤ) → number_of s token ≡ Ok n → new ≡ values ++ n ∷ [] → pushed s values token ≡ Ok new
@@ -75,19 +80,23 @@ values_goes_on s t text left values new rest token after so_far next some h =
 abbrev with_lists : Constants → List ℤ → List ℤ → Constants
 with_lists c amplitude epoch = record c { amplitude = amplitude; epoch = epoch }
 
-pub pair_more : (b : Book) (c : Constants) (text name : List ℕ) (p : ℤ × ℤ) (amplitude epoch : List ℤ) → name ≡ (get_or b.constituents (length c.amplitude) unnamed).name → pair_of name text ≡ Ok p → amplitude ≡ c.amplitude ++ p.0 ∷ [] → epoch ≡ c.epoch ++ p.1 ∷ [] → length c.amplitude + 1 < length b.constituents
-    → after_pair b c text ≡ Ok (drafts.Stations b (records.Constants (with_lists c amplitude epoch)))
+pub pair_added : (b : Book) (c : Constants) (text name : List ℕ) (p : ℤ × ℤ) (amplitude epoch : List ℤ) → name ≡ (get_or b.constituents (length c.amplitude) unnamed).name → pair_of name text ≡ Ok p → amplitude ≡ c.amplitude ++ p.0 ∷ [] → epoch ≡ c.epoch ++ p.1 ∷ []
+    → after_pair b c text ≡ Ok (with_pair b (with_lists c amplitude epoch))
 unfolding after_pair unnamed
-pair_more b c text name p amplitude epoch name_is e a_is e_is lt =
-    let more : ltb (length (c.amplitude ++ p.0 ∷ [])) (length b.constituents) ≡ true = lt-ltb _ _ (omega (arith, length-append c.amplitude (p.0 ∷ []))) in
-    rw (← name_is, e, more, a_is, e_is) refl
+pair_added b c text name p amplitude epoch name_is e a_is e_is = rw (← name_is, e, a_is, e_is) refl
 
-pub pair_last : (b : Book) (c : Constants) (text name : List ℕ) (p : ℤ × ℤ) (amplitude epoch : List ℤ) (station : Station) (stations : List Station) → name ≡ (get_or b.constituents (length c.amplitude) unnamed).name → pair_of name text ≡ Ok p → amplitude ≡ c.amplitude ++ p.0 ∷ [] → epoch ≡ c.epoch ++ p.1 ∷ [] → length b.constituents ≤ length c.amplitude + 1
-    → station ≡ station_of (with_lists c amplitude epoch) → stations ≡ b.stations ++ station ∷ [] → after_pair b c text ≡ Ok (drafts.Stations (record b { stations = stations }) records.Nothing)
-unfolding after_pair unnamed
-pair_last b c text name p amplitude epoch station stations name_is e a_is e_is le station_is stations_is =
-    let last : ltb (length (c.amplitude ++ p.0 ∷ [])) (length b.constituents) ≡ false = le-ltb _ _ (omega (arith, length-append c.amplitude (p.0 ∷ []))) in
-    rw (stations_is, station_is, a_is, e_is, ← name_is, e, last) refl
+-- a pair that is not the station's last
+pub pair_within : (d : Draft) (b : Book) (r : Record) (c new : Constants) (text : List ℕ) (result : Result (Unit {0}) LineFault) → d ≡ drafts.Stations b r → r ≡ records.Constants c → length c.amplitude + 1 < length b.constituents → IfOk result (λ _. length new.amplitude ≡ length c.amplitude + 1)
+    → Gives (λ _. with_pair b new) result (after_pair b c text) → Gives (λ _. drafts.Stations b (records.Constants new)) result (after_text d text)
+unfolding after_text after_record
+pair_within d b r c new text (Ok x) d_is r_is lt one is =
+    let more : ltb (length new.amplitude) (length b.constituents) ≡ true = lt-ltb _ _ (omega (arith, one)) in
+    rw (d_is, r_is) (is ∙ rw more refl)
+pair_within d b r c new text (Err e) d_is r_is lt one is = rw (d_is, r_is) is
+
+pub absent_pair : (name text : List ℕ) → bytes_eq text (codes "x 0 0") ≡ true → pair_of name text ≡ Ok (pos 0, pos 0)
+unfolding pair_of pair_from tokens number_of in_scale read_of decimal_of after_point made_of scaled scaled_or_bad
+absent_pair name text e = rw ((bytes_eq-Decides text (codes "x 0 0")).0 e) refl
 
 -- an element of a list that is lent
 pub element_is : {A : Type 0} (xs ys : List A) (i j : ℕ) (x d : A) → xs ≡ ys → i ≡ j → j < length ys → get_or xs i x ≡ get_or ys j d

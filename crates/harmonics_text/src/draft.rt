@@ -1,8 +1,8 @@
 //! A book that is read line by line.
 
-ghost use Rattle.std.specs.Prelude.{◌≡◌, ◌<◌, ◌≤◌, length};
+ghost use Rattle.std.specs.Prelude.{◌≡◌, ◌+◌, ◌<◌, ◌≤◌, length, IfOk};
 ghost use Rattle.harmonics_text.specs.Rules.{end_of, same_count_of};
-ghost use Rattle.harmonics_text.specs.Workings.Drafts.{Gives, IsDraft, with_constituents, with_angles, with_factors, new_book, after_constituent, after_years, after_angles, after_years_again, after_factors, after_nothing, after_pair, after_record, after_text, after_line, book_in};
+ghost use Rattle.harmonics_text.specs.Workings.Drafts.{Gives, IsDraft, with_constituents, with_angles, with_factors, new_book, after_constituent, after_years, after_angles, after_years_again, after_factors, after_nothing, with_pair, after_pair, after_record, after_text, after_line, book_in};
 
 use crate::book::Book;
 use crate::column::Column;
@@ -17,7 +17,8 @@ use crate::record::{Constants, Record, amplitude_and_epoch, datum, into_station}
 use crate::scale::Scale;
 use crate::table::{Table, start_table, with_line};
 use decimal_text::Numbers;
-use std::alloc::Global;
+use std::alloc::{AllocError, Global};
+use std::mem;
 
 /// What is read so far, and with it what the next line must be.
 #[derive(Drop)]
@@ -36,23 +37,39 @@ pub enum Draft {
 }
 
 impl Draft {
-    /// The draft after a line of the file.
+    /// Adds a line of the file.
     #[tactic(auto, unfolding(crate::specs::Workings::Drafts::after_line))]
-    pub fn after_line(self, alloc: Global, line: &[u8]) -> Result<Draft, LineFault>
-        requires { IsDraft self }
-        ensures { Gives (λ d. d) result (after_line self line.now) }
+    pub fn add_line(&mut self, alloc: Global, line: &[u8]) -> Result<(), LineFault>
+        requires { IsDraft self.old }
+        ensures { Gives (λ _. self.new) result (after_line self.old line.now) }
     {
         if is_comment(line) {
-            return Ok(self);
+            return Ok(());
         }
         if is_too_long(line) {
             return Err(LineFault::Bad(Why::LineTooLong));
         }
         let text = without_cr(line);
         if is_all_blank(text) {
-            return Ok(self);
+            return Ok(());
         }
-        self.after_text(alloc, text)
+        self.add_text(alloc, text)
+    }
+
+    /// Adds a line that is kept. A pair that is not the station's last is added in place.
+    fn add_text(&mut self, alloc: Global, text: &[u8]) -> Result<(), LineFault>
+        requires { IsDraft self.old }
+        ensures { Gives (λ _. self.new) result (after_text self.old text.now) }
+    {
+        if let Draft::Stations(book, begun) = self {
+            if let Record::Constants(station) = begun {
+                if station.amplitude.len() + 1 < book.constituents.as_slice().len() {
+                    return add_pair(book, station, text);
+                }
+            }
+        }
+        *self = mem::replace(self, Draft::Count).after_text(alloc, text)?;
+        Ok(())
     }
 
     /// The draft after a line that is kept.
@@ -274,19 +291,35 @@ fn after_record(alloc: Global, book: Book, begun: Record, text: &[u8]) -> Result
     }
 }
 
+/// Adds the amplitude and the epoch of the constituent that is next.
 #[tactic(auto, unfolding(crate::specs::Workings::Drafts::after_pair))]
-fn after_pair(mut book: Book, mut station: Constants, text: &[u8]) -> Result<Draft, LineFault>
-    requires { length station.amplitude < length book.constituents }
-    ensures { Gives (λ d. d) result (after_pair book station text.now) }
+fn add_pair(book: &Book, station: &mut Constants, text: &[u8]) -> Result<(), LineFault>
+    requires { length station.old.amplitude < length book.now.constituents }
+    ensures exact { Gives (λ _. with_pair book.now station.new) result (after_pair book.now station.old text.now) }
+    ensures one { IfOk result (λ _. length station.new.amplitude ≡ length station.old.amplitude + 1) }
 {
-    let place = station.amplitude.len();
-    let constituents = book.constituents.as_slice();
-    let (amplitude, epoch) = amplitude_and_epoch(&constituents[place].name, text)?;
+    let name = &book.constituents.as_slice()[station.amplitude.len()].name;
+    let (amplitude, epoch) = amplitude_and_epoch(name, text)?;
     station.amplitude.push(amplitude)?;
     station.epoch.push(epoch)?;
-    if place + 1 < constituents.len() {
+    Ok(())
+}
+
+/// The draft after a pair more, which may be the station's last.
+fn with_pair(mut book: Book, station: Constants) -> Result<Draft, AllocError>
+    ensures { IfOk result (λ d. d ≡ with_pair book station) }
+{
+    if station.amplitude.len() < book.constituents.as_slice().len() {
         return Ok(Draft::Stations(book, Record::Constants(station)));
     }
     book.stations.push(into_station(station))?;
     Ok(Draft::Stations(book, Record::Nothing))
+}
+
+fn after_pair(book: Book, mut station: Constants, text: &[u8]) -> Result<Draft, LineFault>
+    requires { length station.amplitude < length book.constituents }
+    ensures { Gives (λ d. d) result (after_pair book station text.now) }
+{
+    add_pair(&book, &mut station, text)?;
+    Ok(with_pair(book, station)?)
 }

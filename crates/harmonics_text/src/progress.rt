@@ -133,9 +133,8 @@ fn after_lines<'a>(
     let mut line = first;
     let mut rest = bytes;
     'lines: loop {
-        match draft.after_line(alloc, line) {
-            Ok(next) => draft = next,
-            Err(fault) => return Err(at_line(number, fault)),
+        if let Err(fault) = draft.add_line(alloc, line) {
+            return Err(at_line(number, fault));
         }
         number += 1;
         match next_line(rest) {
