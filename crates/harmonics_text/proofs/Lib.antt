@@ -8,5 +8,6 @@ pub mod Answer
 pub mod Values
 pub mod Ranges
 pub mod Sound
+pub mod Keeping
 pub mod Readers
 pub mod Worked

@@ -1,6 +1,6 @@
--- What is kept between two pieces is what all bytes so far make, however they were cut, and it holds their fault and their book.
-use Rattle.std.proofs.Common.{◌≡◌, ℕ, suc, ◌+◌, ◌≤◌, Bool, true, false, cond, ltb, List, [], ◌∷◌, ◌++◌, length, length-append, ◌≢◌, Option, Some, None, Result, Ok, Err, refl, sym, ap, subst, ◌∙◌, append_assoc, add-zero, arith}
-use Rattle.std.specs.Prelude.{◌||◌, codes, nat_eq, if◌then◌else◌}
+-- What is kept between two pieces is what all bytes so far make, and it holds their fault and their book.
+use Rattle.std.proofs.Common.{◌≡◌, ℕ, suc, ◌+◌, ◌≤◌, true, false, cond, ltb, List, [], ◌∷◌, ◌++◌, length, Option, Some, None, Result, Ok, Err, refl, sym, ap, subst, ◌∙◌, add-zero, arith}
+use Rattle.std.specs.Prelude.{codes}
 use Rattle.std.specs.Result.{IfOk, result_err}
 use Rattle.decimal_text.specs.Expected.{◌>>=◌}
 use Rattle.harmonics_text.specs.declared.book.Book.{Book}
@@ -10,198 +10,23 @@ use Rattle.harmonics_text.specs.declared.record.Record.TheVariants as records
 use Rattle.harmonics_text.specs.declared.progress.Progress.{Progress}
 use Rattle.harmonics_text.specs.declared.fault.Why.{Why}
 use Rattle.harmonics_text.specs.declared.fault.Why.TheVariants.{CutShort, LineTooLong}
-use Rattle.harmonics_text.specs.declared.fault.LineFault.{LineFault}
-use Rattle.harmonics_text.specs.declared.fault.LineFault.TheVariants as lines
 use Rattle.harmonics_text.specs.declared.fault.BookFault.{BookFault}
 use Rattle.harmonics_text.specs.declared.fault.BookFault.TheVariants.{NoMemory}
 use Rattle.harmonics_text.specs.declared.fault.BookFault.TheVariants as faults
 use Rattle.harmonics_text.specs.Books.{IsBook}
-use Rattle.harmonics_text.specs.Lines.{cut, is_lf, is_comment, is_too_long, kept, numbered, is_filled}
-use Rattle.harmonics_text.specs.Reading.{At, book, book_of, GivesBook, FailsBook}
+use Rattle.harmonics_text.specs.Lines.{cut, is_comment, is_too_long, kept, numbered, is_filled}
+use Rattle.harmonics_text.specs.Reading.{At, book_of, GivesBook, FailsBook}
 use Rattle.harmonics_text.specs.Pieces.{ended_lines, pending_line, pending_length, judged_lines, fault_in, fault_so_far, GivesFault}
-use Rattle.harmonics_text.specs.Workings.Drafts.{IsDraft, Fails, placed, after_line, book_in}
-use Rattle.harmonics_text.specs.Workings.Readers.{has_lf, IsProgress, nothing_read, on_line, held, with_pending, after_lines, with_bytes, finished, ended, FailsAt, GivesAt, Reads, ReadsOn}
-use Rattle.std.proofs.lemmas.Bool.{lt-ltb, ltb-true, ltb-false}
+use Rattle.harmonics_text.specs.Workings.Drafts.{IsDraft, after_line, book_in}
+use Rattle.harmonics_text.specs.Workings.Readers.{has_lf, IsProgress, nothing_read, on_line, held, with_pending, after_lines, with_bytes, finished, ended, GivesAt, Reads, ReadsOn}
 use Rattle.std.proofs.lemmas.List.{append-nil}
-use Rattle.std.proofs.lemmas.List.Folds.{list_any-append}
 use Rattle.harmonics_text.proofs.Ranges.{bind_ok}
 use Rattle.harmonics_text.proofs.Resume.{resume, resume_is_book}
 use Rattle.harmonics_text.proofs.Steps.{follow}
 use Rattle.harmonics_text.proofs.Answer.{left_with, resume_line, resume_end, answer, answer_is_book_of, answer_line, answer_end}
 use Rattle.harmonics_text.proofs.Sound.{line_sound}
-use Rattle.harmonics_text.proofs.Pieces.{by_lines, cut_last, cut_first, ended_none, ended_first, length-ended, pending_none, pending_first}
-
--- ---- what is kept of a line
-
-held_line : (d : Draft) (line : List ℕ) → (held line >>= after_line d) ≡ after_line d line
-unfolding after_line
-held_line d line =
-    elim (is_comment line) as (λ c. is_comment line ≡ c → (cond c (Ok (codes "#")) (cond (is_too_long line) (Err LineTooLong) (Ok line)) >>= after_line d) ≡ after_line d line) [
-      | true ↦ λ c. rw c refl
-      | false ↦ λ c. elim (is_too_long line) as (λ o. is_too_long line ≡ o → (cond o (Err LineTooLong) (Ok line) >>= after_line d) ≡ after_line d line) [ true ↦ λ o. rw (c, o) refl | false ↦ λ o. refl ] refl
-    ] refl
-
-abbrev Total : Type 0
-Total = Result Progress At
-
-abbrev begins : Draft → ℕ → List ℕ → Total
-begins d n begun = Ok (record { draft = d; number = n; pending = begun })
-
-abbrev kept_as : List ℕ → Result (List ℕ) Why
-kept_as k = Ok k
-
-kept_is : (j k : List ℕ) → kept_as j ≡ kept_as k → j ≡ k
-kept_is j k e = cc
-
-long_more : (z l : List ℕ) → is_too_long z ≡ true → is_too_long (z ++ l) ≡ true
-long_more z l e = lt-ltb 4096 (length (z ++ l)) (omega (arith, ltb-true 4096 (length z) e, length-append z l))
-
--- bytes more of a line that is too long
-held_long : (z l : List ℕ) (why : Why) → held z ≡ Err why → held (z ++ l) ≡ Err why
-held_long [] l why e = absurd cc
-held_long (b ∷ bs) l why e =
-    elim (is_comment (b ∷ bs)) as (λ c. cond c (kept_as (codes "#")) (cond (is_too_long (b ∷ bs)) (Err LineTooLong) (Ok (b ∷ bs))) ≡ Err why → cond c (kept_as (codes "#")) (cond (is_too_long (b ∷ bs ++ l)) (Err LineTooLong) (Ok (b ∷ bs ++ l))) ≡ Err why) [
-      | true ↦ λ h. absurd cc
-      | false ↦ elim (is_too_long (b ∷ bs)) as (λ o. is_too_long (b ∷ bs) ≡ o → cond o (Err LineTooLong) (kept_as (b ∷ bs)) ≡ Err why → cond (is_too_long (b ∷ bs ++ l)) (Err LineTooLong) (kept_as (b ∷ bs ++ l)) ≡ Err why)
-          [ true ↦ λ o h. rw (long_more (b ∷ bs) l o) h | false ↦ λ o h. absurd cc ] refl
-    ] e
-
--- bytes more of what is kept are as good
-held_more : (z l begun : List ℕ) → held z ≡ Ok begun → held (begun ++ l) ≡ held (z ++ l)
-held_more [] l begun e = rw (← kept_is [] begun e) refl
-held_more (b ∷ bs) l begun e =
-    elim (is_comment (b ∷ bs)) as (λ c. cond c (kept_as (codes "#")) (cond (is_too_long (b ∷ bs)) (Err LineTooLong) (Ok (b ∷ bs))) ≡ Ok begun → is_comment (b ∷ bs) ≡ c → held (begun ++ l) ≡ cond c (kept_as (codes "#")) (cond (is_too_long (b ∷ bs ++ l)) (Err LineTooLong) (Ok (b ∷ bs ++ l)))) [
-      | true ↦ λ h c. rw (← kept_is (codes "#") begun h) refl
-      | false ↦ λ h c. elim (is_too_long (b ∷ bs)) as (λ o. cond o (Err LineTooLong) (kept_as (b ∷ bs)) ≡ Ok begun → held (begun ++ l) ≡ cond (is_too_long (b ∷ bs ++ l)) (Err LineTooLong) (kept_as (b ∷ bs ++ l)))
-          [ true ↦ λ k. absurd cc | false ↦ λ k. rw (← kept_is (b ∷ bs) begun k, c) refl ] h
-    ] e refl
-
-held_filled : (b : ℕ) (bs begun : List ℕ) → held (b ∷ bs) ≡ Ok begun → is_filled begun ≡ true
-held_filled b bs begun e =
-    elim (is_comment (b ∷ bs)) as (λ c. cond c (kept_as (codes "#")) (cond (is_too_long (b ∷ bs)) (Err LineTooLong) (Ok (b ∷ bs))) ≡ Ok begun → is_filled begun ≡ true) [
-      | true ↦ λ h. rw (← kept_is (codes "#") begun h) refl
-      | false ↦ elim (is_too_long (b ∷ bs)) as (λ o. cond o (Err LineTooLong) (kept_as (b ∷ bs)) ≡ Ok begun → is_filled begun ≡ true) [ true ↦ λ h. absurd cc | false ↦ λ h. rw (← kept_is (b ∷ bs) begun h) refl ]
-    ] e
-
-held_count : (line begun : List ℕ) → held line ≡ Ok begun → (cond (is_comment begun) 0 (length begun) ≡ cond (is_comment line) 0 (length line)) × (cond (is_comment begun) 0 (length begun) ≤ 4096)
-held_count line begun e =
-    elim (is_comment line) as (λ c. is_comment line ≡ c → cond c (kept_as (codes "#")) (cond (is_too_long line) (Err LineTooLong) (Ok line)) ≡ Ok begun → (cond (is_comment begun) 0 (length begun) ≡ cond c 0 (length line)) × (cond (is_comment begun) 0 (length begun) ≤ 4096)) [
-      | true ↦ λ c h. rw (← kept_is (codes "#") begun h) (refl, omega arith)
-      | false ↦ λ c. elim (is_too_long line) as (λ o. is_too_long line ≡ o → cond o (Err LineTooLong) (kept_as line) ≡ Ok begun → (cond (is_comment begun) 0 (length begun) ≡ length line) × (cond (is_comment begun) 0 (length begun) ≤ 4096))
-          [ true ↦ λ o h. absurd cc | false ↦ λ o h. rw (← kept_is line begun h, c) (refl, ltb-false 4096 (length line) o) ] refl
-    ] refl e
-
-held_lf : (z begun : List ℕ) → has_lf z ≡ false → held z ≡ Ok begun → has_lf begun ≡ false
-held_lf z begun none e =
-    elim (is_comment z) as (λ c. cond c (kept_as (codes "#")) (cond (is_too_long z) (Err LineTooLong) (Ok z)) ≡ Ok begun → has_lf begun ≡ false) [
-      | true ↦ λ h. rw (← kept_is (codes "#") begun h) refl
-      | false ↦ elim (is_too_long z) as (λ o. cond o (Err LineTooLong) (kept_as z) ≡ Ok begun → has_lf begun ≡ false) [ true ↦ λ h. absurd cc | false ↦ λ h. rw (← kept_is z begun h) none ]
-    ] e
-
-after_long : (d : Draft) (z l : List ℕ) (why : Why) → held z ≡ Err why → after_line d (z ++ l) ≡ Err why
-after_long d z l why e = sym (held_line d (z ++ l)) ∙ rw (held_long z l why e) refl
-
-after_more : (d : Draft) (z l begun : List ℕ) → held z ≡ Ok begun → after_line d (begun ++ l) ≡ after_line d (z ++ l)
-after_more d z l begun e = sym (held_line d (begun ++ l)) ∙ ap (λ (r : Result (List ℕ) Why). r >>= after_line d) (held_more z l begun e) ∙ held_line d (z ++ l)
-
--- ---- bytes by their lines
-
-with_last : (d : Draft) (n : ℕ) (z : List ℕ) → has_lf z ≡ false → with_bytes d n z ≡ with_pending d n z
-unfolding with_bytes after_lines
-with_last d n z none = rw (ended_none z none, pending_none z none, add-zero n) refl
-
-abbrev then_bytes : List ℕ → Progress → Result Progress At
-then_bytes r p = with_bytes p.draft p.number r
-
--- with a line that has ended
-unfoldable with_line : Draft → ℕ → List ℕ → Total
-with_line d n line = on_line n (after_line d line) >>= λ e. Ok (record { draft = e; number = n + 1; pending = [] })
-
-with_first : (d : Draft) (n : ℕ) (z r : List ℕ) → has_lf z ≡ false → with_bytes d n (z ++ 10 ∷ r) ≡ (with_line d n z >>= then_bytes r)
-unfolding with_bytes with_line after_lines
-with_first d n z r none =
-    let shift : n + suc (length (ended_lines r)) ≡ n + 1 + length (ended_lines r) = omega arith in
-    let go : (s : Result Draft At) → ((s >>= λ e. after_lines e (n + 1) (ended_lines r)) >>= λ e. with_pending e (n + 1 + length (ended_lines r)) (pending_line r))
-    ≡ ((s >>= λ (e : Draft). Ok (record { draft = e; number = n + 1; pending = [] })) >>= then_bytes r) =
-    λ s. elim s as (λ s. ((s >>= λ e. after_lines e (n + 1) (ended_lines r)) >>= λ e. with_pending e (n + 1 + length (ended_lines r)) (pending_line r))
-    ≡ ((s >>= λ (e : Draft). Ok (record { draft = e; number = n + 1; pending = [] })) >>= then_bytes r)) [ Ok e ↦ refl | Err at ↦ refl ] in
-    rw (ended_first z r none, pending_first z r, shift) (go (on_line n (after_line d z)))
-
--- of the begin of their first line only what is kept counts
-with_held : (d : Draft) (n : ℕ) (z : List ℕ) → has_lf z ≡ false → (ys : List ℕ) → with_bytes d n (z ++ ys) ≡ (on_line n (held z) >>= λ begun. with_bytes d n (begun ++ ys))
-unfolding with_pending with_line
-with_held d n z none =
-    let Goal : List ℕ → Result (List ℕ) Why → Type 0 = λ ys h. with_bytes d n (z ++ ys) ≡ (on_line n h >>= λ begun. with_bytes d n (begun ++ ys)) in
-    let no : (begun l : List ℕ) → held z ≡ Ok begun → has_lf l ≡ false → has_lf (begun ++ l) ≡ false = λ begun l e last. rw (list_any-append, held_lf z begun none e, last) refl in
-    let none_in : (l : List ℕ) → has_lf l ≡ false → has_lf (z ++ l) ≡ false = λ l last. rw (list_any-append, none, last) refl in
-    by_lines (λ ys. Goal ys (held z))
-    (λ l last. elim (held z) as (λ h. held z ≡ h → Goal l h) [
-      | Ok begun ↦ λ e. with_last d n (z ++ l) (none_in l last) ∙ rw (← held_more z l begun e) (sym (with_last d n (begun ++ l) (no begun l e last)))
-      | Err why ↦ λ e. with_last d n (z ++ l) (none_in l last) ∙ rw (held_long z l why e) refl
-    ] refl)
-    (λ l r first rest. rw (← append_assoc z l (10 ∷ r)) (with_first d n (z ++ l) r (none_in l first) ∙ elim (held z) as (λ h. held z ≡ h → (with_line d n (z ++ l) >>= then_bytes r) ≡ (on_line n h >>= λ begun. with_bytes d n (begun ++ (l ++ 10 ∷ r)))) [
-      | Ok begun ↦ λ e. rw (← append_assoc begun l (10 ∷ r), ← after_more d z l begun e) (sym (with_first d n (begun ++ l) r (no begun l e first)))
-      | Err why ↦ λ e. rw (after_long d z l why e) refl
-    ] refl))
-
--- ---- however the bytes are cut
-
-abbrev and_on : List ℕ → Progress → Result Progress At
-and_on ys p = with_bytes p.draft p.number (p.pending ++ ys)
-
-bind_assoc : {A B C E : Type 0} (r : Result A E) (f : A → Result B E) (g : B → Result C E) (h : A → Result C E) → ((x : A) → h x ≡ (f x >>= g)) → (r >>= h) ≡ ((r >>= f) >>= g)
-bind_assoc (Ok x) f g h e = e x
-bind_assoc (Err d) f g h e = refl
-
-in_pieces : (ys xs : List ℕ) (d : Draft) (n : ℕ) → with_bytes d n (xs ++ ys) ≡ (with_bytes d n xs >>= and_on ys)
-unfolding with_pending
-in_pieces ys =
-    by_lines (λ xs. (d : Draft) (n : ℕ) → with_bytes d n (xs ++ ys) ≡ (with_bytes d n xs >>= and_on ys))
-    (λ z none d n. with_held d n z none ys ∙ bind_assoc (on_line n (held z)) (begins d n) (and_on ys) _ (λ begun. refl) ∙ ap (λ (r : Result Progress At). r >>= and_on ys) (sym (with_last d n z none)))
-    (λ z r none rest d n. rw (append_assoc z (10 ∷ r) ys) (with_first d n z (r ++ ys) none ∙ bind_assoc (with_line d n z) (then_bytes r) (and_on ys) (then_bytes (r ++ ys)) (λ p. rest p.draft p.number) ∙ ap (λ (s : Result Progress At). s >>= and_on ys) (sym (with_first d n z r none))))
-
--- ---- what holds between two pieces
-
-on_ok : {A : Type 0} (n : ℕ) (r : Result A Why) (x : A) → on_line n r ≡ Ok x → r ≡ Ok x
-on_ok n (Ok y) x e = cc
-on_ok n (Err why) x e = absurd cc
-
-abbrev at : {A : Type 0} → A → Result A At
-at x = Ok x
-
-at_is : {A : Type 0} (x y : A) → at x ≡ at y → x ≡ y
-at_is x y e = cc
-
-at_book : (b c : Book) → at b ≡ at c → b ≡ c
-at_book b c e = cc
-
-progress_sound : (xs : List ℕ) (d : Draft) (n : ℕ) (p : Progress) → IsDraft d → with_bytes d n xs ≡ Ok p → IsProgress p
-unfolding with_pending with_line
-progress_sound =
-    by_lines (λ xs. (d : Draft) (n : ℕ) (p : Progress) → IsDraft d → with_bytes d n xs ≡ Ok p → IsProgress p)
-    (λ z none d n p sound e.
-    let b = bind_ok (on_line n (held z)) _ p (sym (with_last d n z none) ∙ e) in
-    rw (← at_is _ p b.2) record { draft = sound; pending = held_lf z b.0 none (on_ok n (held z) b.0 b.1) })
-    (λ z r none rest d n p sound e.
-    let q = bind_ok (with_line d n z) (then_bytes r) p (sym (with_first d n z r none) ∙ e) in
-    let l = bind_ok (on_line n (after_line d z)) _ q.0 q.1 in
-    let next : IsDraft q.0.draft = rw (← at_is _ q.0 l.2) (line_sound d l.0 z sound (on_ok n (after_line d z) l.0 l.1)) in
-    rest q.0.draft q.0.number p next q.2)
-
-progress_number : (xs : List ℕ) (d : Draft) (n : ℕ) (p : Progress) → with_bytes d n xs ≡ Ok p → p.number ≡ n + length (ended_lines xs)
-unfolding with_bytes with_pending
-progress_number xs d n p e =
-    let b = bind_ok (after_lines d n (ended_lines xs)) _ p e in
-    let k = bind_ok (on_line (n + length (ended_lines xs)) (held (pending_line xs))) _ p b.2 in
-    ap (λ (q : Progress). q.number) (sym (at_is _ p k.2))
-
-progress_pending : (xs : List ℕ) (d : Draft) (n : ℕ) (p : Progress) → with_bytes d n xs ≡ Ok p → held (pending_line xs) ≡ Ok p.pending
-unfolding with_bytes with_pending
-progress_pending xs d n p e =
-    let b = bind_ok (after_lines d n (ended_lines xs)) _ p e in
-    let m = n + length (ended_lines xs) in
-    let k = bind_ok (on_line m (held (pending_line xs))) _ p b.2 in
-    on_ok m (held (pending_line xs)) k.0 k.1 ∙ ap (λ (q : Progress). kept_as q.pending) (at_is _ p k.2)
+use Rattle.harmonics_text.proofs.Pieces.{by_lines, cut_last, cut_first, length-ended}
+use Rattle.harmonics_text.proofs.Keeping.{held_line, begins, kept_as, held_filled, held_count, with_last, then_bytes, with_line, with_first, in_pieces, on_ok, at_is, at_book, progress_sound, progress_number, progress_pending}
 
 -- ---- the fault so far
 
@@ -281,92 +106,6 @@ book_from =
 
 book_is : (xs : List ℕ) → book_of xs ≡ (with_bytes drafts.Count 1 xs >>= ended)
 book_is xs = sym (answer_is_book_of xs) ∙ book_from xs drafts.Count 1 tt
-
--- ---- as the code goes
-
-line_is : (d : Draft) (n : ℕ) (line rest : List ℕ) (r : Result Draft Why) → has_lf line ≡ false → after_line d line ≡ r → with_bytes d n (line ++ 10 ∷ rest) ≡ ((on_line n r >>= λ (e : Draft). at (record { draft = e; number = n + 1; pending = [] })) >>= then_bytes rest)
-unfolding with_line
-line_is d n line rest r one is = with_first d n line rest one ∙ rw is refl
-
-pub line_on : (d e : Draft) (n : ℕ) (line rest next after : List ℕ) (total : Total) → has_lf line ≡ false → (rest ≡ next ++ 10 ∷ after) × (has_lf next ≡ false) → after_line d line ≡ Ok e → with_bytes d n (line ++ 10 ∷ rest) ≡ total → with_bytes e (n + 1) (next ++ 10 ∷ after) ≡ total
-line_on d e n line rest next after total one cut_is is so_far = ap (with_bytes e (n + 1)) (sym cut_is.0) ∙ sym (line_is d n line rest (Ok e) one is) ∙ so_far
-
-pub line_ends : (d e : Draft) (n : ℕ) (line rest : List ℕ) (total : Total) → has_lf line ≡ false → has_lf rest ≡ false → after_line d line ≡ Ok e → with_bytes d n (line ++ 10 ∷ rest) ≡ total → total ≡ with_pending e (n + 1) rest
-line_ends d e n line rest total one last is so_far = sym so_far ∙ line_is d n line rest (Ok e) one is ∙ with_last e (n + 1) rest last
-
-pub line_fails : (d : Draft) (n : ℕ) (line rest : List ℕ) (total : Total) (fault : LineFault) → has_lf line ≡ false → Fails fault (after_line d line) → with_bytes d n (line ++ 10 ∷ rest) ≡ total → FailsAt (placed n fault) total
-line_fails d n line rest total lines.NoMemory one fails so_far = tt
-line_fails d n line rest total (lines.Bad why) one fails so_far = sym so_far ∙ line_is d n line rest (Err why) one fails
-
-pub piece_rest : (d : Draft) (n : ℕ) (begun rest : List ℕ) (r : Result Progress BookFault) → has_lf begun ≡ false → has_lf rest ≡ false → GivesAt r (with_pending d n (begun ++ rest)) → GivesAt r (with_bytes d n (begun ++ rest))
-piece_rest d n begun rest r none last gives =
-    let no : has_lf (begun ++ rest) ≡ false = rw (list_any-append, none, last) refl in
-    subst (GivesAt r) (sym (with_last d n (begun ++ rest) no)) gives
-
--- a line with its last bytes, kept with those before them or as it stands in the piece
-abbrev ended_as : List ℕ → List ℕ → Result (List ℕ) Why
-ended_as begun last = cond (is_filled begun) (held (begun ++ last)) (kept_as [])
-
-abbrev whole : List ℕ → List ℕ → List ℕ
-whole kept last = cond (is_filled kept) kept last
-
-pub record IsWhole (begun last line : List ℕ) : Type 0 where
-  pub one : has_lf line ≡ false
-  pub same : (d : Draft) → after_line d line ≡ after_line d (begun ++ last)
-
-pub whole_is : (begun last kept : List ℕ) → has_lf begun ≡ false → has_lf last ≡ false → ended_as begun last ≡ Ok kept → IsWhole begun last (whole kept last)
-whole_is [] last kept none one e = rw (← kept_is [] kept e) record { one = one; same = λ d. refl }
-whole_is (b ∷ bs) last kept none one e =
-    let both : has_lf (b ∷ bs ++ last) ≡ false = rw (list_any-append is_lf (b ∷ bs) last, none, one) refl in
-    let is : held (b ∷ bs ++ last) ≡ Ok kept = e in
-    rw (held_filled b (bs ++ last) kept e) record { one = held_lf (b ∷ bs ++ last) kept both e; same = λ d. ap (λ (r : Result (List ℕ) Why). r >>= after_line d) (sym is) ∙ held_line d (b ∷ bs ++ last) }
-
-piece_is : (d : Draft) (n : ℕ) (begun piece last rest line : List ℕ) → has_lf begun ≡ false → (piece ≡ last ++ 10 ∷ rest) × (has_lf last ≡ false) → IsWhole begun last line → with_bytes d n (begun ++ piece) ≡ with_bytes d n (line ++ 10 ∷ rest)
-unfolding with_line
-piece_is d n begun piece last rest line none cut_is w =
-    let both : has_lf (begun ++ last) ≡ false = rw (list_any-append, none, cut_is.1) refl in
-    rw (cut_is.0, ← append_assoc begun last (10 ∷ rest)) (with_first d n (begun ++ last) rest both ∙ rw (← w.same d) (sym (with_first d n line rest w.one)))
-
-pub piece_gives : (d e : Draft) (n m : ℕ) (begun piece last rest line after : List ℕ) (r : Result Progress BookFault) → has_lf begun ≡ false → (piece ≡ last ++ 10 ∷ rest) × (has_lf last ≡ false) → IsWhole begun last line → with_bytes d n (line ++ 10 ∷ rest) ≡ with_pending e m after → GivesAt r (with_pending e m after) → GivesAt r (with_bytes d n (begun ++ piece))
-piece_gives d e n m begun piece last rest line after r none cut_is w is gives = subst (GivesAt r) (sym (piece_is d n begun piece last rest line none cut_is w ∙ is)) gives
-
-pub piece_fails : (d : Draft) (n : ℕ) (begun piece last rest line : List ℕ) (fault : BookFault) → has_lf begun ≡ false → (piece ≡ last ++ 10 ∷ rest) × (has_lf last ≡ false) → IsWhole begun last line → FailsAt fault (with_bytes d n (line ++ 10 ∷ rest)) → FailsAt fault (with_bytes d n (begun ++ piece))
-piece_fails d n begun piece last rest line fault none cut_is w fails = subst (FailsAt fault) (sym (piece_is d n begun piece last rest line none cut_is w)) fails
-
-pub end_fails : (d : Draft) (n : ℕ) (begun piece last rest : List ℕ) (fault : LineFault) → has_lf begun ≡ false → (piece ≡ last ++ 10 ∷ rest) × (has_lf last ≡ false) → Fails fault (ended_as begun last) → FailsAt (placed n fault) (with_bytes d n (begun ++ piece))
-end_fails d n begun piece last rest lines.NoMemory none cut_is fails = tt
-end_fails d n [] piece last rest (lines.Bad why) none cut_is fails = absurd cc
-end_fails d n (b ∷ bs) piece last rest (lines.Bad why) none cut_is fails =
-    let both : has_lf (b ∷ bs ++ last) ≡ false = rw (list_any-append is_lf (b ∷ bs) last, none, cut_is.1) refl in
-    let bad : after_line d (b ∷ bs ++ last) ≡ Err why = sym (held_line d (b ∷ bs ++ last)) ∙ rw fails refl in
-    rw (cut_is.0, ← append_assoc (b ∷ bs) last (10 ∷ rest)) (line_is d n (b ∷ bs ++ last) rest (Err why) both bad)
-
--- where the file ends in a line
-
-abbrev complete : Progress → Result Book At
-complete q = finished q.number (book_in q.draft)
-
-filled : (xs : List ℕ) → xs ≢ [] → is_filled xs ≡ true
-filled [] some = absurd (some refl)
-filled (x ∷ xs) some = refl
-
-ended_is : (p : Progress) → IsProgress p → p.pending ≢ [] → ended p ≡ (with_bytes p.draft p.number (p.pending ++ 10 ∷ []) >>= complete)
-unfolding ended with_pending
-ended_is p sound some =
-    let n = p.number in
-    let go : (r : Result Draft Why) → (on_line n r >>= λ d. finished (n + 1) (book_in d)) ≡ (((on_line n r >>= λ (e : Draft). at (record { draft = e; number = n + 1; pending = [] })) >>= then_bytes []) >>= complete) =
-    λ r. elim r as (λ r. (on_line n r >>= λ d. finished (n + 1) (book_in d)) ≡ (((on_line n r >>= λ (e : Draft). at (record { draft = e; number = n + 1; pending = [] })) >>= then_bytes []) >>= complete))
-    [ Ok e ↦ ap (λ (t : Total). t >>= complete) (sym (with_last e (n + 1) [] refl)) | Err why ↦ refl ] in
-    rw (filled p.pending some) (go (after_line p.draft p.pending) ∙ ap (λ (t : Total). t >>= complete) (sym (line_is p.draft n p.pending [] (after_line p.draft p.pending) sound.pending refl)))
-
-pub end_gives : (p : Progress) (e : Draft) (m : ℕ) (after : List ℕ) (r : Result Book BookFault) → IsProgress p → p.pending ≢ [] → length after ≤ 0 → with_bytes p.draft p.number (p.pending ++ 10 ∷ []) ≡ with_pending e m after → GivesAt r (finished m (book_in e)) → GivesAt r (ended p)
-unfolding with_pending
-end_gives p e m [] r sound some none is gives = subst (GivesAt r) (sym (ended_is p sound some ∙ ap (λ (t : Total). t >>= complete) is)) gives
-end_gives p e m (b ∷ bs) r sound some none is gives = absurd (omega (arith, none))
-
-pub end_gives_fault : (p : Progress) (fault : BookFault) → IsProgress p → p.pending ≢ [] → FailsAt fault (with_bytes p.draft p.number (p.pending ++ 10 ∷ [])) → FailsAt fault (ended p)
-end_gives_fault p faults.NoMemory sound some fails = tt
-end_gives_fault p (faults.At line why) sound some fails = ended_is p sound some ∙ rw fails refl
 
 -- ---- the reader
 

@@ -1,5 +1,5 @@
 use Rattle.std.proofs.Common.{arith}
-use Rattle.harmonics_text.proofs.Readers.{line_on, line_ends, line_fails}
+use Rattle.harmonics_text.proofs.Keeping.{line_on, line_ends, line_fails}
 use Rattle.harmonics_text.proofs.Sound.{line_sound}
 use Rattle.harmonics_text.proofs.progress.after_lines.Goals as goal
 

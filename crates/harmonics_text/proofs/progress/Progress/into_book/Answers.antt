@@ -1,5 +1,5 @@
 use Rattle.std.proofs.Common.{◌≢◌, []}
-use Rattle.harmonics_text.proofs.Readers.{end_gives, end_gives_fault}
+use Rattle.harmonics_text.proofs.Keeping.{end_gives, end_gives_fault}
 use Rattle.harmonics_text.proofs.progress.Progress.into_book.Goals as goal
 
 pub after_lines-requires-clause-one : goal.after_lines-requires-clause-one
