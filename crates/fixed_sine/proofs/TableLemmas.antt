@@ -1,10 +1,10 @@
 -- Facts about every entry of the table, each by a test that computes over all of it.
-use Rattle.std.proofs.Common.{◌≡◌, ℕ, ◌+◌, ◌-◌, ◌*◌, ◌^◌, ◌<◌, ◌≤◌, Bool, true, ◌&&◌, nat_le, nat_lt, refl, arith, ℤ, pos, neg_ℤ, ◌+ℤ◌, ◌-ℤ◌, ◌*ℤ◌, ◌≤ℤ◌, unsigned_abs, get_or, int_le}
+use Rattle.std.proofs.Common.{◌≡◌, ℕ, ◌+◌, ◌-◌, ◌*◌, ◌^◌, ◌<◌, ◌≤◌, Bool, true, ◌&&◌, nat_eq, nat_le, nat_lt, refl, arith, ℤ, pos, neg_ℤ, ◌+ℤ◌, ◌-ℤ◌, ◌*ℤ◌, ◌≤ℤ◌, unsigned_abs, get_or, int_le}
 use Rattle.std.specs.Ordering.{int_eq}
-use Rattle.std.proofs.lemmas.Bool.{agree_below_at, leb-true, and_parts}
+use Rattle.std.proofs.lemmas.Bool.{agree_below_at, eqb-true, leb-true, and_parts}
 use Rattle.std.proofs.lemmas.Bool.Decides.{Decides-int_eq}
 use Rattle.std.proofs.lemmas.Int.{ints}
-use Rattle.fixed_sine.specs.declared.table.TheConstants.{CORRECTIONS}
+use Rattle.fixed_sine.specs.declared.table.TheConstants.{CORRECTIONS, SLOPES}
 use Rattle.fixed_sine.specs.Table.{sines, sine_at, rise, correction}
 
 le_from_test : (a b : ℤ) → int_le a b ≡ true → a ≤ℤ b
@@ -72,3 +72,12 @@ sines_rise k h =
       capped = leb-true _ _ last.0;
       gentle = leb-true _ _ last.1;
     }
+
+-- the slopes of the code
+unfoldable is_slope : ℕ → Bool
+is_slope k =
+    nat_eq (get_or SLOPES k 0) (2400000000 * (get_or sines (k + 1) 0 - get_or sines k 0) + 600000000 * get_or CORRECTIONS k 0)
+
+pub slope-entry : (k : ℕ) → k < 90 → get_or SLOPES k 0 ≡ 2400000000 * (get_or sines (k + 1) 0 - get_or sines k 0) + 600000000 * get_or CORRECTIONS k 0
+unfolding is_slope sines
+slope-entry k h = eqb-true _ _ (agree_below_at is_slope (λ _. true) 90 k refl h)

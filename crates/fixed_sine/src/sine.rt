@@ -5,7 +5,7 @@ ghost use Rattle.fixed_sine.specs.Circle.{circle, degree, IsOnCircle};
 ghost use Rattle.fixed_sine.specs.Sine.{quarter_of, half_of, isin_of, icos_of};
 
 use crate::circle::{CIRCLE, DEGREE};
-use crate::table::{correction_size, sine_of_degree};
+use crate::table::{correction_size, sine_of_degree, slope_of_degree};
 
 /// The units in a degree, without a sign.
 pub const UNITS: u64 = DEGREE as u64;
@@ -21,10 +21,13 @@ const WHOLE: u64 = 1_000_000_000;
 /// What the formula between two degrees is divided by.
 const SQUARE: u64 = 4 * UNITS * UNITS;
 
-/// A unit for the formula's leading digits.
-const COARSE: u128 = 1 << 46;
+/// The formula's leading digits are counted in units of 2^46, in two steps, so that they stay within
+/// 64 bits.
+const COARSE: u64 = 1 << 22;
 
-/// What `COARSE` is of `SQUARE`, in parts of `FINE` and rounded down.
+const COARSER: u64 = 1 << 24;
+
+/// What such a unit is of `SQUARE`, in parts of `FINE` and rounded down.
 const COARSE_SHARE: u64 = 13_432_509;
 
 const FINE: u64 = 1 << 38;
@@ -85,28 +88,30 @@ pub fn between(degrees: usize, r: u64) -> u64
     ensures value { pos result ≡ quarter_of (degree * degrees + r) }
     ensures size { result ≤ 1000000000 }
 {
-    let start = sine_of_degree(degrees);
-    let rise = sine_of_degree(degrees + 1) - start;
-    start + gain(r, rise, correction_size(degrees))
+    let slope = slope_of_degree(degrees);
+    sine_of_degree(degrees) + gain(r, slope, correction_size(degrees))
 }
 
 /// How much the sine gains over the first `r` units of a degree, rounded down.
-fn gain(r: u64, rise: u64, correction: u64) -> u64
+fn gain(r: u64, slope: u64, correction: u64) -> u64
     requires part { r ≤ degree }
-    requires rise { rise < 33554432 }
-    requires correction { correction ≤ 4 * rise }
-    ensures value { result ≡ (4 * degree * r * rise + r * (degree - r) * correction) / (4 * degree * degree) }
-    ensures within { result ≤ rise }
+    requires slope { slope ≤ 41889600000000000 }
+    requires correction { degree * correction ≤ slope }
+    ensures value { result ≡ r * (slope - r * correction) / (4 * degree * degree) }
+    ensures small { result ≤ 17454000 }
 {
-    divided(u128::from(r) * u128::from(4 * UNITS * rise + (UNITS - r) * correction))
+    divided(r, slope - r * correction)
 }
 
-/// A number divided by `SQUARE`: estimated by its leading digits, and one more where as much is left.
-fn divided(scaled: u128) -> u64
-    requires { scaled ≤ 4 * degree * degree * 33554431 }
-    ensures { result ≡ scaled / (4 * degree * degree) }
+/// `r * inner`, divided by `SQUARE`: estimated by leading digits, and one more where as much is left.
+fn divided(r: u64, inner: u64) -> u64
+    requires part { r ≤ degree }
+    requires inner { inner ≤ 41889600000000000 }
+    ensures value { result ≡ r * inner / (4 * degree * degree) }
+    ensures small { result ≤ 17454000 }
 {
-    let least = (scaled / COARSE) as u64 * COARSE_SHARE / FINE;
-    let rest = (scaled - u128::from(least) * u128::from(SQUARE)) as u64;
+    let leading = r * (inner / COARSE) / COARSER;
+    let least = leading * COARSE_SHARE / FINE;
+    let rest = (u128::from(r) * u128::from(inner) - u128::from(least) * u128::from(SQUARE)) as u64;
     if rest < SQUARE { least } else { least + 1 }
 }
