@@ -3,7 +3,7 @@
 ghost use Rattle.std.specs.Prelude.{◌≡◌, ◌<◌, ◌≤◌, ℕ, List, [], length, Option, Some, IfOk, IsErrOf};
 ghost use Rattle.decimal_text.specs.Expected.{Gives};
 ghost use Rattle.harmonics_text.specs.Books.{IsBook};
-ghost use Rattle.tide_answer.specs.Loading.{loaded, source_of, wants_memory};
+ghost use Rattle.tide_answer.specs.Loading.{IsStopped, loaded, source_of, wants_memory};
 ghost use Rattle.tide_answer.specs.Workings.Feeding.{bytes_fed};
 ghost use Rattle.tide_edge.specs.Excuses.{Meets, is_outside_fault};
 ghost use Rattle.tide_edge.specs.Faults.{faults_after, Rose};
@@ -33,7 +33,8 @@ const PIECE: usize = 65_536;
 ///
 /// # Errors
 /// [`LoadFault::Failed`] only where the count of `files` rose, and over steady files only where there
-/// is no file of that name; [`LoadFault::TooLong`] where the file has more than `limit` bytes;
+/// is no file of that name; [`LoadFault::TooLong`] where the file has more than `limit` bytes, of
+/// which at most a piece too many is read;
 /// [`LoadFault::Book`] with the file's first bad line where neither holds, or with want of memory.
 pub fn load_book<F: Files>(
     alloc: Global,
@@ -48,6 +49,7 @@ pub fn load_book<F: Files>(
     ensures sound { IfOk result IsBook }
     ensures counts { F.faults files.new ≡ faults_after (is_outside_fault source_of result) (F.faults files.old) }
     ensures failed { IsErrOf result LoadFault.Failed → Rose (F.faults files.old) (F.faults files.new) }
+    ensures stops { F.tells files.old → IsErrOf result LoadFault.TooLong → IsStopped limit (F.folder files.old name.now) (F.rest files.new) }
     ensures same_files { F.folder files.new ≡ F.folder files.old }
     ensures as_steady { F.steady files.new ≡ F.steady files.old }
     ensures still_tells { F.tells files.old → F.tells files.new }
@@ -67,7 +69,7 @@ fn load_rest<F: Files>(
     reader: BookReader,
     limit: u64,
 ) -> Result<Book, LoadFault>
-    requires room { 0 < length room.old }
+    requires room { length room.old ≡ 65536 }
     requires unfed { reader.bytes ≡ [] }
     requires most { limit ≤ 400000000 }
     ensures own { F.tells files.old
@@ -75,6 +77,7 @@ fn load_rest<F: Files>(
     ensures some { (file : Option (List ℕ)) × Gives wants_memory (loaded limit file) result }
     ensures sound { IfOk result IsBook }
     ensures counts { F.faults files.new ≡ faults_after (is_outside_fault source_of result) (F.faults files.old) }
+    ensures stops { F.tells files.old → IsErrOf result LoadFault.TooLong → IsStopped limit (Some (F.rest files.old)) (F.rest files.new) }
     ensures same_files { F.folder files.new ≡ F.folder files.old }
     ensures as_steady { F.steady files.new ≡ F.steady files.old }
     ensures still_tells { F.tells files.old → F.tells files.new }
@@ -91,13 +94,14 @@ fn feed_rest<F: Files>(
     mut reader: BookReader,
     limit: u64,
 ) -> Result<BookReader, ReadAllFault>
-    requires room { 0 < length room.old }
+    requires room { length room.old ≡ 65536 }
     requires unfed { reader.bytes ≡ [] }
     requires most { limit ≤ 400000000 }
     ensures whole { F.tells files.old
         → Meets source_of_reading (F.steady files.old) (whole limit (Some (F.rest files.old))) (bytes_fed result) }
     ensures within { IfOk result (λ reader. length reader.bytes ≤ limit) }
     ensures counts { F.faults files.new ≡ faults_after (is_outside_fault source_of_reading result) (F.faults files.old) }
+    ensures stops { F.tells files.old → IsErrOf result ReadAllFault.TooLong → IsStopped limit (Some (F.rest files.old)) (F.rest files.new) }
     ensures same_files { F.folder files.new ≡ F.folder files.old }
     ensures as_steady { F.steady files.new ≡ F.steady files.old }
     ensures still_tells { F.tells files.old → F.tells files.new }

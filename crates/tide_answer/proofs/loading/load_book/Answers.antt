@@ -1,4 +1,4 @@
-use Rattle.tide_answer.proofs.LoadingLemmas.{unopened, some_reading, meets_opened}
+use Rattle.tide_answer.proofs.LoadingLemmas.{unopened, some_reading, meets_opened, stopped_opened}
 use Rattle.tide_edge.specs.declared.read_all_fault.ReadAllFault.TheVariants as reading
 use Rattle.tide_answer.proofs.loading.load_book.Goals as goal
 
@@ -14,6 +14,16 @@ returns-in-Ok-clause-own g c =
     (c.in-Ok.ensures.opened t)
     c.open.ensures.as_steady
     (c.load_rest.ensures.own (c.open.ensures.still_tells t))
+
+pub returns-in-Ok-clause-stops : goal.returns-in-Ok-clause-stops
+returns-in-Ok-clause-stops g c =
+    λ t too_long. stopped_opened
+    c.args.limit
+    (g.F.Files.folder c.args.files.now c.args.name.now)
+    (g.F.Files.rest c.open.new.self)
+    (g.F.Files.rest c.load_rest.new.files)
+    (c.in-Ok.ensures.opened t)
+    (c.load_rest.ensures.stops (c.open.ensures.still_tells t) too_long)
 
 pub returns-clause-own : goal.returns-clause-own
 returns-clause-own g c =
