@@ -1,9 +1,11 @@
 //! What a run comes to over objects in memory.
 
-ghost use Rattle.std.specs.Prelude.{◌≡◌, []};
+ghost use Rattle.std.specs.Prelude.{◌≡◌, ◌⊎◌, []};
 ghost use Rattle.std.specs.Result.{IsOkAnd};
+ghost use Rattle.tide_edge.specs.Faults.{Rose};
 ghost use Rattle.tide_edge.specs.Memory.{folder_of};
 ghost use Rattle.tide_desk.specs.Answers.{answer_of};
+ghost use Rattle.tide_desk.specs.Outcomes.{Says};
 
 use crate::desk::run;
 use decimal_text::Words;
@@ -12,7 +14,8 @@ use tide_answer::Status;
 use tide_edge::{FixedClock, MemoryFiles, MemorySink};
 
 /// Over files and a clock in memory and an empty sink: where the run is done, the sink has taken
-/// exactly the answer's text.
+/// exactly the answer's text. Any status but that of a fault of reading says the answer, and such a
+/// fault comes only where a call on the files or the clock failed.
 pub fn run_in_memory(
     alloc: Global,
     words: &Words,
@@ -22,8 +25,11 @@ pub fn run_in_memory(
     clock: &mut FixedClock,
 ) -> Status
     requires { out.old.taken ≡ [] }
-    ensures { result ≡ Status.Done
+    ensures done { result ≡ Status.Done
         → IsOkAnd (answer_of (folder_of files.old.files) clock.old.minute words.now) (λ answer. out.new.taken ≡ answer.text) }
+    ensures says { ¬ (result ≡ Status.ReadFault) → Says (answer_of (folder_of files.old.files) clock.old.minute words.now) result }
+    ensures read_fault { result ≡ Status.ReadFault
+        → Rose files.old.calls.faults files.new.calls.faults ⊎ Rose clock.old.calls.faults clock.new.calls.faults }
 {
     run(alloc, words, files, out, err, clock)
 }
