@@ -8,13 +8,13 @@ use Rattle.tide_edge.specs.declared.failed.Failed.{Failed}
 use Rattle.tide_edge.specs.Doors.{Traffic, append_to_last}
 use Rattle.tide_edge.specs.Faults.{faults_after}
 use Rattle.tide_server.specs.declared.stock.Stock.{Stock}
-use Rattle.tide_server.specs.Heads.{head_length, head_end}
+use Rattle.tide_server.specs.Heads.{head_end}
 use Rattle.tide_server.specs.Replies.{IsReply}
 use Rattle.tide_server.specs.Responses.{fixed_of}
 use Rattle.tide_server.specs.Rows.{Row, rejects, asks, IsRow, is_settled}
 use Rattle.tide_server.specs.Serving.{Answers, AnswersUnlessCut, IsUnavailable}
 use Rattle.tide_server.specs.Workings.Connections.{IsEnough, IsQuiet, IsRead, SentBy, Went, WentBy}
-use Rattle.tide_server.proofs.ConnectionLemmas.{append_none}
+use Rattle.tide_server.proofs.ConnectionLemmas.{append_none, not_enough}
 use Rattle.tide_server.proofs.RowLemmas.{one_row_at, settled_stays}
 
 one : (request : List ℕ) (a b : Row) → IsRow request a → IsRow request b → a ≡ b
@@ -91,20 +91,6 @@ went_unread answers bytes before after was is quiet count = record {
 
 -- ---- What was read stands for all bytes
 
-no_end : head_end [] ≡ None
-unfolding head_length
-no_end = refl
-
-unsettled_at : (row : Row) → IsRow [] row → is_settled row ≡ false
-unfolding head_length
-unsettled_at row is = ap is_settled is
-
-not_enough : IsEnough [] → ⊥
-not_enough enough =
-    let no = unsettled_at enough.0 enough.1 in
-    let yes : IsTrue (is_settled enough.0) = enough.2 in
-    absurd (cc)
-
 row_whole : (request rest : List ℕ) (row : Row) → (rest ≡ []) ⊎ IsEnough request → IsRow request row → IsRow (request ++ rest) row
 row_whole request rest row enough is =
     elim enough [
@@ -142,6 +128,10 @@ cut_whole stock minute true bytes request reply read held =
       | inr part ↦ inr (part.0, answers_whole stock minute bytes request part.0 read part.1, part.2, part.3)
     ]
 
+some_whole : (bytes request : List ℕ) → IsRead bytes request → ¬ (request ≡ []) → ¬ (bytes ≡ [])
+some_whole bytes [] read some = absurd (some refl)
+some_whole bytes (b ∷ request) read some = λ none. let parts : bytes ≡ b ∷ (request ++ read.rest) = read.parts in cc
+
 pub went_whole : {T : Type 0} (stock : Stock) (minute : ℤ) (bytes request : List ℕ) (result : Result T Failed)
     (before between after : Traffic) (was still is : ℕ) → IsRead bytes request → IsQuiet before between → still ≡ was
     → WentBy result (Answers stock minute) request between after still is
@@ -154,5 +144,8 @@ went_whole stock minute bytes request (Ok value) before between after was still 
   held = cut_whole stock minute went.is_cut bytes request went.reply read went.held;
   lines = went.lines ∙ ap (faults_after went.is_cut) same;
 }
-went_whole stock minute bytes request (Err failed) before between after was still is read quiet same went =
-    (record { waiting = went.0.waiting ∙ quiet.waiting; replies = went.0.replies ∙ quiet.replies }, went.1 ∙ same)
+went_whole stock minute bytes request (Err failed) before between after was still is read quiet same went = (
+  record { waiting = went.0.waiting ∙ quiet.waiting; replies = went.0.replies ∙ quiet.replies },
+  went.1 ∙ same,
+  some_whole bytes request read went.2,
+)

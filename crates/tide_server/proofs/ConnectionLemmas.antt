@@ -1,5 +1,5 @@
 -- What goes over a connection, piece by piece.
-use Rattle.std.proofs.Common.{◌≡◌, ℕ, ◌+◌, ◌<◌, ◌≤◌, Bool, false, true, List, [], ◌∷◌, ◌++◌, length, take, drop, append_assoc, append-nil, arith, ap, sym, ◌∙◌, refl, Result, Ok, Err}
+use Rattle.std.proofs.Common.{◌≡◌, ℕ, ◌+◌, ◌<◌, ◌≤◌, Bool, false, true, List, [], ◌∷◌, ◌++◌, length, take, drop, append_assoc, append-nil, arith, ap, sym, ◌∙◌, subst, refl, Result, Ok, Err}
 use Rattle.std.specs.Bool.{IsTrue}
 use Rattle.std.specs.Prelude.{nat_le}
 use Rattle.std.proofs.lemmas.Bool.Decides.{nat_tests}
@@ -7,9 +7,10 @@ use Rattle.std.proofs.lemmas.List.{take-append-drop}
 use Rattle.std.proofs.Math.Seq.{take-add}
 use Rattle.tide_edge.specs.declared.failed.Failed.{Failed}
 use Rattle.tide_edge.specs.Doors.{Traffic, append_to_last, read_by}
+use Rattle.tide_server.specs.Heads.{head_end, head_length}
 use Rattle.tide_server.specs.Rows.{Row, IsRow, is_settled}
-use Rattle.tide_server.specs.Workings.Connections.{sent, IsQuiet}
-use Rattle.tide_server.proofs.RowLemmas.{long_settled}
+use Rattle.tide_server.specs.Workings.Connections.{sent, IsEnough, IsQuiet}
+use Rattle.tide_server.proofs.RowLemmas.{long_settled, one_row_at}
 
 pub append_none : (replies : List (List ℕ)) → append_to_last replies [] ≡ replies
 append_none [] = refl
@@ -57,6 +58,19 @@ few_by false request row is unsettled long = grind (arith, nat_tests)
 -- bytes that aren't enough are few
 pub few : (request : List ℕ) (row : Row) → IsRow request row → is_settled row ≡ false → length request < 4202496
 few request row is unsettled = few_by (nat_le 4202496 (length request)) request row is unsettled refl
+
+pub unsettled : (request : List ℕ) (row : Row) → IsRow request row → is_settled row ≡ false → ¬ (IsEnough request)
+unsettled request row is none enough =
+    let same : enough.0 ≡ row = one_row_at (head_end request) request enough.0 row enough.1 is in
+    let settled : IsTrue (is_settled row) = subst (λ (r : Row). IsTrue (is_settled r)) same enough.2 in
+    absurd (cc)
+
+unsettled_at : (row : Row) → IsRow [] row → is_settled row ≡ false
+unfolding head_length
+unsettled_at row is = ap is_settled is
+
+pub not_enough : ¬ (IsEnough [])
+not_enough enough = unsettled [] enough.0 enough.1 (unsettled_at enough.0 enough.1) enough
 
 -- ---- Reading on
 

@@ -20,7 +20,10 @@ use Rattle.tide_desk.specs.Readings.{Folders}
 use Rattle.tide_desk.specs.Workings.Meetings.{ExcusesIf, MeetsIf}
 use Rattle.tide_desk.specs.Workings.Telling.{Tells}
 use Rattle.tide_server.specs.declared.stock.Stock.{Stock}
-use Rattle.tide_server.specs.Openings.{stock_by, stock_named, IsRefused, WroteBoth}
+use Rattle.tide_server.specs.declared.outage.Outage.{Outage}
+use Rattle.tide_server.specs.declared.outage.Outage.TheVariants as outages
+use Rattle.tide_server.specs.Openings.{stock_by, stock_named, EndedBy, IsRefused, WroteBoth}
+use Rattle.tide_server.specs.Workings.Steps.{is_clock, is_door}
 
 -- ---- By the name of a file
 
@@ -69,6 +72,50 @@ wrote_both tells between_tells still_tells before between after was still is fir
   count = two.count ∙ ap (faults_after second_failed) one.count;
   told = λ t. two.told (one.told t);
   stands = λ t. (between, one.stands t, two.stands (one.told t));
+}
+
+-- ---- What has failed
+
+pub files_failed : (failed : Bool) (was is clock door : ℕ) → is ≡ faults_after failed was → EndedBy failed was is clock clock door door
+files_failed true was is clock door count = record {
+  files = true;
+  clock = false;
+  door = false;
+  one = refl;
+  files_count = count;
+  clock_count = refl;
+  door_count = refl;
+}
+files_failed false was is clock door count = record {
+  files = false;
+  clock = false;
+  door = false;
+  one = refl;
+  files_count = count;
+  clock_count = refl;
+  door_count = refl;
+}
+
+-- the door or the clock
+pub outage_failed : (outage : Outage) (files clock_was clock_is door_was door_is : ℕ) → clock_is ≡ faults_after (is_clock outage) clock_was
+    → door_is ≡ faults_after (is_door outage) door_was → EndedBy true files files clock_was clock_is door_was door_is
+outage_failed outages.Door files clock_was clock_is door_was door_is clock_count door_count = record {
+  files = false;
+  clock = false;
+  door = true;
+  one = refl;
+  files_count = refl;
+  clock_count = clock_count;
+  door_count = door_count;
+}
+outage_failed outages.Clock files clock_was clock_is door_was door_is clock_count door_count = record {
+  files = false;
+  clock = true;
+  door = false;
+  one = refl;
+  files_count = refl;
+  clock_count = clock_count;
+  door_count = door_count;
 }
 
 -- ---- Nobody was served

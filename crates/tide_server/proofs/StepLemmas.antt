@@ -1,5 +1,6 @@
 -- Connections served one after the other.
 use Rattle.std.proofs.Common.{◌≡◌, ℕ, ◌+◌, ◌-◌, ◌^◌, ◌<◌, Bool, false, true, List, [], ◌∷◌, ◌++◌, length, map, append_assoc, append-nil, arith, Ok, Err, inl, inr, ap, sym, ◌∙◌, subst, refl}
+use Rattle.std.specs.List.{concat}
 use Rattle.std.specs.Prelude.{count_by, ◌==◌, drop, if◌then◌else◌}
 use Rattle.std.proofs.lemmas.Grind.{common_steps}
 use Rattle.std.proofs.lemmas.Bool.Decides.{nat_tests}
@@ -42,12 +43,13 @@ served_next answers before between after was still is some takes same went =
     }
 
 pub left_next : (before between after : Traffic) → 0 < length before.waiting → between ≡ taken_by (Ok true) before
-    → IsQuiet between after → LeftNext before after
-left_next before between after some takes quiet =
+    → ¬ (between.rest ≡ []) → IsQuiet between after → LeftNext before after
+left_next before between after some takes byte quiet =
     let first = took before.waiting some in
     let now : between ≡ taken_at (first.0 ∷ first.1) before = takes ∙ ap (λ w. taken_at w before) first.2 in
     record {
       request = first.0;
+      bytes = λ none. byte (ap (λ t. t.rest) now ∙ none);
       requests = first.2 ∙ ap (λ w. first.0 ∷ w) (sym (quiet.waiting ∙ ap (λ t. t.waiting) now));
       replies = quiet.replies ∙ ap (λ t. t.replies) now;
     }
@@ -105,6 +107,9 @@ more_served answers count before now after was still is so_far step = record {
 
 -- ---- The end
 
+abbrev HasByte : List (List ℕ) → Type 0
+HasByte request = ¬ (concat request ≡ [])
+
 none_left : (has_failed : Bool) → MayLeave has_failed []
 none_left false = refl
 none_left true = omega arith
@@ -124,6 +129,7 @@ ended answers has_failed count taken before now after was still is so_far quiet 
   held = so_far.held;
   cut = subst (λ (n : ℕ). RoseBy (count_by (λ c. c.is_cut) so_far.served) was n) (sym same) so_far.cut;
   last = none_left has_failed;
+  bytes = All-nil HasByte;
 }
 
 pub broken : (answers : List ℕ → List ℕ → Type 0) (count taken : ℕ) (before now after : Traffic) (was still is : ℕ)
@@ -141,6 +147,7 @@ broken answers count taken before now after was still is so_far step same all = 
   held = so_far.held;
   cut = subst (λ (n : ℕ). RoseBy (count_by (λ c. c.is_cut) so_far.served) was n) (sym same) so_far.cut;
   last = omega arith;
+  bytes = All-push HasByte [] step.request (All-nil HasByte) step.bytes;
 }
 
 counted_by : (last : Bool) (count : ℕ) → (count == 2 ^ 64 - 1) ≡ last → count < 2 ^ 64 - 1 → counted count ≡ count + 1

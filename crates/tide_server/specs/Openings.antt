@@ -1,5 +1,5 @@
 -- What a server serves from, and how it ends (this project).
-use Rattle.std.specs.Prelude.{◌≡◌, ◌⊎◌, ℕ, Bool, false, not, ◌||◌, if◌then◌else◌, List, [], ◌++◌, codes, decimal, Option, Some, None, Result, Ok, Err}
+use Rattle.std.specs.Prelude.{◌≡◌, ◌⊎◌, ℕ, Bool, false, not, if◌then◌else◌, List, [], ◌∷◌, ◌++◌, codes, count_by, decimal, Option, Some, None, Result, Ok, Err}
 use Rattle.std.specs.Option.{option_map_or}
 use Rattle.std.specs.Str.{bytes_eq}
 use Rattle.decimal_text.specs.Expected.{◌>>=◌}
@@ -112,21 +112,19 @@ EndsAs steady expected status door served err =
 
 -- ---- Where a fault of reading comes from
 
--- A server ends with a fault of reading exactly where the files, the clock or the door has failed. The count of each is one more
--- where it has, and else as before.
+-- A server ends with a fault of reading exactly where the files, the clock or the door has failed, one of them and once: its count is
+-- one more, and the others are as before.
 pub record EndedBy (has_failed : Bool) (files_was files_is clock_was clock_is door_was door_is : ℕ) : Type 0 where
   pub files : Bool
   pub clock : Bool
   pub door : Bool
-  pub told : has_failed ≡ (files || clock || door)
+  pub one : count_by (λ failed. failed) (files ∷ clock ∷ door ∷ []) ≡ (if has_failed then 1 else 0)
   pub files_count : files_is ≡ faults_after files files_was
   pub clock_count : clock_is ≡ faults_after clock clock_was
   pub door_count : door_is ≡ faults_after door door_was
 
 -- ---- The whole objects
 
--- after want of memory or a refusal it is as it was
-abbrev pub IsUnasked : {A : Type 0} → Status → A → A → Type 0
-IsUnasked Done before after = Unit {0}
-IsUnasked ReadFault before after = Unit {0}
-IsUnasked _ before after = after ≡ before
+-- the door wasn't asked to listen, or no connection was taken
+abbrev pub TookNone : Doorway → Type 0
+TookNone door = (door.port ≡ None) ⊎ (door.taken ≡ 0)

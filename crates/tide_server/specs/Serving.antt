@@ -47,7 +47,7 @@ MayLeave false left = left ≡ []
 MayLeave true left = length left ≤ 1
 
 -- Connections were served one after the other, in the order in which they waited, and each has its reply. As many were cut short
--- as the count of the lines' faults rose by.
+-- as the count of the lines' faults rose by. One that was left has a byte: the clock isn't asked for any other.
 pub record Served (answers : List ℕ → List ℕ → Type 0) (has_failed : Bool) (count : ℕ) (before after : Traffic) (was is : ℕ) : Type 0 where
   pub served : List Conversation
   pub left : List (List (List ℕ))
@@ -57,3 +57,4 @@ pub record Served (answers : List ℕ → List ℕ → Type 0) (has_failed : Boo
   pub held : All (IsHeld answers) served
   pub cut : RoseBy (count_by (λ c. c.is_cut) served) was is
   pub last : MayLeave has_failed left
+  pub bytes : All (λ request. ¬ (concat request ≡ [])) left

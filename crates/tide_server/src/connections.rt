@@ -32,6 +32,7 @@ pub(crate) fn serve_all<D: Door, K: Clock>(
     ensures listens { (D.doorway door.new).listens ≡ true }
     ensures counts { D.faults door.new ≡ faults_after (is_door_outage result) (D.faults door.old) }
     ensures clock_counts { K.faults clock.new ≡ faults_after (is_clock_outage result) (K.faults clock.old) }
+    ensures unasked { (D.doorway door.new).taken ≡ 0 → clock.new ≡ clock.old }
     ensures still_tells { D.tells door.old → D.tells door.new }
     ensures same_minute { K.minute_held clock.new ≡ K.minute_held clock.old }
     ensures clock_still_tells { K.tells clock.old → K.tells clock.new }
@@ -61,6 +62,7 @@ fn serve_next<D: Door, K: Clock>(
     ensures doorway { D.doorway door.new ≡ doorway_after result (D.doorway door.old) }
     ensures counts { D.faults door.new ≡ faults_after (is_door_outage result) (D.faults door.old) }
     ensures clock_counts { K.faults clock.new ≡ faults_after (is_clock_outage result) (K.faults clock.old) }
+    ensures unasked { (D.doorway door.new).taken ≡ 0 → clock.new ≡ clock.old }
     ensures still_tells { D.tells door.old → D.tells door.new }
     ensures same_minute { K.minute_held clock.new ≡ K.minute_held clock.old }
     ensures clock_still_tells { K.tells clock.old → K.tells clock.new }

@@ -6,7 +6,7 @@ ghost use Rattle.tide_answer.specs.declared.status.Status.{Status};
 ghost use Rattle.tide_edge.specs.Doors.{asked};
 ghost use Rattle.tide_desk.specs.Outcomes.{Wrote, is_read_fault};
 ghost use Rattle.tide_desk.specs.Readings.{Folders};
-ghost use Rattle.tide_server.specs.Openings.{EndedBy, EndsAs, HasListened, IsUnasked, WroteBoth, notice_of, service_of, stock_from};
+ghost use Rattle.tide_server.specs.Openings.{EndedBy, EndsAs, HasListened, TookNone, WroteBoth, notice_of, service_of, stock_from};
 ghost use Rattle.tide_server.specs.Serving.{Answers, IsOver, Served};
 ghost use Rattle.tide_server.specs.Workings.Connections.{IsStock};
 
@@ -51,8 +51,8 @@ pub fn serve<F: Files, D: Door, E: Sink, K: Clock>(
     ensures done { result ≡ Status.Done → IsOver (D.doorway door.new) }
     ensures read_fault { EndedBy (is_read_fault result) (F.faults files.old) (F.faults files.new)
         (K.faults clock.old) (K.faults clock.new) (D.faults door.old) (D.faults door.new) }
-    ensures unlistened { IsUnasked result door.old door.new }
-    ensures unasked { IsUnasked result clock.old clock.new }
+    ensures unlistened { (D.doorway door.new).port ≡ None → door.new ≡ door.old }
+    ensures unasked { TookNone (D.doorway door.new) → clock.new ≡ clock.old }
     ensures unopened { ¬ (IsOk (service_of words.now)) → files.new ≡ files.old }
     ensures same_files { F.folder files.new ≡ F.folder files.old }
     ensures as_steady { F.steady files.new ≡ F.steady files.old }
@@ -89,6 +89,7 @@ fn serve_stock<D: Door, E: Sink, K: Clock>(
     ensures done { result ≡ Status.Done → IsOver (D.doorway door.new) }
     ensures read_fault { (files : ℕ) → EndedBy (is_read_fault result) files files
         (K.faults clock.old) (K.faults clock.new) (D.faults door.old) (D.faults door.new) }
+    ensures unasked { (D.doorway door.new).taken ≡ 0 → clock.new ≡ clock.old }
     ensures still_tells { D.tells door.old → D.tells door.new }
     ensures same_minute { K.minute_held clock.new ≡ K.minute_held clock.old }
     ensures clock_still_tells { K.tells clock.old → K.tells clock.new }
@@ -118,6 +119,7 @@ fn serve_open<D: Door, E: Sink, K: Clock>(
     ensures done { result ≡ Status.Done → IsOver (D.doorway door.new) }
     ensures read_fault { (files : ℕ) → EndedBy (is_read_fault result) files files
         (K.faults clock.old) (K.faults clock.new) (D.faults door.old) (D.faults door.new) }
+    ensures unasked { (D.doorway door.new).taken ≡ 0 → clock.new ≡ clock.old }
     ensures still_tells { D.tells door.old → D.tells door.new }
     ensures same_minute { K.minute_held clock.new ≡ K.minute_held clock.old }
     ensures clock_still_tells { K.tells clock.old → K.tells clock.new }

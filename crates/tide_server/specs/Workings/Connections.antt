@@ -27,11 +27,15 @@ pub record IsQuiet (before after : Traffic) : Type 0 where
 abbrev pub IsEnough : List ℕ → Type 0
 IsEnough request = (row : Row) × IsRow request row × IsTrue (is_settled row)
 
--- of a connection's bytes so many were read: all of them, or enough of them
+-- of a connection's bytes so many were read: all of them, or enough of them; before the last piece they weren't enough
 pub record IsRead (bytes request : List ℕ) : Type 0 where
   pub rest : List ℕ
   pub parts : bytes ≡ request ++ rest
   pub enough : (rest ≡ []) ⊎ IsEnough request
+  pub before : List ℕ
+  pub piece : List ℕ
+  pub pieces : request ≡ before ++ piece
+  pub waits : ¬ (IsEnough before)
 
 -- a book and a table as they are read
 pub record IsStock (stock : Stock) : Type 0 where
@@ -47,7 +51,7 @@ pub record Went (answers : List ℕ → List ℕ → Type 0) (bytes : List ℕ) 
   pub held : AnswersUnlessCut is_cut answers bytes reply
   pub lines : is ≡ faults_after is_cut was
 
--- the same, unless the clock has failed: then nothing was sent
+-- the same, unless the clock has failed: then there is a byte, and nothing was sent
 abbrev pub WentBy : {T : Type 0} → Result T Failed → (List ℕ → List ℕ → Type 0) → List ℕ → Traffic → Traffic → ℕ → ℕ → Type 0
 WentBy (Ok value) answers bytes before after was is = Went answers bytes before after was is
-WentBy (Err failed) answers bytes before after was is = IsQuiet before after × (is ≡ was)
+WentBy (Err failed) answers bytes before after was is = IsQuiet before after × (is ≡ was) × ¬ (bytes ≡ [])

@@ -1,5 +1,6 @@
 -- One connection after the other, a step at a time.
 use Rattle.std.specs.Prelude.{◌≡◌, ℕ, Bool, true, false, List, [], ◌∷◌, ◌++◌, length, map, All, count_by, Some, Result, Ok, Err}
+use Rattle.std.specs.List.{concat}
 use Rattle.tide_edge.specs.Doors.{Doorway, Traffic, after_next, closed}
 use Rattle.tide_edge.specs.Faults.{faults_after}
 use Rattle.tide_server.specs.declared.outage.Outage.{Outage}
@@ -43,9 +44,10 @@ pub record ServedNext (answers : List ℕ → List ℕ → Type 0) (before after
   pub held : IsHeld answers next
   pub lines : is ≡ faults_after next.is_cut was
 
--- it was taken and got no reply
+-- it was taken, has a byte and got no reply
 pub record LeftNext (before after : Traffic) : Type 0 where
   pub request : List (List ℕ)
+  pub bytes : ¬ (concat request ≡ [])
   pub requests : before.waiting ≡ request ∷ after.waiting
   pub replies : after.replies ≡ before.replies ++ [] ∷ []
 

@@ -1,4 +1,4 @@
-use Rattle.std.proofs.Common.{◌≡◌, true, rules}
+use Rattle.std.proofs.Common.{◌≡◌, true, arith, rules}
 use Rattle.std.proofs.lemmas.Result.{err_from_is_err_and}
 use Rattle.tide_server.specs.Serving.{Answers}
 use Rattle.tide_server.proofs.StepLemmas.{failed, more_served, next_serving}
@@ -45,6 +45,7 @@ loop-taken-preserved g c =
           (c.loop-taken.invariant.served t k)
           step;
       faults = cc (c.in_ok-serve_next.ensures.counts, c.loop-taken.invariant.faults);
+      unasked = λ none. absurd (omega (arith, none));
       clock_faults = cc (c.in_ok-serve_next.ensures.clock_counts, c.loop-taken.invariant.clock_faults);
       tells = λ t. c.serve_next.ensures.still_tells (c.loop-taken.invariant.tells t);
       minute = cc (c.serve_next.ensures.same_minute, c.loop-taken.invariant.minute);

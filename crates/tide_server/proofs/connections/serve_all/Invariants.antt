@@ -11,6 +11,7 @@ invariant-loop-taken g l = record {
       (g.D.Door.traffic l.initial.door) (g.D.Door.traffic l.door)
       (g.D.Door.line_faults l.initial.door) (g.D.Door.line_faults l.door);
   faults : g.D.Door.faults l.door ≡ g.D.Door.faults l.initial.door;
+  unasked : l._taken ≡ 0 → l.clock ≡ l.initial.clock;
   clock_faults : g.K.Clock.faults l.clock ≡ g.K.Clock.faults l.initial.clock;
   tells : g.D.Door.tells l.initial.door → g.D.Door.tells l.door;
   minute : g.K.Clock.minute_held l.clock ≡ g.K.Clock.minute_held l.initial.clock;
