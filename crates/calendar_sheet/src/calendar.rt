@@ -100,7 +100,7 @@ fn push_entry(
     requires listed { IsListed units event.now }
     ensures { OnOk result (text.new.items ≡ text.old.items ++ entry_in zone.now units event.now) }
 {
-    let local = zone.local(event.minute)?;
+    let local = zone.local(event.minute);
     let mut level = ArrayString::new();
     write_level(event.level, &mut level);
     let mut entry = ArrayString::<56>::new();

@@ -1,6 +1,6 @@
 //! The dates that a calendar has.
 
-ghost use Rattle.std.specs.Prelude.{◌≡◌, ◌+◌, ◌≤◌, pos, unsigned_abs, ◌+ℤ◌, ◌-ℤ◌, ◌≤ℤ◌, ◌<ℤ◌, All, IfOk, Ok, fold};
+ghost use Rattle.std.specs.Prelude.{◌≡◌, ◌+◌, ◌≤◌, pos, unsigned_abs, ◌+ℤ◌, ◌-ℤ◌, ◌≤ℤ◌, ◌<ℤ◌, All, fold};
 ghost use Rattle.std.specs.Int.{int_min, int_max};
 ghost use Rattle.calendar_sheet.specs.Calendars.{day_in, event_days, first_day, last_day};
 ghost use Rattle.calendar_sheet.specs.Workings.Dates.{AreDays, IsAmong};
@@ -8,7 +8,6 @@ ghost use Rattle.zone_time.specs.Dates.{IsDay};
 ghost use Rattle.zone_time.specs.Zones.{IsZone, InZoneYears};
 
 use curve_law::Event;
-use std::alloc::AllocError;
 use zone_time::Zone;
 
 pub const MINUTES_OF_DAY: i64 = 1440;
@@ -35,29 +34,29 @@ impl Days {
     }
 
     /// The shortest stretch that has the local date of the event too.
-    fn with_event(self, event: &Event, zone: &Zone) -> Result<Days, AllocError>
+    fn with_event(self, event: &Event, zone: &Zone) -> Days
         requires days { AreDays self.first self.last }
         requires zone { IsZone zone.now }
         requires year { InZoneYears event.now.minute }
-        ensures exact { IfOk result (λ days. days ≡ record { first = int_min self.first (day_in zone.now event.now.minute); last = int_max self.last (day_in zone.now event.now.minute) }) }
-        ensures days { IfOk result (λ days. AreDays days.first days.last) }
+        ensures exact { result ≡ record { first = int_min self.first (day_in zone.now event.now.minute); last = int_max self.last (day_in zone.now event.now.minute) } }
+        ensures days { AreDays result.first result.last }
     {
-        Ok(self.with_day(local_day(zone, event.minute)?))
+        self.with_day(local_day(zone, event.minute))
     }
 
     /// The shortest stretch that has the local dates of the events too.
-    fn with_events(self, events: &[Event], zone: &Zone) -> Result<Days, AllocError>
+    fn with_events(self, events: &[Event], zone: &Zone) -> Days
         requires days { AreDays self.first self.last }
         requires zone { IsZone zone.now }
         requires years { All (λ event. InZoneYears event.minute) events.now }
-        ensures exact { IfOk result (λ days. days ≡ record { first = fold int_min self.first (event_days zone.now events.now); last = fold int_max self.last (event_days zone.now events.now) }) }
-        ensures days { IfOk result (λ days. AreDays days.first days.last) }
+        ensures exact { result ≡ record { first = fold int_min self.first (event_days zone.now events.now); last = fold int_max self.last (event_days zone.now events.now) } }
+        ensures days { AreDays result.first result.last }
     {
         let mut days = self;
         for event in events {
-            days = days.with_event(event, zone)?;
+            days = days.with_event(event, zone);
         }
-        Ok(days)
+        days
     }
 
     /// How many days there are.
@@ -91,41 +90,41 @@ impl Days {
 }
 
 /// The local date of a minute.
-pub fn local_day(zone: &Zone, minute: i64) -> Result<i64, AllocError>
+pub fn local_day(zone: &Zone, minute: i64) -> i64
     requires zone { IsZone zone.now }
     requires minute { InZoneYears minute }
-    ensures exact { result ≡ Ok (day_in zone.now minute) }
-    ensures day { IsDay (day_in zone.now minute) }
+    ensures exact { result ≡ day_in zone.now minute }
+    ensures day { IsDay result }
 {
-    Ok(zone.local(minute)?.minute.div_euclid(MINUTES_OF_DAY))
+    zone.local(minute).minute.div_euclid(MINUTES_OF_DAY)
 }
 
 /// The days from the least to the greatest local date of a span, which has a minute, and of events.
-pub fn days_of(events: &[Event], zone: &Zone, begin: i64, end: i64) -> Result<Days, AllocError>
+pub fn days_of(events: &[Event], zone: &Zone, begin: i64, end: i64) -> Days
     requires zone { IsZone zone.now }
     requires begin { InZoneYears begin }
     requires end { InZoneYears end }
     requires some { begin <ℤ end }
     requires years { All (λ event. InZoneYears event.minute) events.now }
-    ensures exact { IfOk result (λ days. days ≡ record { first = first_day zone.now events.now begin end; last = last_day zone.now events.now begin end }) }
-    ensures days { IfOk result (λ days. AreDays days.first days.last) }
-    ensures among { IfOk result (λ days. All (IsAmong zone.now days.first days.last) events.now) }
+    ensures exact { result ≡ record { first = first_day zone.now events.now begin end; last = last_day zone.now events.now begin end } }
+    ensures days { AreDays result.first result.last }
+    ensures among { All (IsAmong zone.now result.first result.last) events.now }
 {
-    days_between(zone, begin, end - 1)?.with_events(events, zone)
+    days_between(zone, begin, end - 1).with_events(events, zone)
 }
 
 /// The days from the local date of one minute to that of another, whichever comes first.
-fn days_between(zone: &Zone, minute: i64, other: i64) -> Result<Days, AllocError>
+fn days_between(zone: &Zone, minute: i64, other: i64) -> Days
     requires zone { IsZone zone.now }
     requires minute { InZoneYears minute }
     requires other { InZoneYears other }
-    ensures exact { IfOk result (λ days. days ≡ record { first = int_min (day_in zone.now minute) (day_in zone.now other); last = int_max (day_in zone.now minute) (day_in zone.now other) }) }
-    ensures days { IfOk result (λ days. AreDays days.first days.last) }
+    ensures exact { result ≡ record { first = int_min (day_in zone.now minute) (day_in zone.now other); last = int_max (day_in zone.now minute) (day_in zone.now other) } }
+    ensures days { AreDays result.first result.last }
 {
-    let day = local_day(zone, minute)?;
+    let day = local_day(zone, minute);
     let alone = Days {
         first: day,
         last: day,
     };
-    Ok(alone.with_day(local_day(zone, other)?))
+    alone.with_day(local_day(zone, other))
 }

@@ -32,7 +32,7 @@ pub fn pages_shown(
     if begin == end {
         return Ok(Vec::new(alloc));
     }
-    let days = days_of(events, zone, begin, end)?;
+    let days = days_of(events, zone, begin, end);
     pages_of(alloc, events, zone, days)
 }
 
@@ -52,7 +52,7 @@ fn pages_of(
 {
     let mut pages = empty_pages(alloc, days)?;
     for event in events {
-        let place = place_of(event, zone, days)?;
+        let place = place_of(event, zone, days);
         pages[place].push(*event)?;
     }
     Ok(pages)
@@ -70,13 +70,12 @@ fn empty_pages(alloc: Global, days: Days) -> Result<Vec<Page>, AllocError>
 }
 
 /// How many days after the first one an event's date comes.
-fn place_of(event: &Event, zone: &Zone, days: Days) -> Result<usize, AllocError>
+fn place_of(event: &Event, zone: &Zone, days: Days) -> usize
     requires zone { IsZone zone.now }
     requires days { AreDays days.first days.last }
     requires year { InZoneYears event.now.minute }
     requires among { IsAmong zone.now days.first days.last event.now }
-    ensures { IfOk result (λ place. pos place ≡ day_in zone.now event.now.minute -ℤ days.first) }
+    ensures { pos result ≡ day_in zone.now event.now.minute -ℤ days.first }
 {
-    let day = local_day(zone, event.minute)?;
-    Ok(days.place_of(day))
+    days.place_of(local_day(zone, event.minute))
 }

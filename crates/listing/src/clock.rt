@@ -52,7 +52,7 @@ fn push_now(
     requires now { InZoneYears now }
     ensures { OnOk result (text.new.items ≡ text.old.items ++ now_line_of zone.now units now level rising) }
 {
-    let local = zone.local(now)?;
+    let local = zone.local(now);
     let mut height = ArrayString::new();
     height_line(&local, level, units, &mut height);
     text.extend_from_slice(b"Now ")?;

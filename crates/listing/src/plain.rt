@@ -93,7 +93,7 @@ fn push_event(
     requires listed { IsListed units event.now }
     ensures { OnOk result (text.new.items ≡ text.old.items ++ event_line_in zone.now units event.now) }
 {
-    let local = zone.local(event.minute)?;
+    let local = zone.local(event.minute);
     let mut line = ArrayString::new();
     event_line(&local, event, units, &mut line);
     text.extend_from_slice(line.as_str().as_bytes())
@@ -104,7 +104,7 @@ fn push_row(text: &mut Vec<u8>, units: Units, row: &Row, zone: &Zone) -> Result<
     requires minute { InZoneYears row.now.minute }
     ensures { OnOk result (text.new.items ≡ text.old.items ++ row_line_in zone.now units row.now) }
 {
-    let local = zone.local(row.minute)?;
+    let local = zone.local(row.minute);
     let mut line = ArrayString::new();
     height_line(&local, row.level, units, &mut line);
     line.push('\n');

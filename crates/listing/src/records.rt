@@ -139,12 +139,12 @@ struct Texts {
     level: ArrayString<24>,
 }
 
-fn texts_of(minute: i64, level: i64, zone: &Zone) -> Result<Texts, AllocError>
+fn texts_of(minute: i64, level: i64, zone: &Zone) -> Texts
     requires zone { IsZone zone.now }
     requires minute { InZoneYears minute }
-    ensures moment { IfOk result (λ texts. texts.moment.bytes ≡ moment_text minute) }
-    ensures local { IfOk result (λ texts. texts.local.bytes ≡ time_in zone.now minute) }
-    ensures level { IfOk result (λ texts. texts.level.bytes ≡ millionths_text level) }
+    ensures moment { result.moment.bytes ≡ moment_text minute }
+    ensures local { result.local.bytes ≡ time_in zone.now minute }
+    ensures level { result.level.bytes ≡ millionths_text level }
 {
     let mut texts = Texts {
         moment: ArrayString::new(),
@@ -152,9 +152,9 @@ fn texts_of(minute: i64, level: i64, zone: &Zone) -> Result<Texts, AllocError>
         level: ArrayString::new(),
     };
     write_moment(minute, &mut texts.moment);
-    write_time(zone.local(minute)?.minute, &mut texts.local);
+    write_time(zone.local(minute).minute, &mut texts.local);
     write(level, 6, &mut texts.level);
-    Ok(texts)
+    texts
 }
 
 fn push_event(
@@ -170,7 +170,7 @@ fn push_event(
     ensures end { OnOk result (IsAtRecord records.new) }
     ensures bytes { OnOk result (written records.new ≡ written records.old ++ record_of (event_fields name.now units zone.now event.now)) }
 {
-    let texts = texts_of(event.minute, event.level, zone)?;
+    let texts = texts_of(event.minute, event.level, zone);
     let word = word(units, event.kind, event.level);
     push_event_texts(
         records,
@@ -219,7 +219,7 @@ fn push_row(
     ensures end { OnOk result (IsAtRecord records.new) }
     ensures bytes { OnOk result (written records.new ≡ written records.old ++ record_of (row_fields name.now units zone.now row.now)) }
 {
-    let texts = texts_of(row.minute, row.level, zone)?;
+    let texts = texts_of(row.minute, row.level, zone);
     push_row_texts(records, name.as_str(), &texts, unit_text(units))
 }
 

@@ -44,47 +44,47 @@ impl Header {
 }
 
 /// The field in a column, counted from 0, or no byte where there is none.
-pub fn field(record: &ByteRecord, column: usize) -> &[u8]
-    ensures { result.now ≡ field_of (fields_of record.now) column }
+pub fn field(fields: &ByteRecord, column: usize) -> &[u8]
+    ensures { result.now ≡ field_of (fields_of fields.now) column }
 {
-    match record.get(column) {
+    match fields.get(column) {
         Some(field) => field,
         None => &[],
     }
 }
 
 /// Whether the fields of a record are those names.
-fn has_names(record: &ByteRecord, names: &[&str]) -> bool
-    ensures { result ≡ pointwise bytes_eq (fields_of record.now) (map (λ name. name.now) names.now) }
+fn has_names(fields: &ByteRecord, names: &[&str]) -> bool
+    ensures { result ≡ pointwise bytes_eq (fields_of fields.now) (map (λ name. name.now) names.now) }
 {
-    if record.len() != names.len() {
+    if fields.len() != names.len() {
         return false;
     }
     for (column, name) in names.iter().enumerate() {
-        if field(record, column) != name.as_bytes() {
+        if field(fields, column) != name.as_bytes() {
             return false;
         }
     }
     true
 }
 
-fn has_columns(record: &ByteRecord, header: Header) -> bool
-    ensures { result ≡ has_columns header (fields_of record.now) }
+fn has_columns(fields: &ByteRecord, header: Header) -> bool
+    ensures { result ≡ has_columns header (fields_of fields.now) }
 {
     match header {
-        Header::Plain => has_names(record, COLUMNS.split_at(8).0),
-        Header::WithSlack => has_names(record, &COLUMNS),
+        Header::Plain => has_names(fields, COLUMNS.split_at(8).0),
+        Header::WithSlack => has_names(fields, &COLUMNS),
     }
 }
 
 /// Which header a table's first record is.
 #[tactic(auto, unfolding(crate::specs::Table::header_of))]
-pub fn header_of(record: &ByteRecord) -> Result<Header, OffsetFault>
-    ensures { result ≡ header_of (fields_of record.now) }
+pub fn header_of(fields: &ByteRecord) -> Result<Header, OffsetFault>
+    ensures { result ≡ header_of (fields_of fields.now) }
 {
-    if has_columns(record, Header::Plain) {
+    if has_columns(fields, Header::Plain) {
         Ok(Header::Plain)
-    } else if has_columns(record, Header::WithSlack) {
+    } else if has_columns(fields, Header::WithSlack) {
         Ok(Header::WithSlack)
     } else {
         Err(NO_HEADER)

@@ -65,13 +65,13 @@ fn records_of(alloc: Global, bytes: &[u8]) -> ByteRecordsIntoIter<&[u8]>
 fn offsets_at(
     alloc: Global,
     row: u32,
-    record: &ByteRecord,
+    fields: &ByteRecord,
     header: Header,
 ) -> Result<Offsets, OffsetFault>
-    ensures exact { Gives wants_memory (at_row row (offsets_of header (fields_of record.now))) result }
+    ensures exact { Gives wants_memory (at_row row (offsets_of header (fields_of fields.now))) result }
     ensures sound { IfOk result IsOffsets }
 {
-    match row_of(record, header) {
+    match row_of(fields, header) {
         Ok(offsets) => Ok(offsets.to_offsets(alloc)?),
         Err(why) => Err(OffsetFault::At { row, why }),
     }

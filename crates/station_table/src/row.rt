@@ -28,22 +28,22 @@ pub struct Row<'a> {
 
 /// The row of a record, or the first reason why it is none.
 #[tactic(auto, unfolding(crate::specs::Table::offsets_of))]
-pub fn row_of(record: &ByteRecord, header: Header) -> Result<Row<'_>, OffsetWhy>
-    ensures exact { Reads offsets_in (offsets_of header (fields_of record.now)) result }
+pub fn row_of(fields: &ByteRecord, header: Header) -> Result<Row<'_>, OffsetWhy>
+    ensures exact { Reads offsets_in (offsets_of header (fields_of fields.now)) result }
     ensures sound { IfOk result (λ row. IsOffsets (offsets_in row)) }
 {
-    if record.len() != header.count() {
+    if fields.len() != header.count() {
         return Err(OffsetWhy::FieldCount);
     }
-    let own = name(field(record, 0))?;
-    let reference = name(field(record, 1))?;
-    let high_add = add(field(record, 2))?;
-    let low_add = add(field(record, 3))?;
-    let high_times = times(field(record, 4))?;
-    let low_times = times(field(record, 5))?;
-    let high_plus = plus(field(record, 6))?;
-    let low_plus = plus(field(record, 7))?;
-    let slack = slack(record, header)?;
+    let own = name(field(fields, 0))?;
+    let reference = name(field(fields, 1))?;
+    let high_add = add(field(fields, 2))?;
+    let low_add = add(field(fields, 3))?;
+    let high_times = times(field(fields, 4))?;
+    let low_times = times(field(fields, 5))?;
+    let high_plus = plus(field(fields, 6))?;
+    let low_plus = plus(field(fields, 7))?;
+    let slack = slack(fields, header)?;
     Ok(Row {
         name: own,
         reference,
@@ -63,15 +63,15 @@ pub fn row_of(record: &ByteRecord, header: Header) -> Result<Row<'_>, OffsetWhy>
 
 /// The times of slack water, where the row has both.
 #[tactic(auto, unfolding(crate::specs::Table::slack_of))]
-fn slack(record: &ByteRecord, header: Header) -> Result<Option<Slack>, OffsetWhy>
-    ensures exact { result ≡ slack_of header (fields_of record.now) }
+fn slack(fields: &ByteRecord, header: Header) -> Result<Option<Slack>, OffsetWhy>
+    ensures exact { result ≡ slack_of header (fields_of fields.now) }
     ensures sound { IfOk result (λ slack. ForSome slack IsSlack) }
 {
     match header {
         Header::Plain => Ok(None),
         Header::WithSlack => {
-            let flood = field(record, 8);
-            let ebb = field(record, 9);
+            let flood = field(fields, 8);
+            let ebb = field(fields, 9);
             let flood_add = add(flood)?;
             let ebb_add = add(ebb)?;
             match (flood.is_empty(), ebb.is_empty()) {

@@ -92,9 +92,7 @@ fn line_of(units: Units, event: &Event, zone: &Zone) -> ArrayString<96>
     requires listed { IsListed units event.now }
     ensures { result.bytes ≡ event_line_in zone.now units event.now }
 {
-    let Ok(local) = zone.local(event.minute) else {
-        unreachable!()
-    };
+    let local = zone.local(event.minute);
     let mut line = ArrayString::new();
     event_line(&local, event, units, &mut line);
     line

@@ -1,12 +1,11 @@
 //! Zones: where a clock stands.
 
-ghost use Rattle.std.specs.Prelude.{◌≡◌, Ok};
+ghost use Rattle.std.specs.Prelude.{◌≡◌};
 ghost use Rattle.zone_time.specs.Locals.{IsLocal};
 ghost use Rattle.zone_time.specs.Zones.{IsZone, InZoneYears, local_in};
 
 use crate::local::{Label, Local};
 use crate::zone_file::ZoneFile;
-use std::alloc::AllocError;
 
 /// The zone whose clock shows local times.
 #[derive(Debug, Drop)]
@@ -25,25 +24,22 @@ impl Zone {
     /// of the years from 2 to 9300, or of the day before them, and a fixed zone at most 1560 minutes
     /// from universal time. Seconds are cut off. A label of minutes is the local minute less the
     /// minute.
-    ///
-    /// # Errors
-    /// [`AllocError`] never comes: the clock of a file is looked up in place.
-    pub fn local(&self, minute: i64) -> Result<Local, AllocError>
+    pub fn local(&self, minute: i64) -> Local
         requires zone { IsZone self.now }
         requires minute { InZoneYears minute }
-        ensures exact { result ≡ Ok (local_in self.now minute) }
-        ensures written { IsLocal (local_in self.now minute) }
+        ensures exact { result ≡ local_in self.now minute }
+        ensures written { IsLocal result }
     {
         match self {
-            Zone::Utc => Ok(Local {
+            Zone::Utc => Local {
                 minute,
                 label: Label::Utc,
-            }),
-            Zone::Fixed(ahead) => Ok(Local {
+            },
+            Zone::Fixed(ahead) => Local {
                 minute: minute + i64::from(*ahead),
                 label: Label::Minutes(*ahead),
-            }),
-            Zone::File(file) => Ok(file.local(minute)),
+            },
+            Zone::File(file) => file.local(minute),
         }
     }
 }

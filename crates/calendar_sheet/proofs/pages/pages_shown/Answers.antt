@@ -7,6 +7,6 @@ pub returns-clause-exact : goal.returns-clause-exact
 returns-clause-exact c =
     let begin : FitsSigned w64 c.args.begin = c.ranges.begin in
     let end : FitsSigned w64 c.args.end = c.ranges.end in
-    let days = simp to_z-of_z at c.in_ok-days.ensures.exact in
+    let days = simp to_z-of_z at c.days_of-days.ensures.exact in
     let before = before_test c.args.begin c.args.end c.requires.forward (λ same. c.if-begin-end.false (ap (λ z. of_z w64 z) same)) in
     rw before (rw days at c.pages_of.ensures.exact)
