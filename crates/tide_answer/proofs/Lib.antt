@@ -7,7 +7,6 @@ pub mod FoundLemmas
 pub mod LawLemmas
 pub mod LevelLemmas
 pub mod LevelSteps
-pub mod LoadingLemmas
 pub mod MovableLemmas
 pub mod NameLemmas
 pub mod ReadyLemmas

@@ -4,7 +4,6 @@ pub mod Faults
 pub mod Following
 pub mod Givens
 pub mod Laws
-pub mod Loading
 pub mod Rejections
 pub mod Sites
 pub mod Statuses

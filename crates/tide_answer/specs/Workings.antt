@@ -1,6 +1,5 @@
 pub mod Certifying
 pub mod Curves
-pub mod Feeding
 pub mod Levels
 pub mod Sending
 pub mod Spans

@@ -14,8 +14,8 @@ use Rattle.station_table.specs.declared.offsets.Offsets.{Offsets as Row}
 use Rattle.station_table.specs.Table.{table_of}
 use Rattle.tide_answer.specs.declared.fault.Fault.TheVariants.{TooLong, Book, Offsets, BadZone, Refused}
 use Rattle.tide_answer.specs.declared.given.Given.{Given}
-use Rattle.tide_answer.specs.declared.loading.LoadFault.{LoadFault}
-use Rattle.tide_answer.specs.declared.loading.LoadFault.TheVariants as load
+use Rattle.book_loading.specs.declared.loading.LoadFault.{LoadFault}
+use Rattle.book_loading.specs.declared.loading.LoadFault.TheVariants as load
 use Rattle.tide_answer.specs.declared.refusal.Refusal.TheVariants.{NoMemory}
 use Rattle.tide_answer.specs.declared.slot.Slot.{Slot}
 use Rattle.tide_answer.specs.declared.slot.Slot.TheVariants as slots

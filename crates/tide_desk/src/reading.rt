@@ -15,12 +15,13 @@ ghost use Rattle.tide_desk.specs.Workings.Meetings.{MeetsIf};
 
 use crate::materials::Materials;
 use crate::no_answer::NoAnswer;
+use book_loading::{LoadFault, load_book};
 use decimal_text::{Bytes, Text};
 use harmonics_text::Book;
 use question::{Question, ZoneWord};
 use station_table::{OffsetTable, read_offsets};
 use std::alloc::Global;
-use tide_answer::{Fault, LoadFault, Refusal, Slot, load_book};
+use tide_answer::{Fault, Refusal, Slot};
 use tide_edge::{Files, ReadAllFault, read_all};
 use zone_time::{Zone, ZoneFault, read_zone};
 

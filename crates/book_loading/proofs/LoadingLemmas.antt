@@ -1,0 +1,79 @@
+-- What loading gives, from what its reading and its form give.
+use Rattle.std.proofs.Common.{◌≡◌, ℕ, suc, ◌≤◌, Bool, List, ◌++◌, length, append_assoc, Option, Some, None, Result, Ok, Err, ap, sym, ◌∙◌, refl, arith}
+use Rattle.std.specs.Bool.{IsTrue}
+use Rattle.std.specs.Prelude.{replicate}
+use Rattle.std.proofs.lemmas.Bool.{le-leb, lt-leb}
+use Rattle.std.proofs.lemmas.Grind.{common_steps}
+use Rattle.std.proofs.lemmas.List.{length-replicate}
+use Rattle.decimal_text.specs.Expected.{Excused}
+use Rattle.harmonics_text.specs.declared.book.Book.{Book as TheBook}
+use Rattle.harmonics_text.specs.declared.fault.BookFault.{BookFault}
+use Rattle.harmonics_text.specs.declared.fault.BookFault.TheVariants as form
+use Rattle.harmonics_text.specs.Reading.{FailsBook, book_of}
+use Rattle.tide_edge.specs.declared.read_all_fault.ReadAllFault.{ReadAllFault}
+use Rattle.tide_edge.specs.declared.read_all_fault.ReadAllFault.TheVariants as reading
+use Rattle.tide_edge.specs.Excuses.{Excuses, Meets}
+use Rattle.tide_edge.specs.Whole.{whole, source_of as source_of_reading}
+use Rattle.book_loading.specs.declared.loading.LoadFault.{LoadFault}
+use Rattle.book_loading.specs.declared.loading.LoadFault.TheVariants.{Failed, Book}
+use Rattle.book_loading.specs.Loading.{IsStopped, loaded, fault_of_reading, source_of, wants_memory}
+
+-- where reading has a fault
+pub excuses_reading : (limit : ℕ) (steady : Bool) (file : Option (List ℕ)) (fault : ReadAllFault) → Excuses (source_of_reading fault) steady (whole limit file) fault → Excuses (source_of (fault_of_reading fault)) steady (loaded limit file) (fault_of_reading fault)
+unfolding loaded
+excuses_reading limit steady file reading.Failed excused = λ s. rw (excused s) refl
+excuses_reading limit steady file reading.TooLong excused = rw excused refl
+excuses_reading limit steady file reading.NoMemory excused = tt
+
+long_file : (limit : ℕ) → (file : Option (List ℕ)) × (whole limit file ≡ Err reading.TooLong)
+long_file limit =
+    let bytes : List ℕ = replicate (suc limit) 0 in
+    (Some bytes, rw (lt-leb (length bytes) limit (omega (arith, length-replicate {A = ℕ} (suc limit) 0))) refl)
+
+pub some_reading : (limit : ℕ) (fault : ReadAllFault) → (file : Option (List ℕ)) × Excused (wants_memory (fault_of_reading fault)) (loaded limit file) (fault_of_reading fault)
+unfolding loaded
+some_reading limit reading.Failed = (None, refl)
+some_reading limit reading.TooLong = let long = long_file limit in (long.0, rw long.1 refl)
+some_reading limit reading.NoMemory = (None, tt)
+
+-- where the form has one
+pub excuses_form : (limit : ℕ) (steady : Bool) (file : Option (List ℕ)) (bytes : List ℕ) (fault : BookFault) → whole limit file ≡ Ok bytes → FailsBook fault (book_of bytes) → Excuses (source_of (Book fault)) steady (loaded limit file) (Book fault)
+unfolding loaded
+excuses_form limit steady file bytes form.NoMemory read fails = tt
+excuses_form limit steady file bytes (form.At line why) read fails = rw (read, fails) refl
+
+whole_within : (limit : ℕ) (bytes : List ℕ) → length bytes ≤ limit → whole limit (Some bytes) ≡ Ok bytes
+whole_within limit bytes within = rw (le-leb (length bytes) limit within) refl
+
+pub some_form : (limit : ℕ) (bytes : List ℕ) (fault : BookFault) → length bytes ≤ limit → FailsBook fault (book_of bytes) → Excused (wants_memory (Book fault)) (loaded limit (Some bytes)) (Book fault)
+unfolding loaded
+some_form limit bytes form.NoMemory within fails = tt
+some_form limit bytes (form.At line why) within fails = rw (whole_within limit bytes within, fails) refl
+
+-- where neither has
+pub loaded_whole : (limit : ℕ) (file : Option (List ℕ)) (bytes : List ℕ) (book : TheBook) → whole limit file ≡ Ok bytes → book_of bytes ≡ Ok book → loaded limit file ≡ Ok book
+unfolding loaded
+loaded_whole limit file bytes book read gives = rw (read, gives) refl
+
+pub loaded_within : (limit : ℕ) (bytes : List ℕ) (book : TheBook) → length bytes ≤ limit → book_of bytes ≡ Ok book → loaded limit (Some bytes) ≡ Ok book
+loaded_within limit bytes book within = loaded_whole limit (Some bytes) bytes book (whole_within limit bytes within)
+
+-- where more came than may
+pub stopped : (limit : ℕ) (file read before piece left : List ℕ) → file ≡ read ++ before → before ≡ piece ++ left → length read ≤ limit → length piece ≤ 65536 → IsStopped limit (Some file) left
+stopped limit file read before piece left so_far next few one = record {
+  read = read ++ piece;
+  parts = ap Some (so_far ∙ ap (λ xs. read ++ xs) next ∙ sym (append_assoc read piece left));
+  within = grind (arith, common_steps, few, one);
+}
+
+pub stopped_opened : (limit : ℕ) (file : Option (List ℕ)) (rest left : List ℕ) → file ≡ Some rest → IsStopped limit (Some rest) left → IsStopped limit file left
+stopped_opened limit file rest left is stops = rw is stops
+
+-- where no file was opened
+pub unopened : (limit : ℕ) (steady : Bool) (file : Option (List ℕ)) → (IsTrue steady → file ≡ None) → IsTrue steady → loaded limit file ≡ Err Failed
+unfolding loaded
+unopened limit steady file absent = λ s. rw (absent s) refl
+
+-- what loading the rest gave, where the rest is the whole file
+pub meets_opened : (limit : ℕ) (file : Option (List ℕ)) (rest : List ℕ) (before now : Bool) (result : Result TheBook LoadFault) → file ≡ Some rest → now ≡ before → Meets source_of now (loaded limit (Some rest)) result → Meets source_of before (loaded limit file) result
+meets_opened limit file rest before now result is same meets = rw (is, ← same) meets

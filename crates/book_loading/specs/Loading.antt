@@ -1,0 +1,52 @@
+-- A book loaded from a file, whose reading comes before its form (this project).
+use Rattle.std.specs.Prelude.{◌≡◌, ◌≤◌, ◌+◌, ℕ, Bool, true, false, List, ◌++◌, length, Option, Some, Result, Ok, Err}
+use Rattle.decimal_text.specs.Expected.{◌>>=◌}
+use Rattle.harmonics_text.specs.declared.book.Book.{Book as TheBook}
+use Rattle.harmonics_text.specs.declared.fault.BookFault.TheVariants as form
+use Rattle.harmonics_text.specs.Reading.{At, book_of}
+use Rattle.tide_edge.specs.declared.read_all_fault.ReadAllFault.{ReadAllFault}
+use Rattle.tide_edge.specs.declared.read_all_fault.ReadAllFault.TheVariants as reading
+use Rattle.tide_edge.specs.Excuses.{Source, memory, outside, given}
+use Rattle.tide_edge.specs.Whole.{whole}
+use Rattle.book_loading.specs.declared.loading.LoadFault.{LoadFault}
+use Rattle.book_loading.specs.declared.loading.LoadFault.TheVariants.{Failed, TooLong, Book}
+
+abbrev pub fault_of_reading : ReadAllFault → LoadFault
+fault_of_reading reading.Failed = Failed
+fault_of_reading reading.TooLong = TooLong
+fault_of_reading reading.NoMemory = Book form.NoMemory
+
+-- its bytes, or the fault of reading them
+abbrev pub bytes_from : Result (List ℕ) ReadAllFault → Result (List ℕ) LoadFault
+bytes_from (Ok bytes) = Ok bytes
+bytes_from (Err fault) = Err (fault_of_reading fault)
+
+-- their book, or the first line that breaks a rule
+abbrev pub book_from : Result TheBook At → Result TheBook LoadFault
+book_from (Ok book) = Ok book
+book_from (Err at) = Err (Book (form.At at.line at.why))
+
+-- of what the map of the files has under the name: its book, if it has at most `limit` bytes
+unfoldable pub loaded : ℕ → Option (List ℕ) → Result TheBook LoadFault
+loaded limit file = do
+  bytes ← bytes_from (whole limit file)
+  book_from (book_of bytes)
+
+-- a file was read from its begin, by at most a piece of 65,536 bytes past the limit, and the others are left
+pub record IsStopped (limit : ℕ) (file : Option (List ℕ)) (left : List ℕ) : Type 0 where
+  pub read : List ℕ
+  pub parts : file ≡ Some (read ++ left)
+  pub within : length read ≤ limit + 65536
+
+-- where each fault comes from
+abbrev pub source_of : LoadFault → Source
+source_of Failed = outside
+source_of TooLong = given
+source_of (Book form.NoMemory) = memory
+source_of (Book (form.At line why)) = given
+
+abbrev pub wants_memory : LoadFault → Bool
+wants_memory Failed = false
+wants_memory TooLong = false
+wants_memory (Book form.NoMemory) = true
+wants_memory (Book (form.At line why)) = false

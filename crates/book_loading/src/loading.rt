@@ -1,0 +1,159 @@
+//! Loading a book from a file, in pieces.
+
+ghost use Rattle.std.specs.Prelude.{◌≡◌, ◌<◌, ◌≤◌, ℕ, List, [], length, Option, Some, IfOk, IsErrOf};
+ghost use Rattle.decimal_text.specs.Expected.{Gives};
+ghost use Rattle.harmonics_text.specs.Books.{IsBook};
+ghost use Rattle.book_loading.specs.Loading.{IsStopped, loaded, source_of, wants_memory};
+ghost use Rattle.book_loading.specs.Workings.Feeding.{bytes_fed};
+ghost use Rattle.tide_edge.specs.Excuses.{Meets, is_outside_fault};
+ghost use Rattle.tide_edge.specs.Faults.{faults_after, Rose};
+ghost use Rattle.tide_edge.specs.Whole.{whole, source_of as source_of_reading};
+
+use decimal_text::Text;
+use harmonics_text::{Book, BookFault, BookReader};
+use std::alloc::{AllocError, Global};
+use tide_edge::{Files, ReadAllFault};
+
+/// Why a file wasn't loaded.
+#[derive(Clone, Copy, Debug, PartialEq, Eq)]
+pub enum LoadFault {
+    /// Opening or reading the file failed.
+    Failed,
+    /// More bytes came than were allowed.
+    TooLong,
+    /// The file isn't of its form, or memory was wanting.
+    Book(BookFault),
+}
+
+const PIECE: usize = 65_536;
+
+/// Loads the book of the file of that name, if it has at most `limit` bytes, which are at most
+/// 400,000,000. The file is read in pieces of at most 65,536 bytes, and none of them is kept. It is
+/// read on after a line that breaks a rule, so that a fault of reading comes first.
+///
+/// # Errors
+/// [`LoadFault::Failed`] only where the count of `files` rose, and over steady files only where there
+/// is no file of that name; [`LoadFault::TooLong`] where the file has more than `limit` bytes, of
+/// which at most a piece too many is read;
+/// [`LoadFault::Book`] with the file's first bad line where neither holds, or with want of memory.
+pub fn load_book<F: Files>(
+    alloc: Global,
+    files: &mut F,
+    name: &Text,
+    limit: u64,
+) -> Result<Book, LoadFault>
+    requires { limit ≤ 400000000 }
+    ensures own { F.tells files.old
+        → Meets source_of (F.steady files.old) (loaded limit (F.folder files.old name.now)) result }
+    ensures some { (file : Option (List ℕ)) × Gives wants_memory (loaded limit file) result }
+    ensures sound { IfOk result IsBook }
+    ensures counts { F.faults files.new ≡ faults_after (is_outside_fault source_of result) (F.faults files.old) }
+    ensures failed { IsErrOf result LoadFault.Failed → Rose (F.faults files.old) (F.faults files.new) }
+    ensures stops { F.tells files.old → IsErrOf result LoadFault.TooLong → IsStopped limit (F.folder files.old name.now) (F.rest files.new) }
+    ensures same_files { F.folder files.new ≡ F.folder files.old }
+    ensures as_steady { F.steady files.new ≡ F.steady files.old }
+    ensures still_tells { F.tells files.old → F.tells files.new }
+{
+    let mut room = vec![in alloc; 0; PIECE]?;
+    let reader = BookReader::new(alloc)?;
+    match files.open(name) {
+        Ok(()) => load_rest(files, &mut room, reader, limit),
+        Err(_) => Err(LoadFault::Failed),
+    }
+}
+
+/// Loads the book of the rest of the open file.
+fn load_rest<F: Files>(
+    files: &mut F,
+    room: &mut [u8],
+    reader: BookReader,
+    limit: u64,
+) -> Result<Book, LoadFault>
+    requires room { length room.old ≡ 65536 }
+    requires unfed { reader.bytes ≡ [] }
+    requires most { limit ≤ 400000000 }
+    ensures own { F.tells files.old
+        → Meets source_of (F.steady files.old) (loaded limit (Some (F.rest files.old))) result }
+    ensures some { (file : Option (List ℕ)) × Gives wants_memory (loaded limit file) result }
+    ensures sound { IfOk result IsBook }
+    ensures counts { F.faults files.new ≡ faults_after (is_outside_fault source_of result) (F.faults files.old) }
+    ensures stops { F.tells files.old → IsErrOf result LoadFault.TooLong → IsStopped limit (Some (F.rest files.old)) (F.rest files.new) }
+    ensures same_files { F.folder files.new ≡ F.folder files.old }
+    ensures as_steady { F.steady files.new ≡ F.steady files.old }
+    ensures still_tells { F.tells files.old → F.tells files.new }
+{
+    let reader = feed_rest(files, room, reader, limit)?;
+    Ok(reader.finish()?)
+}
+
+/// Feeds the rest of the open file to a new reader in pieces of the room's size, if at most `limit`
+/// bytes are left. What the reader finds is told when it finishes.
+fn feed_rest<F: Files>(
+    files: &mut F,
+    room: &mut [u8],
+    mut reader: BookReader,
+    limit: u64,
+) -> Result<BookReader, ReadAllFault>
+    requires room { length room.old ≡ 65536 }
+    requires unfed { reader.bytes ≡ [] }
+    requires most { limit ≤ 400000000 }
+    ensures whole { F.tells files.old
+        → Meets source_of_reading (F.steady files.old) (whole limit (Some (F.rest files.old))) (bytes_fed result) }
+    ensures within { IfOk result (λ reader. length reader.bytes ≤ limit) }
+    ensures counts { F.faults files.new ≡ faults_after (is_outside_fault source_of_reading result) (F.faults files.old) }
+    ensures stops { F.tells files.old → IsErrOf result ReadAllFault.TooLong → IsStopped limit (Some (F.rest files.old)) (F.rest files.new) }
+    ensures same_files { F.folder files.new ≡ F.folder files.old }
+    ensures as_steady { F.steady files.new ≡ F.steady files.old }
+    ensures still_tells { F.tells files.old → F.tells files.new }
+{
+    let mut fed = 0;
+    loop {
+        let count = files.read(room)?;
+        if count == 0 {
+            return Ok(reader);
+        }
+        if count as u64 > limit - fed {
+            return Err(ReadAllFault::TooLong);
+        }
+        let _ = reader.feed(&room[..count]);
+        fed += count as u64;
+    }
+}
+
+impl From<ReadAllFault> for LoadFault {
+    ghost use Rattle.std.specs.Prelude.{◌≡◌};
+    ghost use Rattle.book_loading.specs.Loading.{fault_of_reading};
+
+    ghost from_gives = { λ reading fault. fault ≡ fault_of_reading reading };
+
+    fn from(fault: ReadAllFault) -> LoadFault {
+        match fault {
+            ReadAllFault::Failed => LoadFault::Failed,
+            ReadAllFault::TooLong => LoadFault::TooLong,
+            ReadAllFault::NoMemory => LoadFault::Book(BookFault::NoMemory),
+        }
+    }
+}
+
+impl From<BookFault> for LoadFault {
+    ghost use Rattle.std.specs.Prelude.{◌≡◌};
+    ghost use Rattle.book_loading.specs.declared.loading.LoadFault.TheVariants.{Book};
+
+    ghost from_gives = { λ form fault. fault ≡ Book form };
+
+    fn from(fault: BookFault) -> LoadFault {
+        LoadFault::Book(fault)
+    }
+}
+
+impl From<AllocError> for LoadFault {
+    ghost use Rattle.std.specs.Prelude.{◌≡◌};
+    ghost use Rattle.harmonics_text.specs.declared.fault.BookFault.TheVariants.{NoMemory};
+    ghost use Rattle.book_loading.specs.declared.loading.LoadFault.TheVariants.{Book};
+
+    ghost from_gives = { λ _ fault. fault ≡ Book NoMemory };
+
+    fn from(_: AllocError) -> LoadFault {
+        LoadFault::Book(BookFault::NoMemory)
+    }
+}
