@@ -13,6 +13,3 @@ mod worked;
 
 pub use calendar::calendar_text;
 pub use worked::worked_calendars;
-
-#[cfg(test)]
-mod tests;

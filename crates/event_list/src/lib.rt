@@ -36,6 +36,3 @@ pub use turning::track_events;
 pub use widening::widened;
 pub use worked::worked_rows;
 pub use worked_events::{worked_orders, worked_shifts, worked_stations};
-
-#[cfg(test)]
-mod tests;

@@ -28,6 +28,3 @@ pub use rows::Rows;
 pub use stations::stations_text;
 pub use unit::unit_text;
 pub use worked::{worked_levels, worked_lines, worked_listings, worked_records, worked_stations};
-
-#[cfg(test)]
-mod tests;

@@ -19,6 +19,3 @@ pub use mark::MarkCurve;
 pub use turn::TurnCurve;
 pub use version::Version;
 pub use worked::{worked_marks, worked_rates, worked_turns};
-
-#[cfg(test)]
-mod tests;

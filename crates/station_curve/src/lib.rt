@@ -23,6 +23,3 @@ pub use laws::{
     worked_constants, worked_levels, worked_limits, worked_slopes, worked_sums, worked_waves,
 };
 pub use year_sums::Sums;
-
-#[cfg(test)]
-mod tests;

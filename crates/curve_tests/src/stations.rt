@@ -1,8 +1,8 @@
 ghost use Rattle.std.specs.Prelude.{IfOk};
 ghost use Rattle.harmonics_text.specs.Books.{IsBook};
 
-use super::*;
 use harmonics_text::{Book, BookFault, read_book};
+use station_curve::*;
 use std::alloc::Global;
 use std::test::Fail;
 use year_blend::{Stretch, year_start};

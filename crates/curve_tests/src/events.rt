@@ -4,9 +4,9 @@ ghost use Rattle.station_table.specs.Offsets.{IsSlack};
 ghost use Rattle.event_list.specs.Events.{AreShort};
 ghost use Rattle.event_list.specs.Shifts.{HasOffsets, IsMovable};
 
-use super::*;
 use curve_law::samples::{Line, Ripple};
 use curve_law::{Cell, Cells, Curve, Event, Kind, Tracks};
+use event_list::*;
 use harmonics_text::Units;
 use interval_search::Search;
 use station_table::{Basis, Offset, Slack};

@@ -1,6 +1,6 @@
 use Rattle.std.proofs.Common.{arith}
 use Rattle.std.proofs.lemmas.Int.{ints}
-use Rattle.rate_bound.proofs.tests.told.Goals as goal
+use Rattle.curve_tests.proofs.rates.told.Goals as goal
 
 pub value-end-requires-clause-minute : goal.value-end-requires-clause-minute
 value-end-requires-clause-minute g c =

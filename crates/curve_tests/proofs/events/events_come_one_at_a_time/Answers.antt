@@ -1,7 +1,7 @@
 use Rattle.std.proofs.Common.{◌≤◌, length, arith}
 use Rattle.std.specs.Prelude.{Some, None}
 use Rattle.event_list.proofs.ComingLemmas.{cells-ahead, cover-left}
-use Rattle.event_list.proofs.tests.events_come_one_at_a_time.Goals as goal
+use Rattle.curve_tests.proofs.events.events_come_one_at_a_time.Goals as goal
 
 pub new-merge-requires-clause-few : goal.new-merge-requires-clause-few
 new-merge-requires-clause-few g c =

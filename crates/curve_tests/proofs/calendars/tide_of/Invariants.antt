@@ -1,7 +1,7 @@
 use Rattle.std.proofs.Common.{All}
 use Rattle.harmonics_text.specs.declared.book.Units.TheVariants.{Feet}
 use Rattle.listing.specs.Listings.{IsListed}
-use Rattle.calendar_sheet.proofs.tests.tide_of.Given as goal
+use Rattle.curve_tests.proofs.calendars.tide_of.Given as goal
 
 abbrev pub invariant-loop-minute : goal.invariant-loop-minute
 invariant-loop-minute l = All (IsListed Feet) l.events.items

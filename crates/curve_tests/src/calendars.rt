@@ -2,7 +2,7 @@ ghost use Rattle.std.specs.Prelude.{All, IfOk, IsTrue};
 ghost use Rattle.listing.specs.Listings.{IsListed};
 ghost use Rattle.zone_time.specs.Zones.{IsZone, InZoneYears};
 
-use super::*;
+use calendar_sheet::*;
 use curve_law::{Event, Events, Kind};
 use decimal_text::Text;
 use harmonics_text::Units;

@@ -1,5 +1,5 @@
 use Rattle.std.proofs.Common.{◌≡◌, ◌++◌, length}
-use Rattle.event_list.proofs.tests.taken.Given as goal
+use Rattle.curve_tests.proofs.events.taken.Given as goal
 
 -- the events so far and those that are left are all events
 abbrev pub invariant-loop-event : goal.invariant-loop-event

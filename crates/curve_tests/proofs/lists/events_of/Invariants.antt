@@ -1,6 +1,6 @@
 use Rattle.std.proofs.Common.{All}
 use Rattle.listing.specs.Listings.{IsListed}
-use Rattle.listing.proofs.tests.events_of.Given as goal
+use Rattle.curve_tests.proofs.lists.events_of.Given as goal
 
 abbrev pub invariant-loop-minute : goal.invariant-loop-minute
 invariant-loop-minute l = All (IsListed l.fn.units) l.events.items

@@ -1,9 +1,9 @@
 ghost use Rattle.std.specs.Prelude.{IfOk};
 ghost use Rattle.harmonics_text.specs.Books.{IsBook};
 
-use super::*;
 use curve_law::{Curve, Kind};
 use harmonics_text::{Book, BookFault, read_book};
+use rate_bound::*;
 use station_curve::StationCurve;
 use std::alloc::Global;
 use std::test::Fail;

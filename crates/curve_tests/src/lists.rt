@@ -2,11 +2,11 @@ ghost use Rattle.std.specs.Prelude.{All, IfOk, IsTrue};
 ghost use Rattle.listing.specs.Listings.{IsListed};
 ghost use Rattle.zone_time.specs.Zones.{IsZone, InZoneYears};
 
-use super::*;
 use arrayvec::ArrayString;
 use curve_law::{Event, Events, Kind};
 use decimal_text::Text;
 use harmonics_text::{Units, read_book};
+use listing::*;
 use station_table::read_offsets;
 use std::alloc::{AllocError, Global};
 use std::test::Fail;

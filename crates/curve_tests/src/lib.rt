@@ -1,0 +1,16 @@
+//! Tests of the crates of curves: of levels and rates, of events, and of their listings.
+//!
+//! They see only what is public of those crates. They stand here because a crate with tests is proved
+//! twice: with and without them.
+#![tactic(auto)]
+
+#[cfg(test)]
+mod calendars;
+#[cfg(test)]
+mod events;
+#[cfg(test)]
+mod lists;
+#[cfg(test)]
+mod rates;
+#[cfg(test)]
+mod stations;
