@@ -1,0 +1,264 @@
+//! Files of harmonic constants, and what is wrong with others.
+
+ghost use Rattle.std.specs.Prelude.{◌<◌, ◌≤◌, length};
+
+use crate::texts::{PIER, changed};
+use decimal_text::Text;
+use harmonics_text::{
+    Book, BookFault, BookReader, Constituent, Constituents, Stations, Units, Why, read_book,
+    worked_files, worked_lines,
+};
+use std::alloc::{AllocError, Global};
+use std::test::Fail;
+
+/// The line and the number of a file's fault: two zeros where it has a book.
+fn fault(alloc: Global, bytes: &[u8]) -> (u32, u32) {
+    if bytes.len() > 400_000_000 {
+        return (0, 98);
+    }
+    match read_book(alloc, bytes) {
+        Ok(_) => (0, 0),
+        Err(BookFault::NoMemory) => (0, 99),
+        Err(BookFault::At { line, why }) => (line, why.number()),
+    }
+}
+
+#[test]
+fn the_pier_is_read(rt: HostRuntime) -> Result<(), Fail> {
+    let book = read_book(rt.alloc(), PIER.as_bytes())
+        .ok()
+        .ok_or("the file has a book")?;
+    assert_eq!(rt; book.first_year, 1999);
+    assert_eq!(rt; book.years, 3);
+    assert_eq!(rt; book.angles.as_slice(), [0, 0, 0].as_slice());
+    assert_eq!(rt;
+        book.factors.as_slice(),
+        [1_000_000, 1_000_000, 1_000_000].as_slice()
+    );
+    for constituent in book.constituents.as_slice() {
+        assert_eq!(rt; constituent.name.as_str(), "S2");
+        assert_eq!(rt; constituent.speed, 300_000_000);
+    }
+    assert_eq!(rt; book.stations.as_slice().len(), 1);
+    Ok(())
+}
+
+const REAL: [u8; 227] =
+    *b"# Constituents\r\n2\r\nM2 28.9841042\r\n  S2\t30.0000000  \r\n\r\n2000\r\n1\r\nM2\r\n120.50\r\n# between\r\nS2\r\n0.00\r\n*END*\r\n1\r\nM2\r\n0.9850\r\nS2\r\n1.0000\r\n*END*\r\n# A station\r\nPort\xe9, Bay\r\n-5:00 :America/New_York\r\n2.5 feet\r\nM2 1.234 45.0\r\nS2 0.4 300.0\r\n";
+
+const ELEVEN_YEARS: &str =
+    "1\nM2 28.9841042\n1999\n11\nM2\n0 20 40 60 80 100 120 140 160 180 200\n*END*\n11\nM2\n\
+    0.9800 0.9840 0.9880 0.9920 0.9960 1.0000 1.0040 1.0080 1.0120 1.0160 1.0200\n*END*\n\
+    Pier\n0:00\n1 feet\nM2 3 40\n";
+
+#[test]
+fn a_file_as_people_write_it(rt: HostRuntime) -> Result<(), Fail> {
+    let book = read_book(rt.alloc(), &REAL)
+        .ok()
+        .ok_or("the file has a book")?;
+    assert_eq!(rt; book.constituents.as_slice().len(), 2);
+    assert_eq!(rt; book.angles.as_slice(), [1_205_000_000, 0].as_slice());
+    assert_eq!(rt; book.factors.as_slice(), [985_000, 1_000_000].as_slice());
+    for station in book.stations.as_slice() {
+        assert_eq!(rt; station.name.as_str(), "Port\u{e9}, Bay");
+        assert_eq!(rt; station.meridian, -300);
+        assert_eq!(rt; station.zone.as_str(), "America/New_York");
+        assert_eq!(rt; station.datum, 2_500_000);
+        assert_eq!(rt; station.units, Units::Feet);
+        assert_eq!(rt;
+            station.amplitude.as_slice(),
+            [1_234_000, 400_000].as_slice()
+        );
+        assert_eq!(rt;
+            station.epoch.as_slice(),
+            [450_000_000, 3_000_000_000].as_slice()
+        );
+    }
+    Ok(())
+}
+
+/// A line, its text, and the line and the number of the fault.
+const CHANGES: [(usize, &str, u32, u32); 43] = [
+    (2, "2", 4, 3),
+    (2, "0000000001", 2, 1),
+    (2, "000000001", 0, 0),
+    (3, "S2 30.00000001", 3, 4),
+    (3, "S2 30.00000000", 0, 0),
+    (3, "S2 +30", 0, 0),
+    (3, "S2 360", 0, 0),
+    (3, "S2 0000000000000000030", 3, 3),
+    (3, "*END* 30", 3, 2),
+    (4, "8800", 0, 0),
+    (4, "1999.", 4, 3),
+    (7, "0 0\n0", 0, 0),
+    (7, "0\n\n# c\n0\t\n 0", 0, 0),
+    (7, "-720 720 0", 0, 0),
+    (7, "0 0 y 0 0", 7, 3),
+    (7, "0 0 0.00000001 0", 7, 4),
+    (8, " *END*\t", 0, 0),
+    (9, "500", 9, 6),
+    (11, "10 0 1", 0, 0),
+    (11, "1.0000001 1 1", 11, 4),
+    (12, "*end*", 12, 8),
+    (13, "#", 15, 9),
+    (13, "\t", 15, 9),
+    (13, " # Pier ~\t", 0, 0),
+    (13, "a\tb", 13, 2),
+    (13, "Pier\r ", 13, 2),
+    (14, "-15:59", 0, 0),
+    (14, "+0:30 UTC", 0, 0),
+    (14, "-0:30 ::", 0, 0),
+    (14, ":30", 14, 9),
+    (14, "015:00", 14, 9),
+    (14, "0:00 a b", 14, 9),
+    (15, "-10000 knots^2", 0, 0),
+    (15, "10000 knots", 0, 0),
+    (15, "-10000.000001 meters", 15, 5),
+    (15, "0 feet 1", 15, 10),
+    (16, "S2 -10000 -720", 0, 0),
+    (16, "x 1 0", 0, 0),
+    (16, "x 1 y", 16, 3),
+    (16, "X 0 0", 16, 7),
+    (16, "S2 1", 16, 3),
+    (16, "S2 1 0 0", 16, 3),
+    (16, "# S2 1 0", 17, 11),
+];
+
+#[test]
+fn changes_of_a_line(rt: HostRuntime) -> Result<(), Fail> {
+    for (line, text, at, number) in &CHANGES {
+        let file = changed(rt.alloc(), PIER, *line, text)?;
+        assert_eq!(rt;
+            fault(rt.alloc(), file.as_bytes()),
+            (*at, *number),
+            "line {line}: {text}"
+        );
+    }
+    Ok(())
+}
+
+/// The book of a file that comes in pieces of so many bytes.
+fn read_in_pieces(alloc: Global, bytes: &[u8], count: usize) -> Result<Book, BookFault>
+    requires few { length bytes.now ≤ 400000000 }
+    requires some { 0 < count }
+{
+    let mut reader = BookReader::new(alloc)?;
+    let mut rest = bytes;
+    'pieces: while !rest.is_empty() {
+        let (piece, after) = rest.split_at(count.min(rest.len()));
+        reader.feed(piece)?;
+        rest = after;
+    }
+    reader.finish()
+}
+
+/// What a file comes to that is fed in pieces of so many bytes: its book in words, or its fault.
+fn told_in_pieces(alloc: Global, bytes: &[u8], count: usize) -> Result<String, AllocError> {
+    if bytes.len() > 400_000_000 || count == 0 {
+        return Ok(String::new(alloc));
+    }
+    format!(in alloc; "{:?}", read_in_pieces(alloc, bytes, count))
+}
+
+#[test]
+fn a_file_may_be_cut_anywhere(rt: HostRuntime) -> Result<(), Fail> {
+    let alloc = rt.alloc();
+    for file in [PIER.as_bytes(), REAL.as_slice(), ELEVEN_YEARS.as_bytes()] {
+        let whole = told_in_pieces(alloc, file, file.len())?;
+        assert!(rt; whole.starts_with("Ok("));
+        for count in [1, 7] {
+            assert_eq!(rt;
+                told_in_pieces(alloc, file, count)?.as_str(),
+                whole.as_str()
+            );
+        }
+    }
+    for (line, text, _, _) in &CHANGES {
+        let file = changed(alloc, PIER, *line, text)?;
+        let whole = told_in_pieces(alloc, file.as_bytes(), file.len())?;
+        for count in [1, 7] {
+            let told = told_in_pieces(alloc, file.as_bytes(), count)?;
+            assert_eq!(rt; told.as_str(), whole.as_str(), "line {line}: {text}");
+        }
+    }
+    Ok(())
+}
+
+/// A line, what stands before and behind so many letters there, and the line and the number of the
+/// fault.
+const LETTERS: [(usize, &str, u32, &str, u32, u32); 10] = [
+    (3, "", 32, "", 3, 3),
+    (3, "", 33, "", 3, 2),
+    (13, "", 200, "", 0, 0),
+    (13, "", 201, "", 13, 2),
+    (13, "", 4096, "", 13, 2),
+    (13, "", 4096, "\r", 13, 13),
+    (13, " ", 4096, "", 13, 13),
+    (13, "#", 1_000_000, "\nPier", 0, 0),
+    (14, "0:00 :", 99, "", 0, 0),
+    (14, "0:00 :", 100, "", 14, 9),
+];
+
+#[test]
+fn long_lines(rt: HostRuntime) -> Result<(), Fail> {
+    for (line, before, count, behind, at, number) in &LETTERS {
+        let mut text = String::from_str(rt.alloc(), before)?;
+        for _ in 0..*count {
+            text.push_str("a")?;
+        }
+        text.push_str(behind)?;
+        let file = changed(rt.alloc(), PIER, *line, text.as_str())?;
+        assert_eq!(rt;
+            fault(rt.alloc(), file.as_bytes()),
+            (*at, *number),
+            "line {line}: {count} letters"
+        );
+    }
+    Ok(())
+}
+
+#[test]
+fn many_stations(rt: HostRuntime) -> Result<(), Fail> {
+    let mut file = String::from_str(rt.alloc(), PIER)?;
+    for _ in 1..20_000u32 {
+        file.push_str("Pier\n0:00 :UTC\n0 feet\nS2 1 0\n")?;
+    }
+    assert_eq!(rt; fault(rt.alloc(), file.as_bytes()), (0, 0));
+    file.push_str("Pier\n")?;
+    assert_eq!(rt; fault(rt.alloc(), file.as_bytes()), (80_013, 12));
+    Ok(())
+}
+
+#[test]
+fn lists_of_vectors(rt: HostRuntime) -> Result<(), Fail> {
+    let alloc = rt.alloc();
+    let mut items = Vec::new(alloc);
+    items.push(Constituent {
+        name: Text::from_str(alloc, "M2")?,
+        speed: 289_841_042,
+    })?;
+    assert_eq!(rt; Constituents::from_vec(items).as_slice().len(), 1);
+    assert!(rt; Stations::from_vec(Vec::new(alloc)).as_slice().is_empty());
+    Ok(())
+}
+
+#[test]
+fn prefixes(rt: HostRuntime) {
+    let pier = PIER.as_bytes();
+    assert_eq!(rt; pier.len(), 96);
+    assert_eq!(rt; fault(rt.alloc(), b""), (1, 11));
+    for end in 0..97usize {
+        let whole = end == 66 || end == 67 || end == 95 || end == 96;
+        let (front, _) = pier.split_at(end.min(pier.len()));
+        assert_eq!(rt; fault(rt.alloc(), front) == (0, 0), whole, "{end} bytes");
+    }
+}
+
+#[test]
+fn reasons_in_words(rt: HostRuntime) {
+    assert_eq!(rt; Why::BadCount.text(), "bad count");
+    assert_eq!(rt; Why::LineTooLong.text(), "line too long");
+    assert_eq!(rt; Why::LineTooLong.number(), 13);
+    worked_lines();
+    worked_files();
+}

@@ -1,0 +1,21 @@
+//! Tests of the crates that read and write: files of harmonic constants and of offsets, zones and
+//! moments, questions, certificates, and the outside.
+//!
+//! They see only what is public of those crates. They stand here because a crate with tests is proved
+//! twice: with and without them.
+#![tactic(auto)]
+
+#[cfg(test)]
+mod asking;
+#[cfg(test)]
+mod certificates;
+#[cfg(test)]
+mod edge;
+#[cfg(test)]
+mod harmonics;
+#[cfg(test)]
+mod offsets;
+#[cfg(test)]
+mod texts;
+#[cfg(test)]
+mod zones;

@@ -1,0 +1,193 @@
+//! Moments, local times and zone files.
+
+ghost use Rattle.zone_time.specs.Zones.{IsZone};
+
+use arrayvec::ArrayString;
+use std::alloc::Global;
+use std::process::Abort;
+use std::test::Fail;
+use zone_time::{
+    Label, Local, Zone, ZoneFault, days_have_their_date, moments_have_one_text, read_moment,
+    read_zone, worked_clocks, worked_locals, worked_readings, worked_texts, worked_zone_files,
+    write_local, write_moment, zone_files_go_by_jiff,
+};
+
+#[test]
+fn moments_are_read(rt: HostRuntime) {
+    for (text, moment) in [
+        ("2000-01-10T00:00Z", Some(15791040)),
+        ("1970-01-01T00:00Z", Some(0)),
+        ("1969-12-31T23:59Z", Some(-1)),
+        ("2000-02-29T23:59Z", Some(15864479)),
+        ("0001-01-01T00:00Z", Some(-1035593280)),
+        ("9999-12-31T23:59Z", Some(4223371679)),
+        ("", None),
+        ("2000-01-10", None),
+        ("2000-01-10T00:00", None),
+        ("2000-01-10T00:00Z ", None),
+        ("2000-01-10T00:00z", None),
+        ("2000-01-10t00:00Z", None),
+        ("2000-01-10 00:00Z", None),
+        ("2000-1-10T00:00Z", None),
+        ("+2000-01-10T0:00Z", None),
+        ("2000-01-10T00.00Z", None),
+        ("200a-01-10T00:00Z", None),
+        ("0000-12-31T23:59Z", None),
+        ("2000-00-10T00:00Z", None),
+        ("2000-13-10T00:00Z", None),
+        ("2000-01-00T00:00Z", None),
+        ("2000-04-31T00:00Z", None),
+        ("1900-02-29T00:00Z", None),
+        ("2000-01-10T24:00Z", None),
+        ("2000-01-10T23:60Z", None),
+    ] {
+        assert!(rt; read_moment(text.as_bytes()) == moment, "{text}");
+    }
+}
+
+#[test]
+fn moments_are_written(rt: HostRuntime) {
+    for (moment, text) in [
+        (15791040, "2000-01-10T00:00Z"),
+        (-1, "1969-12-31T23:59Z"),
+        (15864479, "2000-02-29T23:59Z"),
+        (-1035593280, "0001-01-01T00:00Z"),
+        (4223371679, "9999-12-31T23:59Z"),
+    ] {
+        if (-1035593280..=4223371679).contains(&moment) {
+            let mut out = ArrayString::new();
+            write_moment(moment, &mut out);
+            assert_eq!(rt; out.as_str(), text);
+        }
+    }
+    days_have_their_date();
+    moments_have_one_text();
+    worked_texts();
+    worked_readings();
+    worked_locals();
+    worked_clocks();
+    worked_zone_files();
+    zone_files_go_by_jiff();
+}
+
+#[test]
+fn local_times_are_written(rt: HostRuntime) {
+    for (local, text) in [
+        (
+            Local {
+                minute: 15791400,
+                label: Label::Utc,
+            },
+            "2000-01-10 06:00 UTC",
+        ),
+        (
+            Local {
+                minute: 15791100,
+                label: Label::Minutes(-300),
+            },
+            "2000-01-10 01:00 -05:00",
+        ),
+        (
+            Local {
+                minute: 15881280,
+                label: Label::Minutes(-240),
+            },
+            "2000-03-12 16:00 -04:00",
+        ),
+        (
+            Local {
+                minute: -1036120320,
+                label: Label::Minutes(1560),
+            },
+            "0000-01-01 00:00 +26:00",
+        ),
+    ] {
+        let mut out = ArrayString::<23>::new();
+        if is_written(&local) {
+            write_local(&local, &mut out);
+        }
+        assert_eq!(rt; out.as_str(), text);
+    }
+}
+
+fn is_written(local: &Local) -> bool {
+    let has_label = match local.label {
+        Label::Utc => true,
+        Label::Minutes(ahead) => (-1560..=1560).contains(&ahead),
+    };
+    has_label && (-1036120320..=4223371679).contains(&local.minute)
+}
+
+// The zone file of New York with a table up to 1999: no old block, three changes, three types.
+const OLD_BLOCK: &[u8] =
+    b"TZif2\0\0\0\0\0\0\0\0\0\0\0\0\0\0\0\0\0\0\0\0\0\0\0\0\0\0\0\0\0\0\0\0\0\0\x01\0\0\0\x01\0\0\0\0\0\0\0";
+
+const HEAD: &[u8] =
+    b"TZif2\0\0\0\0\0\0\0\0\0\0\0\0\0\0\0\0\0\0\0\0\0\0\0\0\0\0\0\0\0\0\x03\0\0\0\x03\0\0\0\x0c";
+
+const CHANGES: &[u8] = b"\xff\xff\xff\xff^\x03\xf0\x90\0\0\0\06\xeb^p\0\0\0\08%\x15`\x02\x01\x02";
+
+const TYPES: &[u8] =
+    b"\xff\xff\xba\x9e\0\0\xff\xff\xc7\xc0\x01\x04\xff\xff\xb9\xb0\0\x08LMT\0EDT\0EST\0";
+
+fn new_york(alloc: Global, footer: &[u8]) -> Result<Vec<u8>, Fail> {
+    let mut bytes = Vec::new(alloc);
+    for part in [OLD_BLOCK, HEAD, CHANGES, TYPES, footer] {
+        bytes.extend_from_slice(part)?;
+    }
+    Ok(bytes)
+}
+
+fn check_new_york(rt: &impl Abort, zone: &Zone) -> Result<(), Fail>
+    requires { IsZone zone.now }
+{
+    for (minute, ahead) in [
+        (-63113760, -297),
+        (-45294181, -297),
+        (-45294180, -300),
+        (15386820, -240),
+        (15699239, -240),
+        (15699240, -300),
+        (15880739, -300),
+        (15880740, -240),
+        (16223399, -240),
+        (16223400, -300),
+    ] {
+        assert!(rt; (-1035069120..=3855733919).contains(&minute));
+        let local = zone.local(minute)?;
+        assert!(rt; local.label == Label::Minutes(ahead), "{minute}");
+        assert!(rt; local.minute == minute + i64::from(ahead), "{minute}");
+    }
+    Ok(())
+}
+
+#[test]
+fn zones_show_local_times(rt: HostRuntime) -> Result<(), Fail> {
+    let bytes = new_york(rt.alloc(), b"\nEST5EDT,M3.2.0,M11.1.0\n")?;
+    let zone = read_zone(rt.alloc(), bytes.as_slice())?;
+    check_new_york(&rt, &zone)?;
+    let local = Zone::Fixed(-300).local(15791400)?;
+    assert!(rt; local.minute == 15791100 && local.label == Label::Minutes(-300));
+    let local = Zone::Utc.local(15791400)?;
+    assert!(rt; local.minute == 15791400 && local.label == Label::Utc);
+    Ok(())
+}
+
+#[test]
+fn bad_zone_files_are_refused(rt: HostRuntime) -> Result<(), Fail> {
+    for footer in [
+        "\nEST5EDT,M3.2.0,M12.1.0\n",
+        "\nEST5EDT,M3.2.0,M11.1.0",
+        "EST5EDT,M3.2.0,M11.1.0\n",
+        "\nEST5EDT\n",
+        "",
+    ] {
+        let bytes = new_york(rt.alloc(), footer.as_bytes())?;
+        let refused = matches!(
+            read_zone(rt.alloc(), bytes.as_slice()),
+            Err(ZoneFault::BadZone)
+        );
+        assert!(rt; refused, "{footer}");
+    }
+    Ok(())
+}
