@@ -1,0 +1,184 @@
+//! Answers, streamed answers and refusals, over a pier and a stream.
+
+mod loading;
+mod rows;
+
+ghost use Rattle.std.specs.Prelude.{IfOk};
+ghost use Rattle.harmonics_text.specs.Books.{IsBook};
+ghost use Rattle.question.specs.Asked.{IsAsked};
+ghost use Rattle.station_table.specs.Offsets.{IsTable};
+ghost use Rattle.tide_answer.specs.Givens.{IsGiven};
+
+use crate::texts::words_of;
+use decimal_text::Bytes;
+use harmonics_text::{Book, BookFault, read_book};
+use question::{AskFault, Command, Question, pairs_of_words, read_question};
+use rows::{ANSWERS, FAULTS, STREAMS, VERDICTS};
+use station_table::{OffsetFault, OffsetTable, read_offsets};
+use std::alloc::{AllocError, Global};
+use std::test::Fail;
+use tide_answer::{
+    Fault, Given, accepted_is_true, answer, answer_alone, answer_into, certified_is_accepted,
+    fault_line, fault_status, prepare, worked_levels, worked_lines, worked_rows, worked_spans,
+};
+use tide_edge::MemorySink;
+use zone_time::Zone;
+
+const PIER: &[u8] =
+    b"1\nS2 30\n1999\n3\nS2\n0 0 0\n*END*\n3\nS2\n1 1 1\n*END*\nPier\n0:00 :UTC\n0 feet\nS2 1 0\n\
+    Flow\n0:00 :UTC\n0 knots\nS2 1 0\n";
+
+const TABLE: &[u8] =
+    b"name,reference,high_add,low_add,high_times,low_times,high_plus,low_plus,flood_add,ebb_add\n\
+    Dock,Pier,0:30,-0:10,1.1,0.9,0.1,0,,\nOuter,Pier,0:30,0:30,2,2,0.5,0.5,,\n\
+    Lost,Nowhere,0:00,0:00,1,1,0,0,,\nGate,Flow,0:30,-0:10,1.1,0.9,0.1,0,0:05,-0:05\n";
+
+/// A pier and a stream of half a day, from 1999 to 2001.
+fn pier(alloc: Global) -> Result<Book, BookFault>
+    ensures { IfOk result IsBook }
+{
+    read_book(alloc, PIER)
+}
+
+/// Places that follow them.
+fn table(alloc: Global) -> Result<OffsetTable, OffsetFault>
+    ensures { IfOk result IsTable }
+{
+    read_offsets(alloc, TABLE)
+}
+
+/// The question that the words of a line ask.
+fn asked(alloc: Global, line: &str) -> Result<Question, AskFault>
+    ensures { IfOk result IsAsked }
+{
+    let words = words_of(alloc, line)?;
+    let pairs = pairs_of_words(alloc, &words)?;
+    read_question(alloc, &pairs)
+}
+
+/// Universal time, a certificate's text, and three o'clock on 2000-01-10.
+fn given(alloc: Global, certificate: &str) -> Result<Given, AllocError>
+    ensures { IfOk result IsGiven }
+{
+    if certificate.len() > 1000 {
+        return Err(AllocError);
+    }
+    Ok(Given {
+        zone: Zone::Utc,
+        certificate: Bytes::from_vec(Vec::from_slice(alloc, certificate.as_bytes())?),
+        now: 15_791_220,
+    })
+}
+
+// The answer's text, or the line of its refusal.
+fn told(alloc: Global, line: &str, certificate: &str) -> Result<Bytes, Fail> {
+    let book = pier(alloc)?;
+    let table = table(alloc)?;
+    let question = asked(alloc, line)?;
+    let given = given(alloc, certificate)?;
+    match answer(alloc, &book, &table, &question, &given) {
+        Ok(answer) => Ok(answer.text),
+        Err(refusal) => Ok(fault_line(alloc, &Fault::Refused(refusal), &table)?),
+    }
+}
+
+#[test]
+fn questions_have_their_answers(rt: HostRuntime) -> Result<(), Fail> {
+    for &(line, expected) in ANSWERS {
+        let text = told(rt.alloc(), line, "")?;
+        assert_eq!(rt; text.as_slice(), expected.as_bytes());
+    }
+    Ok(())
+}
+
+// What a sink took of an answer that is written as it is found, and how much where a write failed.
+fn streamed(
+    alloc: Global,
+    line: &str,
+    most: u64,
+    failing: u64,
+) -> Result<(MemorySink, Option<u64>), Fail> {
+    let book = pier(alloc)?;
+    let table = table(alloc)?;
+    let question = asked(alloc, line)?;
+    let given = given(alloc, "")?;
+    if !matches!(question.command, Command::Predict | Command::Certify) {
+        return Err(Fail::from(AllocError));
+    }
+    let Ok(ready) = prepare(alloc, &book, &table, &question, &given) else {
+        return Err(Fail::from(AllocError));
+    };
+    if !ready.streams() {
+        return Err(Fail::from(AllocError));
+    }
+    let mut sink = MemorySink::new(alloc, most.max(1), 100_000, [failing].to_vec(alloc)?)?;
+    let written = answer_into(&ready, &mut sink);
+    Ok((sink, written.err().map(|fault| fault.sent)))
+}
+
+#[test]
+fn answers_are_written_as_they_are_found(rt: HostRuntime) -> Result<(), Fail> {
+    let alloc = rt.alloc();
+    for &(line, calls) in STREAMS {
+        let text = told(alloc, line, "")?;
+        for &(most, failing, expected) in calls {
+            let (sink, sent) = streamed(alloc, line, most, failing)?;
+            assert_eq!(rt;
+                sent,
+                expected,
+                "{line}, call {failing} of {most} bytes fails"
+            );
+            let taken = expected.unwrap_or(text.as_slice().len() as u64);
+            assert_eq!(rt; sink.bytes().len() as u64, taken);
+            assert!(rt; text.as_slice().starts_with(sink.bytes()));
+        }
+    }
+    Ok(())
+}
+
+#[test]
+fn certificates_are_judged(rt: HostRuntime) -> Result<(), Fail> {
+    for &(certificate, expected) in VERDICTS {
+        let text = told(rt.alloc(), "check|file=f|certificate=c", certificate)?;
+        assert_eq!(rt; text.as_slice(), expected.as_bytes());
+    }
+    Ok(())
+}
+
+#[test]
+fn seeds_have_their_trials(rt: HostRuntime) -> Result<(), Fail> {
+    let alloc = rt.alloc();
+    let question = asked(alloc, "trial|seed=0")?;
+    match answer_alone(alloc, &question) {
+        Ok(answer) => assert_eq!(rt; answer.text.as_slice(), TRIAL),
+        Err(_) => return Err(Fail::from(AllocError)),
+    }
+    Ok(())
+}
+
+const TRIAL: &[u8] = b"seed 0\nstations 40\nminutes 4285440\nevents 10902\ncells 325629\n\
+    quiet 237516\naccepted 40\n";
+
+#[test]
+fn faults_have_their_lines(rt: HostRuntime) -> Result<(), Fail> {
+    let alloc = rt.alloc();
+    for (fault, status, line) in FAULTS {
+        let table = OffsetTable::new(alloc);
+        assert_eq!(rt; fault_status(fault).number(), *status);
+        assert_eq!(rt;
+            fault_line(alloc, fault, &table)?.as_slice(),
+            line.as_bytes()
+        );
+    }
+    Ok(())
+}
+
+#[test]
+fn laws_and_rows_stand(_rt: HostRuntime) {
+    worked_lines();
+    worked_spans();
+    worked_rows();
+    worked_levels();
+    certified_is_accepted();
+    accepted_is_true();
+}

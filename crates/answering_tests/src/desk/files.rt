@@ -1,0 +1,117 @@
+//! Files beside the harmonic constants: the first fault in their order. Expected values are those of
+//! an independent program.
+
+/// A line of `pier.txt` and its text, the table `o.csv` and the file `zone` where they are there, the
+/// words, the call of the clock that fails, and what they come to.
+pub struct FileCase {
+    pub line: usize,
+    pub text: &'static str,
+    pub offsets: Option<&'static str>,
+    pub zone: Option<&'static str>,
+    pub words: &'static str,
+    pub clock_fails: u64,
+    pub status: u8,
+    pub line_told: &'static str,
+}
+
+pub const OFFSETS: &str =
+    "predict|file=pier.txt|offsets=o.csv|station=Lost|begin=2000-01-10T00:00Z|end=2000-01-11T00:00Z";
+
+pub const ZONE: &str =
+    "predict|file=pier.txt|zone=@zone|station=Pier|begin=2000-01-10T00:00Z|end=2000-01-11T00:00Z";
+
+const BOTH: &str =
+    "heights|file=pier.txt|zone=@zone|offsets=o.csv|station=Pier|begin=2000-01-10T00:00Z|end=2000-01-11T00:00Z";
+
+const CLOCK: &str = "clock|file=pier.txt|station=Pier";
+
+const CHECK: &str = "check|file=pier.txt|offsets=o.csv|certificate=cert";
+
+const TABLE: &str =
+    "name,reference,high_add,low_add,high_times,low_times,high_plus,low_plus\nLost,Nowhere,0:00,0:00,1,1,0,0\n";
+
+const SHORT: &str =
+    "name,reference,high_add,low_add,high_times,low_times,high_plus,low_plus\nDock,Pier,0:30,-0:10,1.1,0.9,0.1\n";
+
+const CASE: FileCase = FileCase {
+    line: 0,
+    text: "",
+    offsets: None,
+    zone: None,
+    words: OFFSETS,
+    clock_fails: 0,
+    status: 6,
+    line_told: "read fault\n",
+};
+
+pub const FILE_CASES: &[FileCase] = &[
+    CASE,
+    // the file's form before the table's reading
+    FileCase {
+        line: 9,
+        text: "2",
+        status: 3,
+        line_told: "file: line 9: years differ (6)\n",
+        ..CASE
+    },
+    FileCase {
+        offsets: Some(""),
+        status: 3,
+        line_told: "offsets: row 1: bad header (1)\n",
+        ..CASE
+    },
+    FileCase {
+        offsets: Some(SHORT),
+        status: 3,
+        line_told: "offsets: row 2: field count (2)\n",
+        ..CASE
+    },
+    FileCase {
+        offsets: Some(TABLE),
+        status: 4,
+        line_told: "refused: no reference Nowhere\n",
+        ..CASE
+    },
+    FileCase {
+        words: ZONE,
+        ..CASE
+    },
+    FileCase {
+        zone: Some("no zone"),
+        words: ZONE,
+        status: 3,
+        line_told: "zone: bad zone file\n",
+        ..CASE
+    },
+    // the table before the zone
+    FileCase {
+        offsets: Some(SHORT),
+        words: BOTH,
+        status: 3,
+        line_told: "offsets: row 2: field count (2)\n",
+        ..CASE
+    },
+    FileCase {
+        offsets: Some(TABLE),
+        words: BOTH,
+        ..CASE
+    },
+    FileCase {
+        offsets: Some(TABLE),
+        words: CHECK,
+        ..CASE
+    },
+    FileCase {
+        words: CLOCK,
+        clock_fails: 1,
+        ..CASE
+    },
+    // the clock before the station
+    FileCase {
+        line: 13,
+        text: "Quay",
+        words: CLOCK,
+        clock_fails: 1,
+        ..CASE
+    },
+];

@@ -1,0 +1,368 @@
+//! The server over a door in memory. Expected replies to questions are those of an independent program.
+
+ghost use Rattle.std.specs.Prelude.{IsTrue, IfOk};
+ghost use Rattle.std.specs.List.{list_all};
+ghost use Rattle.tide_edge.specs.Memory.{are_pieces};
+
+use super::with_fields;
+use crate::texts::{PIER, words_of};
+use decimal_text::{Bytes, Text};
+use std::alloc::{AllocError, Global};
+use std::process::Abort;
+use std::test::Fail;
+use tide_answer::Status;
+use tide_edge::{FixedClock, MemoryDoor, MemoryFiles, MemorySink, NamedFile};
+use tide_server::serve;
+
+const SHORT: &str = "# Pier test\n1\nS2 30.0000000\n1999\n3\nS2\n0 0 0\n*END*\n2\n";
+
+const DAY: &str =
+    "GET /predict?station=Pier&begin=2000-01-10T00:00Z&end=2000-01-11T00:00Z HTTP/1.1\r\nHost: a\r\n\r\n";
+
+const LISTED: &str =
+    "HTTP/1.1 200 OK\r\nContent-Type: text/plain; charset=utf-8\r\nContent-Length: 195\r\nConnection: close\r\n\r\nPier\n\
+    2000-01-10 06:00 UTC      -1.00 feet  Low Tide\n2000-01-10 11:59 UTC       1.00 feet  High Tide\n\
+    2000-01-10 18:00 UTC      -1.00 feet  Low Tide\n2000-01-10 23:59 UTC       1.00 feet  High Tide\n";
+
+const LOST: &str = "GET /tides HTTP/1.1\r\nHost: a\r\n\r\n";
+
+const NOT_FOUND: &str =
+    "HTTP/1.1 404 Not Found\r\nContent-Type: text/plain; charset=utf-8\r\nContent-Length: 10\r\nConnection: close\r\n\r\nnot found\n";
+
+const BAD: &str =
+    "HTTP/1.1 400 Bad Request\r\nContent-Type: text/plain; charset=utf-8\r\nContent-Length: 12\r\nConnection: close\r\n\r\nbad request\n";
+
+const TOO_LARGE: &str =
+    "HTTP/1.1 413 Content Too Large\r\nContent-Type: text/plain; charset=utf-8\r\nContent-Length: 18\r\nConnection: close\r\n\r\ncontent too large\n";
+
+const FIELDS_TOO_LARGE: &str =
+    "HTTP/1.1 431 Request Header Fields Too Large\r\nContent-Type: text/plain; charset=utf-8\r\nContent-Length: 24\r\nConnection: close\r\n\r\nheader fields too large\n";
+
+const NO_CERTIFICATE: &str =
+    "HTTP/1.1 422 Unprocessable Content\r\nContent-Type: text/plain; charset=utf-8\r\nContent-Length: 20\r\nConnection: close\r\n\r\ncertificate: line 1\n";
+
+const NOTICE: &str = "http://127.0.0.1:8080/\n";
+
+const FAILED: &str = "http://127.0.0.1:8080/\nread fault\n";
+
+/// The numbers of the calls that fail, counted from 1 for each object.
+#[derive(Clone, Copy, Debug)]
+struct Fails {
+    files: u64,
+    door: u64,
+    err: u64,
+    clock: u64,
+}
+
+const NONE: Fails = Fails {
+    files: 0,
+    door: 0,
+    err: 0,
+    clock: 0,
+};
+
+/// What a server left.
+#[derive(Drop)]
+struct Outcome {
+    status: Status,
+    door: MemoryDoor,
+    err: MemorySink,
+}
+
+/// A request that comes in one piece, as a text or as bytes, or byte by byte.
+#[derive(Clone, Copy)]
+enum Coming<'a> {
+    Whole(&'a str),
+    Bytes(&'a [u8]),
+    ByBytes(&'a str),
+}
+
+fn whole(alloc: Global, request: &[u8]) -> Result<Vec<Bytes>, AllocError>
+    ensures { IfOk result (λ pieces. IsTrue (are_pieces pieces.items)) }
+{
+    let mut pieces = Vec::new(alloc);
+    if !request.is_empty() {
+        pieces.push(Bytes::from_vec(request.to_vec(alloc)?))?;
+    }
+    Ok(pieces)
+}
+
+fn by_bytes(alloc: Global, request: &str) -> Result<Vec<Bytes>, AllocError>
+    ensures { IfOk result (λ pieces. IsTrue (are_pieces pieces.items)) }
+{
+    let mut pieces = Vec::new(alloc);
+    for byte in request.as_bytes() {
+        let mut piece = Vec::new(alloc);
+        piece.push(*byte)?;
+        pieces.push(Bytes::from_vec(piece))?;
+    }
+    Ok(pieces)
+}
+
+fn pieces_of(alloc: Global, coming: Coming<'_>) -> Result<Vec<Bytes>, AllocError>
+    ensures { IfOk result (λ pieces. IsTrue (are_pieces pieces.items)) }
+{
+    match coming {
+        Coming::Whole(request) => whole(alloc, request.as_bytes()),
+        Coming::Bytes(request) => whole(alloc, request),
+        Coming::ByBytes(request) => by_bytes(alloc, request),
+    }
+}
+
+fn requests_of(alloc: Global, all: &[Coming<'_>]) -> Result<Vec<Vec<Bytes>>, AllocError>
+    ensures { IfOk result (λ requests. IsTrue (list_all (λ request. are_pieces request.items) requests.items)) }
+{
+    let mut requests = Vec::new(alloc);
+    for coming in all {
+        requests.push(pieces_of(alloc, *coming)?)?;
+    }
+    Ok(requests)
+}
+
+fn files_of(alloc: Global, fails: u64) -> Result<MemoryFiles, AllocError> {
+    let mut files = Vec::new(alloc);
+    for (name, text) in [("pier.txt", PIER), ("short.txt", SHORT), ("empty.csv", "")] {
+        files.push(NamedFile {
+            name: Text::from_str(alloc, name)?,
+            bytes: Bytes::from_vec(text.as_bytes().to_vec(alloc)?),
+        })?;
+    }
+    Ok(MemoryFiles::new(files, [fails].to_vec(alloc)?))
+}
+
+/// Serves the requests, with a clock at 2000-01-10T03:00Z and `room` bytes for all replies.
+fn serve_over(
+    alloc: Global,
+    line: &str,
+    requests: &[Coming<'_>],
+    room: u64,
+    fails: Fails,
+) -> Result<Outcome, AllocError> {
+    let words = words_of(alloc, line)?;
+    let mut files = files_of(alloc, fails.files)?;
+    let coming = requests_of(alloc, requests)?;
+    let mut door = MemoryDoor::new(alloc, coming, room, [fails.door].to_vec(alloc)?)?;
+    let mut err = MemorySink::new(alloc, 4096, 4096, [fails.err].to_vec(alloc)?)?;
+    let mut clock = FixedClock::new(15_791_220, [fails.clock].to_vec(alloc)?);
+    let status = serve(alloc, &words, &mut files, &mut door, &mut err, &mut clock);
+    Ok(Outcome { status, door, err })
+}
+
+fn assert_reply(rt: &impl Abort, outcome: &Outcome, i: u64, expected: Option<&str>) {
+    match outcome.door.reply(i) {
+        Some(reply) => assert_eq!(rt; reply, expected.unwrap_or("none").as_bytes(), "reply {i}"),
+        None => assert!(rt; expected.is_none(), "reply {i}"),
+    }
+}
+
+const ASKED: &str = "serve|file=pier.txt";
+
+#[test]
+fn each_connection_has_its_reply(rt: HostRuntime) -> Result<(), Fail> {
+    let alloc = rt.alloc();
+    let requests = [
+        Coming::Whole(LOST),
+        Coming::Whole(""),
+        Coming::ByBytes(LOST),
+        Coming::Whole("GET"),
+    ];
+    let outcome = serve_over(alloc, ASKED, &requests, 4096, NONE)?;
+    assert_eq!(rt; outcome.status, Status::Done);
+    assert_eq!(rt; outcome.err.bytes(), NOTICE.as_bytes());
+    for (i, expected) in [NOT_FOUND, "", NOT_FOUND, BAD].into_iter().enumerate() {
+        assert_reply(&rt, &outcome, i as u64, Some(expected));
+    }
+    assert_reply(&rt, &outcome, 4, None);
+    Ok(())
+}
+
+#[test]
+fn a_question_is_answered_however_it_comes(rt: HostRuntime) -> Result<(), Fail> {
+    let alloc = rt.alloc();
+    for requests in [
+        [Coming::Whole(DAY), Coming::Whole("")],
+        [Coming::ByBytes(DAY), Coming::Whole("")],
+    ] {
+        let outcome = serve_over(alloc, ASKED, &requests, 4096, NONE)?;
+        assert_eq!(rt; outcome.status, Status::Done);
+        assert_reply(&rt, &outcome, 0, Some(LISTED));
+        assert_reply(&rt, &outcome, 1, Some(""));
+        assert_reply(&rt, &outcome, 2, None);
+    }
+    Ok(())
+}
+
+/// Requests of strangers, and their replies.
+const HOSTILE: &[(&str, &str)] = &[
+    (
+        "POST /check HTTP/1.1\r\nHost: a\r\nContent-Length: +5\r\n\r\n",
+        BAD,
+    ),
+    (
+        "POST /check HTTP/1.1\r\nHost: a\r\nContent-Length: 4194305\r\n\r\n",
+        TOO_LARGE,
+    ),
+    (
+        "POST /check HTTP/1.1\r\nHost: a\r\nContent-Length: 5\r\nContent-Length: 5\r\n\r\nabcde",
+        BAD,
+    ),
+    (
+        "POST /check HTTP/1.1\r\nHost: a\r\nContent-Length: 5\r\n\r\nabcd",
+        BAD,
+    ),
+    (
+        "POST /check HTTP/1.1\r\nHost: a\r\nContent-Length: 5\r\n\r\nabcde",
+        NO_CERTIFICATE,
+    ),
+];
+
+#[test]
+fn hostile_requests_are_answered(rt: HostRuntime) -> Result<(), Fail> {
+    let alloc = rt.alloc();
+    for &(request, expected) in HOSTILE {
+        let requests = [Coming::Whole(request), Coming::Whole(LOST)];
+        let outcome = serve_over(alloc, ASKED, &requests, 4096, NONE)?;
+        assert_reply(&rt, &outcome, 0, Some(expected));
+        assert_reply(&rt, &outcome, 1, Some(NOT_FOUND));
+    }
+    Ok(())
+}
+
+#[test]
+fn heads_that_are_too_large_are_answered(rt: HostRuntime) -> Result<(), Fail> {
+    let alloc = rt.alloc();
+    for head in [vec![in alloc; b'a'; 8_192]?, with_fields(alloc, 65)?] {
+        let requests = [Coming::Bytes(&head), Coming::Whole(LOST)];
+        let outcome = serve_over(alloc, ASKED, &requests, 4096, NONE)?;
+        assert_reply(&rt, &outcome, 0, Some(FIELDS_TOO_LARGE));
+        assert_reply(&rt, &outcome, 1, Some(NOT_FOUND));
+    }
+    Ok(())
+}
+
+/// A call that fails among those of three connections, and what it comes to: status, lines and replies.
+const FAILING: &[(Fails, Status, &str, &[&str])] = &[
+    (
+        Fails { door: 1, ..NONE },
+        Status::ReadFault,
+        "read fault\n",
+        &[],
+    ),
+    (Fails { door: 2, ..NONE }, Status::ReadFault, FAILED, &[]),
+    (
+        Fails { door: 5, ..NONE },
+        Status::ReadFault,
+        FAILED,
+        &[NOT_FOUND],
+    ),
+    (
+        Fails { door: 6, ..NONE },
+        Status::Done,
+        NOTICE,
+        &[NOT_FOUND, "", NOT_FOUND],
+    ),
+    (
+        Fails { door: 7, ..NONE },
+        Status::Done,
+        NOTICE,
+        &[NOT_FOUND, "", NOT_FOUND],
+    ),
+    (
+        Fails { door: 11, ..NONE },
+        Status::ReadFault,
+        FAILED,
+        &[NOT_FOUND, NOT_FOUND, NOT_FOUND],
+    ),
+    (
+        Fails { clock: 2, ..NONE },
+        Status::ReadFault,
+        FAILED,
+        &[NOT_FOUND, ""],
+    ),
+    (
+        Fails { err: 1, ..NONE },
+        Status::Done,
+        "",
+        &[NOT_FOUND, NOT_FOUND, NOT_FOUND],
+    ),
+    (
+        Fails { files: 1, ..NONE },
+        Status::ReadFault,
+        "read fault\n",
+        &[],
+    ),
+];
+
+#[test]
+fn a_failed_call_ends_what_it_is_of(rt: HostRuntime) -> Result<(), Fail> {
+    let alloc = rt.alloc();
+    let requests = [
+        Coming::Whole(LOST),
+        Coming::Whole(LOST),
+        Coming::Whole(LOST),
+    ];
+    for &(fails, status, told, replies) in FAILING {
+        let outcome = serve_over(alloc, ASKED, &requests, 4096, fails)?;
+        assert_eq!(rt; outcome.status, status, "{fails:?}");
+        assert_eq!(rt; outcome.err.bytes(), told.as_bytes(), "{fails:?}");
+        for (i, reply) in replies.iter().enumerate() {
+            assert_reply(&rt, &outcome, i as u64, Some(reply));
+        }
+        assert_reply(&rt, &outcome, replies.len() as u64, None);
+    }
+    Ok(())
+}
+
+#[test]
+fn a_full_line_cuts_the_reply_short(rt: HostRuntime) -> Result<(), Fail> {
+    let alloc = rt.alloc();
+    let requests = [Coming::Whole(LOST), Coming::Whole(LOST)];
+    let outcome = serve_over(alloc, ASKED, &requests, 10, NONE)?;
+    assert_eq!(rt; outcome.status, Status::Done);
+    assert_reply(&rt, &outcome, 0, Some("HTTP/1.1 4"));
+    assert_reply(&rt, &outcome, 1, Some(""));
+    Ok(())
+}
+
+/// Words, and the status and the line that they come to.
+const REFUSED: &[(&str, u8, &str)] = &[
+    ("", 2, "words: no command\n"),
+    ("predict|file", 2, "words: unknown command\n"),
+    ("tides", 2, "words: unknown command\n"),
+    ("serve", 2, "words: file is missing\n"),
+    ("serve|file", 2, "words: pair 1 is not key=value\n"),
+    (
+        "serve|file=pier.txt|station=Pier",
+        2,
+        "words: pair 2 has an unknown key\n",
+    ),
+    (
+        "serve|file=pier.txt|port=0",
+        2,
+        "words: pair 2 has a bad value\n",
+    ),
+    ("serve|file=quay.txt", 6, "read fault\n"),
+    (
+        "serve|file=short.txt|offsets=no.csv",
+        3,
+        "file: line 9: years differ (6)\n",
+    ),
+    ("serve|file=pier.txt|offsets=no.csv", 6, "read fault\n"),
+    (
+        "serve|file=pier.txt|offsets=empty.csv",
+        3,
+        "offsets: row 1: bad header (1)\n",
+    ),
+];
+
+#[test]
+fn what_keeps_the_server_from_serving_is_told(rt: HostRuntime) -> Result<(), Fail> {
+    let alloc = rt.alloc();
+    for &(line, status, told) in REFUSED {
+        let outcome = serve_over(alloc, line, &[Coming::Whole(LOST)], 4096, NONE)?;
+        assert_eq!(rt; outcome.status.number(), status, "{line}");
+        assert_eq!(rt; outcome.err.bytes(), told.as_bytes(), "{line}");
+        assert_reply(&rt, &outcome, 0, None);
+    }
+    Ok(())
+}
