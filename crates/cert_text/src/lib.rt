@@ -37,6 +37,3 @@ pub use track_name::TrackName;
 pub use words::track_of;
 pub use worked::{worked_readings, worked_texts};
 pub use writing::write_certificate;
-
-#[cfg(test)]
-mod tests;

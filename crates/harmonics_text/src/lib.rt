@@ -31,6 +31,3 @@ pub use fault::{BookFault, Why};
 pub use laws::{first_faults, worked_files, worked_lines, worked_pieces};
 pub use lists::{Constituents, Stations};
 pub use reading::read_book;
-
-#[cfg(test)]
-mod tests;

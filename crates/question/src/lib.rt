@@ -31,6 +31,3 @@ pub use words::pairs_of_words;
 pub use worked::{
     worked_faults, worked_query_faults, worked_questions, worked_values, worked_words,
 };
-
-#[cfg(test)]
-mod tests;

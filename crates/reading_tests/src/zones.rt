@@ -154,7 +154,7 @@ fn check_new_york(rt: &impl Abort, zone: &Zone) -> Result<(), Fail>
         (16223400, -300),
     ] {
         assert!(rt; (-1035069120..=3855733919).contains(&minute));
-        let local = zone.local(minute)?;
+        let local = zone.local(minute);
         assert!(rt; local.label == Label::Minutes(ahead), "{minute}");
         assert!(rt; local.minute == minute + i64::from(ahead), "{minute}");
     }
@@ -166,9 +166,9 @@ fn zones_show_local_times(rt: HostRuntime) -> Result<(), Fail> {
     let bytes = new_york(rt.alloc(), b"\nEST5EDT,M3.2.0,M11.1.0\n")?;
     let zone = read_zone(rt.alloc(), bytes.as_slice())?;
     check_new_york(&rt, &zone)?;
-    let local = Zone::Fixed(-300).local(15791400)?;
+    let local = Zone::Fixed(-300).local(15791400);
     assert!(rt; local.minute == 15791100 && local.label == Label::Minutes(-300));
-    let local = Zone::Utc.local(15791400)?;
+    let local = Zone::Utc.local(15791400);
     assert!(rt; local.minute == 15791400 && local.label == Label::Utc);
     Ok(())
 }

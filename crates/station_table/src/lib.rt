@@ -26,6 +26,3 @@ pub use offsets::Offsets;
 pub use reading::read_offsets;
 pub use table::OffsetTable;
 pub use worked::{worked_bases, worked_fields, worked_rows, worked_tables};
-
-#[cfg(test)]
-mod tests;

@@ -63,6 +63,3 @@ pub use slot::Slot;
 pub use status::Status;
 pub use text::Answer;
 pub use worked::{worked_lines, worked_spans};
-
-#[cfg(test)]
-mod tests;

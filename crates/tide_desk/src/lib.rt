@@ -27,6 +27,3 @@ pub use reading::{read_book, read_table};
 pub use telling::{refuse, tell};
 pub use tide_answer::Status;
 pub use worked::{worked_faults, worked_files};
-
-#[cfg(test)]
-mod tests;

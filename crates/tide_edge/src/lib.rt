@@ -51,6 +51,3 @@ pub use reading::read_all;
 pub use rows::worked_rows;
 pub use sink::Sink;
 pub use writing::{WriteFailed, write_all};
-
-#[cfg(test)]
-mod tests;

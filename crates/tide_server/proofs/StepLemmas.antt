@@ -12,7 +12,7 @@ use Rattle.tide_server.specs.declared.outage.Outage.{Outage}
 use Rattle.tide_server.specs.declared.outage.Outage.TheVariants as outages
 use Rattle.tide_server.specs.Serving.{AnswersUnlessCut, IsHeld, MayLeave, RoseBy, Served}
 use Rattle.tide_server.specs.Workings.Connections.{IsQuiet, Went}
-use Rattle.tide_server.specs.Workings.Steps.{LeftNext, ServedNext, StepBy, WereServed, after_taking, doorway_after, serving}
+use Rattle.tide_server.specs.Workings.Steps.{LeftNext, ServedNext, StepBy, WereServed, after_taking, doorway_after, is_clock, serving}
 use Rattle.tide_server.proofs.ConnectionLemmas.{append_last}
 
 -- ---- One step
@@ -114,10 +114,10 @@ none_left : (has_failed : Bool) → MayLeave has_failed []
 none_left false = refl
 none_left true = omega arith
 
-pub ended : (answers : List ℕ → List ℕ → Type 0) (has_failed : Bool) (count taken : ℕ) (before now after : Traffic) (was still is : ℕ)
-    → WereServed answers count before now was still → IsQuiet now after → is ≡ still → taken ≡ count
-    → Served answers has_failed taken before after was is
-ended answers has_failed count taken before now after was still is so_far quiet same all = record {
+pub ended : (answers : List ℕ → List ℕ → Type 0) (has_failed : Bool) (count taken : ℕ) (before now after : Traffic) (was still is clock_was clock_is : ℕ)
+    → WereServed answers count before now was still → IsQuiet now after → is ≡ still → taken ≡ count → clock_is ≡ clock_was
+    → Served answers has_failed taken before after was is clock_was clock_is
+ended answers has_failed count taken before now after was still is clock_was clock_is so_far quiet same all clock = record {
   served = so_far.served;
   left = [];
   requests =
@@ -130,12 +130,13 @@ ended answers has_failed count taken before now after was still is so_far quiet 
   cut = subst (λ (n : ℕ). RoseBy (count_by (λ c. c.is_cut) so_far.served) was n) (sym same) so_far.cut;
   last = none_left has_failed;
   bytes = All-nil HasByte;
+  clock = clock;
 }
 
-pub broken : (answers : List ℕ → List ℕ → Type 0) (count taken : ℕ) (before now after : Traffic) (was still is : ℕ)
-    → WereServed answers count before now was still → LeftNext now after → is ≡ still → taken ≡ count + 1
-    → Served answers true taken before after was is
-broken answers count taken before now after was still is so_far step same all = record {
+pub broken : (answers : List ℕ → List ℕ → Type 0) (count taken : ℕ) (before now after : Traffic) (was still is clock_was clock_is : ℕ)
+    → WereServed answers count before now was still → LeftNext now after → is ≡ still → taken ≡ count + 1 → clock_is ≡ counted clock_was
+    → Served answers true taken before after was is clock_was clock_is
+broken answers count taken before now after was still is clock_was clock_is so_far step same all clock = record {
   served = so_far.served;
   left = step.request ∷ [];
   requests =
@@ -148,6 +149,7 @@ broken answers count taken before now after was still is so_far step same all = 
   cut = subst (λ (n : ℕ). RoseBy (count_by (λ c. c.is_cut) so_far.served) was n) (sym same) so_far.cut;
   last = omega arith;
   bytes = All-push HasByte [] step.request (All-nil HasByte) step.bytes;
+  clock = clock;
 }
 
 counted_by : (last : Bool) (count : ℕ) → (count == 2 ^ 64 - 1) ≡ last → count < 2 ^ 64 - 1 → counted count ≡ count + 1
@@ -162,18 +164,19 @@ pub next_serving : (port count : ℕ) (after : Doorway) → count < 2 ^ 64 - 1 �
 next_serving port count after few is = is ∙ ap (serving port) (counted_on count few)
 
 pub failed : (answers : List ℕ → List ℕ → Type 0) (outage : Outage) (port count : ℕ) (door : Doorway) (before now after : Traffic)
-    (was still is : ℕ) → count < 2 ^ 64 - 1 → WereServed answers count before now was still
+    (was still is clock_was clock_is : ℕ) → count < 2 ^ 64 - 1 → WereServed answers count before now was still
     → StepBy (Err outage) answers now after still is → door ≡ doorway_after (Err outage) (serving port count)
-    → Served answers true door.taken before after was is
-failed answers outages.Door port count door before now after was still is few so_far step there =
-    ended answers true count door.taken before now after was still is so_far step.0 step.1 (ap (λ d. d.taken) there)
-failed answers outages.Clock port count door before now after was still is few so_far step there =
-    broken answers count door.taken before now after was still is so_far step.0 step.1
-    (ap (λ d. d.taken) there ∙ counted_on count few)
+    → clock_is ≡ faults_after (is_clock outage) clock_was
+    → Served answers true door.taken before after was is clock_was clock_is
+failed answers outages.Door port count door before now after was still is clock_was clock_is few so_far step there clock =
+    ended answers true count door.taken before now after was still is clock_was clock_is so_far step.0 step.1 (ap (λ d. d.taken) there) clock
+failed answers outages.Clock port count door before now after was still is clock_was clock_is few so_far step there clock =
+    broken answers count door.taken before now after was still is clock_was clock_is so_far step.0 step.1
+    (ap (λ d. d.taken) there ∙ counted_on count few) clock
 
 -- where nobody was served
-pub nobody : (answers : List ℕ → List ℕ → Type 0) (has_failed : Bool) (taken : ℕ) (before after : Traffic) (was is : ℕ)
-    → after ≡ before → is ≡ was → taken ≡ 0 → Served answers has_failed taken before after was is
-nobody answers has_failed taken before after was is same count none =
-    ended answers has_failed 0 taken before before after was was is (none_served answers before was)
-    (record { waiting = ap (λ t. t.waiting) same; replies = ap (λ t. t.replies) same }) count none
+pub nobody : (answers : List ℕ → List ℕ → Type 0) (has_failed : Bool) (taken : ℕ) (before after : Traffic) (was is clock_was clock_is : ℕ)
+    → after ≡ before → is ≡ was → taken ≡ 0 → clock_is ≡ clock_was → Served answers has_failed taken before after was is clock_was clock_is
+nobody answers has_failed taken before after was is clock_was clock_is same count none clock =
+    ended answers has_failed 0 taken before before after was was is clock_was clock_is (none_served answers before was)
+    (record { waiting = ap (λ t. t.waiting) same; replies = ap (λ t. t.replies) same }) count none clock

@@ -1,7 +1,8 @@
 -- Who was served, and with what (this project).
-use Rattle.std.specs.Prelude.{◌≡◌, ◌⊎◌, ◌≤◌, ◌+◌, ◌-◌, ◌^◌, ℕ, ℤ, Bool, true, false, List, [], ◌∷◌, ◌++◌, length, map, take, All, count_by, None}
+use Rattle.std.specs.Prelude.{◌≡◌, ◌⊎◌, ◌≤◌, ◌+◌, ◌-◌, ◌^◌, ℕ, ℤ, Bool, true, false, List, [], ◌∷◌, ◌++◌, length, map, take, All, count_by, nat_lt, None}
 use Rattle.std.specs.List.{concat}
 use Rattle.tide_edge.specs.Doors.{Doorway, Traffic}
+use Rattle.tide_edge.specs.Faults.{faults_after}
 use Rattle.tide_server.specs.declared.stock.Stock.{Stock}
 use Rattle.tide_server.specs.Replies.{IsReply}
 use Rattle.tide_server.specs.Responses.{fixed_of, unavailable_of}
@@ -47,8 +48,9 @@ MayLeave false left = left ≡ []
 MayLeave true left = length left ≤ 1
 
 -- Connections were served one after the other, in the order in which they waited, and each has its reply. As many were cut short
--- as the count of the lines' faults rose by. One that was left has a byte: the clock isn't asked for any other.
-pub record Served (answers : List ℕ → List ℕ → Type 0) (has_failed : Bool) (count : ℕ) (before after : Traffic) (was is : ℕ) : Type 0 where
+-- as the count of the lines' faults rose by. One was left exactly where the clock has failed, and it has a byte: the clock is asked
+-- for no other, nor again once one has its reply.
+pub record Served (answers : List ℕ → List ℕ → Type 0) (has_failed : Bool) (count : ℕ) (before after : Traffic) (was is clock_was clock_is : ℕ) : Type 0 where
   pub served : List Conversation
   pub left : List (List (List ℕ))
   pub requests : before.waiting ≡ map (λ c. c.request) served ++ left ++ after.waiting
@@ -58,3 +60,4 @@ pub record Served (answers : List ℕ → List ℕ → Type 0) (has_failed : Boo
   pub cut : RoseBy (count_by (λ c. c.is_cut) served) was is
   pub last : MayLeave has_failed left
   pub bytes : All (λ request. ¬ (concat request ≡ [])) left
+  pub clock : clock_is ≡ faults_after (nat_lt 0 (length left)) clock_was

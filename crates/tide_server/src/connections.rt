@@ -26,10 +26,11 @@ pub(crate) fn serve_all<D: Door, K: Clock>(
     requires stock { IsStock stock.now }
     ensures served { D.tells door.old → K.tells clock.old
         → Served (Answers stock.now (K.minute_held clock.old)) (is_err result) (D.doorway door.new).taken
-        (D.traffic door.old) (D.traffic door.new) (D.line_faults door.old) (D.line_faults door.new) }
+        (D.traffic door.old) (D.traffic door.new) (D.line_faults door.old) (D.line_faults door.new) (K.faults clock.old) (K.faults clock.new) }
     ensures over { OnOk result (IsOver (D.doorway door.new)) }
     ensures port { (D.doorway door.new).port ≡ Some stock.now.port }
     ensures listens { (D.doorway door.new).listens ≡ true }
+    ensures closed { (D.doorway door.new).is_open ≡ false }
     ensures counts { D.faults door.new ≡ faults_after (is_door_outage result) (D.faults door.old) }
     ensures clock_counts { K.faults clock.new ≡ faults_after (is_clock_outage result) (K.faults clock.old) }
     ensures unasked { (D.doorway door.new).taken ≡ 0 → clock.new ≡ clock.old }

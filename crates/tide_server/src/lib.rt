@@ -40,6 +40,3 @@ pub use replying::reply;
 pub use serving::serve;
 pub use stock::Stock;
 pub use worked::{worked_answers, worked_queries, worked_replies, worked_rows};
-
-#[cfg(test)]
-mod tests;

@@ -1,6 +1,6 @@
 //! The server, from the words to the status.
 
-ghost use Rattle.std.specs.Prelude.{◌≡◌, ◌++◌, ◌≤◌, ◌+◌, ℕ, Bool, true, [], IsOk, Some, None, decimal, is_err};
+ghost use Rattle.std.specs.Prelude.{◌≡◌, ◌++◌, ◌≤◌, ◌+◌, ℕ, Bool, true, false, [], IsOk, Some, None, decimal, is_err};
 ghost use Rattle.arrayvec.specs.ArrayString.{array_string_len};
 ghost use Rattle.tide_answer.specs.declared.status.Status.{Status};
 ghost use Rattle.tide_edge.specs.Doors.{asked};
@@ -40,13 +40,13 @@ pub fn serve<F: Files, D: Door, E: Sink, K: Clock>(
         → EndsAs (F.steady files.old) (stock_from (λ slot. F.folder files.old) words.now) result (D.doorway door.new)
         (λ stock. D.tells door.old → K.tells clock.old
         → Served (Answers stock (K.minute_held clock.old)) (is_read_fault result) (D.doorway door.new).taken
-        (D.traffic door.old) (D.traffic door.new) (D.line_faults door.old) (D.line_faults door.new))
+        (D.traffic door.old) (D.traffic door.new) (D.line_faults door.old) (D.line_faults door.new) (K.faults clock.old) (K.faults clock.new))
         (WroteBoth (E.tells err.old) (E.tells err.new) (E.taken err.old) (E.taken err.new) (E.faults err.old) (E.faults err.new)) }
     ensures some_files { (folders : Folders)
         × EndsAs true (stock_from folders words.now) result (D.doorway door.new)
         (λ stock. D.tells door.old → K.tells clock.old
         → Served (Answers stock (K.minute_held clock.old)) (is_read_fault result) (D.doorway door.new).taken
-        (D.traffic door.old) (D.traffic door.new) (D.line_faults door.old) (D.line_faults door.new))
+        (D.traffic door.old) (D.traffic door.new) (D.line_faults door.old) (D.line_faults door.new) (K.faults clock.old) (K.faults clock.new))
         (WroteBoth (E.tells err.old) (E.tells err.new) (E.taken err.old) (E.taken err.new) (E.faults err.old) (E.faults err.new)) }
     ensures done { result ≡ Status.Done → IsOver (D.doorway door.new) }
     ensures read_fault { EndedBy (is_read_fault result) (F.faults files.old) (F.faults files.new)
@@ -54,6 +54,8 @@ pub fn serve<F: Files, D: Door, E: Sink, K: Clock>(
     ensures unlistened { (D.doorway door.new).port ≡ None → door.new ≡ door.old }
     ensures unasked { TookNone (D.doorway door.new) → clock.new ≡ clock.old }
     ensures unopened { ¬ (IsOk (service_of words.now)) → files.new ≡ files.old }
+    ensures read_first { ¬ ((D.doorway door.new).port ≡ None) → F.faults files.new ≡ F.faults files.old }
+    ensures closed { ¬ ((D.doorway door.new).port ≡ None) → (D.doorway door.new).is_open ≡ false }
     ensures same_files { F.folder files.new ≡ F.folder files.old }
     ensures as_steady { F.steady files.new ≡ F.steady files.old }
     ensures still_tells { F.tells files.old → F.tells files.new }
@@ -84,9 +86,10 @@ fn serve_stock<D: Door, E: Sink, K: Clock>(
     ensures listened { HasListened stock.now result (D.doorway door.new)
         (D.tells door.old → K.tells clock.old
         → Served (Answers stock.now (K.minute_held clock.old)) (is_read_fault result) (D.doorway door.new).taken
-        (D.traffic door.old) (D.traffic door.new) (D.line_faults door.old) (D.line_faults door.new))
+        (D.traffic door.old) (D.traffic door.new) (D.line_faults door.old) (D.line_faults door.new) (K.faults clock.old) (K.faults clock.new))
         (WroteBoth (E.tells err.old) (E.tells err.new) (E.taken err.old) (E.taken err.new) (E.faults err.old) (E.faults err.new)) }
     ensures done { result ≡ Status.Done → IsOver (D.doorway door.new) }
+    ensures closed { (D.doorway door.new).is_open ≡ false }
     ensures read_fault { (files : ℕ) → EndedBy (is_read_fault result) files files
         (K.faults clock.old) (K.faults clock.new) (D.faults door.old) (D.faults door.new) }
     ensures unasked { (D.doorway door.new).taken ≡ 0 → clock.new ≡ clock.old }
@@ -114,9 +117,10 @@ fn serve_open<D: Door, E: Sink, K: Clock>(
     ensures listened { HasListened stock.now result (D.doorway door.new)
         (D.tells door.old → K.tells clock.old
         → Served (Answers stock.now (K.minute_held clock.old)) (is_read_fault result) (D.doorway door.new).taken
-        (D.traffic door.old) (D.traffic door.new) (D.line_faults door.old) (D.line_faults door.new))
+        (D.traffic door.old) (D.traffic door.new) (D.line_faults door.old) (D.line_faults door.new) (K.faults clock.old) (K.faults clock.new))
         (WroteBoth (E.tells err.old) (E.tells err.new) (E.taken err.old) (E.taken err.new) (E.faults err.old) (E.faults err.new)) }
     ensures done { result ≡ Status.Done → IsOver (D.doorway door.new) }
+    ensures closed { (D.doorway door.new).is_open ≡ false }
     ensures read_fault { (files : ℕ) → EndedBy (is_read_fault result) files files
         (K.faults clock.old) (K.faults clock.new) (D.faults door.old) (D.faults door.new) }
     ensures unasked { (D.doorway door.new).taken ≡ 0 → clock.new ≡ clock.old }

@@ -28,6 +28,3 @@ pub use zone::Zone;
 pub use zone_fault::ZoneFault;
 pub use zone_file::ZoneFile;
 pub use zone_reading::read_zone;
-
-#[cfg(test)]
-mod tests;

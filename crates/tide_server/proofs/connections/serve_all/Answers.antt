@@ -21,10 +21,13 @@ returns-in_err-serve_next-clause-served g c =
     (g.D.Door.line_faults c.args.door.now)
     (g.D.Door.line_faults c.loop-taken.door)
     (g.D.Door.line_faults c.serve_next.new.door)
+    (g.K.Clock.faults c.args.clock.now)
+    (g.K.Clock.faults c.serve_next.new.clock)
     c.loop-taken-test.true
     (c.loop-taken.invariant.served t k)
     step
-    (rw c.loop-taken.invariant.doorway at c.in_err-serve_next.ensures.doorway))
+    (rw c.loop-taken.invariant.doorway at c.in_err-serve_next.ensures.doorway)
+    (rw c.loop-taken.invariant.clock_faults at c.in_err-serve_next.ensures.clock_counts))
 
 pub loop-taken-preserved : goal.loop-taken-preserved
 loop-taken-preserved g c =

@@ -1,8 +1,0 @@
-use Rattle.std.proofs.Common.{◌+◌, ◌≤◌, length}
-use Rattle.harmonics_text.proofs.tests.read_in_pieces.Given as goal
-
-abbrev pub invariant-pieces : goal.invariant-pieces
-invariant-pieces l = length l.reader.bytes + length l.rest ≤ 400000000
-
-abbrev pub decreases-pieces : goal.decreases-pieces
-decreases-pieces l = length l.rest
