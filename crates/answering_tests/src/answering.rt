@@ -1,6 +1,5 @@
 //! Answers, streamed answers and refusals, over a pier and a stream.
 
-mod loading;
 mod rows;
 
 ghost use Rattle.std.specs.Prelude.{IfOk};
