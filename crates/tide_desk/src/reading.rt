@@ -1,6 +1,7 @@
 //! Reading the files of a question.
 
-ghost use Rattle.std.specs.Prelude.{◌≡◌, ◌≤◌, ℕ, false, IsTrue, length, List, Option, IfOk, IfErr};
+ghost use Rattle.std.specs.Prelude.{◌≡◌, ◌≤◌, ℕ, false, IsTrue, length, List, Option, IfOk, IfErr, IsErrOf};
+ghost use Rattle.book_loading.specs.Loading.{IsStopped};
 ghost use Rattle.decimal_text.specs.Expected.{Gives};
 ghost use Rattle.harmonics_text.specs.Books.{IsBook};
 ghost use Rattle.question.specs.Asked.{IsAsked, IsZoneWord};
@@ -57,13 +58,15 @@ pub fn read_files<F: Files>(
     })
 }
 
-/// The book of harmonic constants of a name.
+/// The book of harmonic constants of a name. A file that is too long isn't read to its end.
 pub fn read_book<F: Files>(alloc: Global, files: &mut F, name: &Text) -> Result<Book, NoAnswer>
     ensures own { F.tells files.old
         → MeetsIf (IsTrue (F.steady files.old)) source_of (book_named (F.folder files.old) name.now) result }
     ensures some { (folder : Folder) × MeetsIf (Unit {0}) source_of (book_named folder name.now) result }
     ensures sound { IfOk result IsBook }
     ensures told { IfErr result IsTold }
+    ensures stops { F.tells files.old → IsErrOf result (NoAnswer.Told (Fault.TooLong Slot.File))
+        → IsStopped (limit_of Slot.File) (F.folder files.old name.now) (F.rest files.new) }
     ensures counts { F.faults files.new ≡ faults_after (reading_failed result) (F.faults files.old) }
     ensures same_files { F.folder files.new ≡ F.folder files.old }
     ensures as_steady { F.steady files.new ≡ F.steady files.old }
