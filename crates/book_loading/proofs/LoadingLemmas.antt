@@ -1,9 +1,8 @@
 -- What loading gives, from what its reading and its form give.
-use Rattle.std.proofs.Common.{◌≡◌, ℕ, suc, ◌≤◌, Bool, List, ◌++◌, length, append_assoc, Option, Some, None, Result, Ok, Err, ap, sym, ◌∙◌, refl, arith}
+use Rattle.std.proofs.Common.{◌≡◌, ℕ, suc, ◌≤◌, Bool, List, length, Option, Some, None, Result, Ok, Err, refl, arith}
 use Rattle.std.specs.Bool.{IsTrue}
 use Rattle.std.specs.Prelude.{replicate}
 use Rattle.std.proofs.lemmas.Bool.{le-leb, lt-leb}
-use Rattle.std.proofs.lemmas.Grind.{common_steps}
 use Rattle.std.proofs.lemmas.List.{length-replicate}
 use Rattle.decimal_text.specs.Expected.{Excused}
 use Rattle.harmonics_text.specs.declared.book.Book.{Book as TheBook}
@@ -16,7 +15,7 @@ use Rattle.tide_edge.specs.Excuses.{Excuses, Meets}
 use Rattle.tide_edge.specs.Whole.{whole, source_of as source_of_reading}
 use Rattle.book_loading.specs.declared.loading.LoadFault.{LoadFault}
 use Rattle.book_loading.specs.declared.loading.LoadFault.TheVariants.{Failed, Book}
-use Rattle.book_loading.specs.Loading.{IsStopped, loaded, fault_of_reading, source_of, wants_memory}
+use Rattle.book_loading.specs.Loading.{loaded, fault_of_reading, source_of, wants_memory}
 
 -- where reading has a fault
 pub excuses_reading : (limit : ℕ) (steady : Bool) (file : Option (List ℕ)) (fault : ReadAllFault) → Excuses (source_of_reading fault) steady (whole limit file) fault → Excuses (source_of (fault_of_reading fault)) steady (loaded limit file) (fault_of_reading fault)
@@ -57,17 +56,6 @@ loaded_whole limit file bytes book read gives = rw (read, gives) refl
 
 pub loaded_within : (limit : ℕ) (bytes : List ℕ) (book : TheBook) → length bytes ≤ limit → book_of bytes ≡ Ok book → loaded limit (Some bytes) ≡ Ok book
 loaded_within limit bytes book within = loaded_whole limit (Some bytes) bytes book (whole_within limit bytes within)
-
--- where more came than may
-pub stopped : (limit : ℕ) (file read before piece left : List ℕ) → file ≡ read ++ before → before ≡ piece ++ left → length read ≤ limit → length piece ≤ 65536 → IsStopped limit (Some file) left
-stopped limit file read before piece left so_far next few one = record {
-  read = read ++ piece;
-  parts = ap Some (so_far ∙ ap (λ xs. read ++ xs) next ∙ sym (append_assoc read piece left));
-  within = grind (arith, common_steps, few, one);
-}
-
-pub stopped_opened : (limit : ℕ) (file : Option (List ℕ)) (rest left : List ℕ) → file ≡ Some rest → IsStopped limit (Some rest) left → IsStopped limit file left
-stopped_opened limit file rest left is stops = rw is stops
 
 -- where no file was opened
 pub unopened : (limit : ℕ) (steady : Bool) (file : Option (List ℕ)) → (IsTrue steady → file ≡ None) → IsTrue steady → loaded limit file ≡ Err Failed

@@ -1,5 +1,5 @@
 -- A book loaded from a file, whose reading comes before its form (this project).
-use Rattle.std.specs.Prelude.{◌≡◌, ◌≤◌, ◌+◌, ℕ, Bool, true, false, List, ◌++◌, length, Option, Some, Result, Ok, Err}
+use Rattle.std.specs.Prelude.{ℕ, Bool, true, false, List, Option, Result, Ok, Err}
 use Rattle.decimal_text.specs.Expected.{◌>>=◌}
 use Rattle.harmonics_text.specs.declared.book.Book.{Book as TheBook}
 use Rattle.harmonics_text.specs.declared.fault.BookFault.TheVariants as form
@@ -31,12 +31,6 @@ unfoldable pub loaded : ℕ → Option (List ℕ) → Result TheBook LoadFault
 loaded limit file = do
   bytes ← bytes_from (whole limit file)
   book_from (book_of bytes)
-
--- a file was read from its begin, by at most a piece of 65,536 bytes past the limit, and the others are left
-pub record IsStopped (limit : ℕ) (file : Option (List ℕ)) (left : List ℕ) : Type 0 where
-  pub read : List ℕ
-  pub parts : file ≡ Some (read ++ left)
-  pub within : length read ≤ limit + 65536
 
 -- where each fault comes from
 abbrev pub source_of : LoadFault → Source

@@ -1,13 +1,13 @@
 //! Loading a book from a file, in pieces.
 
-ghost use Rattle.std.specs.Prelude.{◌≡◌, ◌<◌, ◌≤◌, ℕ, List, [], length, Option, Some, IfOk, IsErrOf};
+ghost use Rattle.std.specs.Prelude.{◌≡◌, ◌+◌, ◌≤◌, ℕ, List, [], length, Option, Some, IfOk, IsErrOf};
 ghost use Rattle.decimal_text.specs.Expected.{Gives};
 ghost use Rattle.harmonics_text.specs.Books.{IsBook};
-ghost use Rattle.book_loading.specs.Loading.{IsStopped, loaded, source_of, wants_memory};
+ghost use Rattle.book_loading.specs.Loading.{loaded, source_of, wants_memory};
 ghost use Rattle.book_loading.specs.Workings.Feeding.{bytes_fed};
 ghost use Rattle.tide_edge.specs.Excuses.{Meets, is_outside_fault};
 ghost use Rattle.tide_edge.specs.Faults.{faults_after, Rose};
-ghost use Rattle.tide_edge.specs.Whole.{whole, source_of as source_of_reading};
+ghost use Rattle.tide_edge.specs.Whole.{IsStopped, whole, source_of as source_of_reading};
 
 use decimal_text::Text;
 use harmonics_text::{Book, BookFault, BookReader};
@@ -28,8 +28,8 @@ pub enum LoadFault {
 const PIECE: usize = 65_536;
 
 /// Loads the book of the file of that name, if it has at most `limit` bytes, which are at most
-/// 400,000,000. The file is read in pieces of at most 65,536 bytes, and none of them is kept. It is
-/// read on after a line that breaks a rule, so that a fault of reading comes first.
+/// 400,000,000. The file is opened once and read in pieces of at most 65,536 bytes, and none of them
+/// is kept. It is read on after a line that breaks a rule, so that a fault of reading comes first.
 ///
 /// # Errors
 /// [`LoadFault::Failed`] only where the count of `files` rose, and over steady files only where there
@@ -50,6 +50,7 @@ pub fn load_book<F: Files>(
     ensures counts { F.faults files.new ≡ faults_after (is_outside_fault source_of result) (F.faults files.old) }
     ensures failed { IsErrOf result LoadFault.Failed → Rose (F.faults files.old) (F.faults files.new) }
     ensures stops { F.tells files.old → IsErrOf result LoadFault.TooLong → IsStopped limit (F.folder files.old name.now) (F.rest files.new) }
+    ensures opened { F.opens files.new ≤ F.opens files.old + 1 }
     ensures same_files { F.folder files.new ≡ F.folder files.old }
     ensures as_steady { F.steady files.new ≡ F.steady files.old }
     ensures still_tells { F.tells files.old → F.tells files.new }
@@ -78,6 +79,7 @@ fn load_rest<F: Files>(
     ensures sound { IfOk result IsBook }
     ensures counts { F.faults files.new ≡ faults_after (is_outside_fault source_of result) (F.faults files.old) }
     ensures stops { F.tells files.old → IsErrOf result LoadFault.TooLong → IsStopped limit (Some (F.rest files.old)) (F.rest files.new) }
+    ensures unopened { F.opens files.new ≡ F.opens files.old }
     ensures same_files { F.folder files.new ≡ F.folder files.old }
     ensures as_steady { F.steady files.new ≡ F.steady files.old }
     ensures still_tells { F.tells files.old → F.tells files.new }
@@ -102,6 +104,7 @@ fn feed_rest<F: Files>(
     ensures within { IfOk result (λ reader. length reader.bytes ≤ limit) }
     ensures counts { F.faults files.new ≡ faults_after (is_outside_fault source_of_reading result) (F.faults files.old) }
     ensures stops { F.tells files.old → IsErrOf result ReadAllFault.TooLong → IsStopped limit (Some (F.rest files.old)) (F.rest files.new) }
+    ensures unopened { F.opens files.new ≡ F.opens files.old }
     ensures same_files { F.folder files.new ≡ F.folder files.old }
     ensures as_steady { F.steady files.new ≡ F.steady files.old }
     ensures still_tells { F.tells files.old → F.tells files.new }

@@ -35,7 +35,8 @@ pub fn respond<F: Files, D: Door, O: Sink, E: Sink, K: Clock>(
     ensures serves { asks_to_serve words.now ≡ true → (folders : Folders) × ServerEndsAs true (stock_from folders words.now) result (D.doorway door.new)
         (λ stock. D.tells door.old → K.tells clock.old
         → Served (Answers stock (K.minute_held clock.old)) (is_read_fault result) (D.doorway door.new).taken
-        (D.traffic door.old) (D.traffic door.new) (D.line_faults door.old) (D.line_faults door.new) (K.faults clock.old) (K.faults clock.new))
+        (D.traffic door.old) (D.traffic door.new) (D.line_faults door.old) (D.line_faults door.new)
+        (K.faults clock.old) (K.faults clock.new) (K.asked clock.old) (K.asked clock.new))
         (WroteBoth (E.tells err.old) (E.tells err.new) (E.taken err.old) (E.taken err.new) (E.faults err.old) (E.faults err.new)) }
 {
     if asks_to_serve(words) {

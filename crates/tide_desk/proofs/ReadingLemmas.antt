@@ -1,7 +1,7 @@
 -- How what was read follows from its steps.
 use Rattle.std.proofs.Common.{◌≡◌, ◌∙◌, ap, sym, ℕ, suc, ◌≤◌, nat_le, Bool, true, false, cond, List, length, Option, Some, None, Result, Ok, Err, refl, subst, arith, le_refl}
 use Rattle.std.specs.Bool.{IsTrue}
-use Rattle.std.specs.Prelude.{ℤ, IsOk, IsSome, replicate, pos}
+use Rattle.std.specs.Prelude.{ℤ, IsOk, IsSome, IfErr, replicate, pos}
 use Rattle.std.specs.Option.{IsSomeAnd}
 use Rattle.std.specs.Result.{IsErrAnd}
 use Rattle.std.proofs.lemmas.Bool.{le-leb, lt-leb}
@@ -30,7 +30,7 @@ use Rattle.tide_desk.specs.declared.no_answer.NoAnswer.{NoAnswer}
 use Rattle.tide_desk.specs.declared.no_answer.NoAnswer.TheVariants.{Unread, Told, Refused}
 use Rattle.tide_desk.specs.Answers.{HasFiles, NamesFile, answered_by, answered_over, refused_from}
 use Rattle.tide_desk.specs.NoAnswers.{source_of, told, wants_memory}
-use Rattle.tide_desk.specs.Readings.{Folder, Folders, asks_clock, book_from, book_named, bytes_from, bytes_of, fault_of_loading, fault_of_reading, files_in, limit_of, minute_for}
+use Rattle.tide_desk.specs.Readings.{Folder, Folders, StopsAtLimit, asks_clock, book_from, book_named, bytes_from, bytes_of, fault_of_loading, fault_of_reading, files_in, limit_of, minute_for}
 use Rattle.tide_desk.specs.Workings.Meetings.{ExcusesIf, MeetsIf}
 
 -- ---- Steps, one after the other
@@ -49,6 +49,12 @@ meets_fault firm expected (Err e) none is excused =
 
 pub meets_at : {A B : Type 0} (firm : Type 0) (step : Result A NoAnswer) (next : A → Result B NoAnswer) (result : Result B NoAnswer) (none : NoAnswer) → IsErrAnd result (λ e. e ≡ none) → ExcusesIf firm (source_of none) step none → MeetsIf firm source_of (step >>= next) result
 meets_at firm step next result none is excused = meets_fault firm (step >>= next) result none is (excuses_next firm (source_of none) step next none excused)
+
+-- where reading stopped, by a step that has failed
+pub stops_at : {A : Type 0} (folder : Folder) (named : Slot → Option (List ℕ)) (left : List ℕ) (result : Result A NoAnswer) (none : NoAnswer) → IsErrAnd result (λ e. e ≡ none) → StopsAtLimit folder named left none → IfErr result (StopsAtLimit folder named left)
+stops_at folder named left (Ok value) none is stops = absurd is
+stops_at folder named left (Err e) none is stops =
+    let P : NoAnswer → Type 0 = λ x. StopsAtLimit folder named left x in subst P (sym is) stops
 
 -- ---- What excuses a fault
 

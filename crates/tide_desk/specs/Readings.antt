@@ -1,5 +1,5 @@
 -- What a run reads from outside beside its words, a file's reading before its form (this project).
-use Rattle.std.specs.Prelude.{ℕ, ℤ, pos, Bool, true, false, if◌then◌else◌, List, [], Option, Some, None, Result, Ok, Err}
+use Rattle.std.specs.Prelude.{ℕ, ◌+◌, ℤ, pos, Bool, true, false, if◌then◌else◌, List, [], Option, Some, None, is_some, Result, Ok, Err, IsSomeAnd}
 use Rattle.decimal_text.specs.Expected.{◌>>=◌}
 use Rattle.harmonics_text.specs.declared.book.Book.{Book as TheBook}
 use Rattle.harmonics_text.specs.declared.fault.BookFault.TheVariants as form
@@ -21,7 +21,7 @@ use Rattle.tide_answer.specs.declared.slot.Slot.{Slot}
 use Rattle.tide_answer.specs.declared.slot.Slot.TheVariants as slots
 use Rattle.tide_edge.specs.declared.read_all_fault.ReadAllFault.{ReadAllFault}
 use Rattle.tide_edge.specs.declared.read_all_fault.ReadAllFault.TheVariants as reading
-use Rattle.tide_edge.specs.Whole.{whole}
+use Rattle.tide_edge.specs.Whole.{IsStopped, whole}
 use Rattle.zone_time.specs.declared.zone.Zone.{Zone}
 use Rattle.zone_time.specs.declared.zone.Zone.TheVariants.{Utc, Fixed}
 use Rattle.zone_time.specs.declared.zone_fault.ZoneFault.{ZoneFault}
@@ -116,6 +116,38 @@ files_in folders question name = do
   zone ← zone_named (folders slots.Zone) question.zone
   certificate ← certificate_named (folders slots.Certificate) question.certificate
   Ok (record { book = book; table = table; zone = zone; certificate = certificate })
+
+-- ---- What is opened, and how far it is read
+
+-- the file of a zone's word
+abbrev pub zone_file : ZoneWord → Option (List ℕ)
+zone_file words.Utc = None
+zone_file (words.Fixed minutes) = None
+zone_file (words.Named name) = Some name
+
+-- the name of the file that a question has read as this
+abbrev pub file_named : Question → Slot → Option (List ℕ)
+file_named question slots.File = question.file
+file_named question slots.Offsets = question.offsets
+file_named question slots.Zone = zone_file question.zone
+file_named question slots.Certificate = question.certificate
+
+abbrev pub one_if : Bool → ℕ
+one_if is = if is then 1 else 0
+
+-- how many files it names
+abbrev pub files_named : Question → ℕ
+files_named question =
+    one_if (is_some question.file)
+    + one_if (is_some question.offsets)
+    + one_if (is_some (zone_file question.zone))
+    + one_if (is_some question.certificate)
+
+-- reading a file stopped at its limit, where it was too long: of these names, by what the file is read as
+abbrev pub StopsAtLimit : Folder → (Slot → Option (List ℕ)) → List ℕ → NoAnswer → Type 0
+StopsAtLimit folder named left (Told (TooLong slot)) =
+    IsSomeAnd (named slot) (λ name. IsStopped (limit_of slot) (folder name) left)
+StopsAtLimit folder named left _ = Unit {0}
 
 -- ---- The clock, which is asked after all files
 

@@ -1,15 +1,16 @@
 //! The answer to the words, or the first fault on the way to it.
 
-ghost use Rattle.std.specs.Prelude.{◌≡◌, ◌⊎◌, ℤ, false, IsTrue, IsOk, IfOk, IfErr, OnErr, is_err};
+ghost use Rattle.std.specs.Prelude.{◌≡◌, ◌⊎◌, ◌+◌, ◌≤◌, ℕ, ℤ, false, IsTrue, List, Option, Some, IsOk, IfOk, IfErr, OnErr, is_err};
 ghost use Rattle.decimal_text.specs.Expected.{Gives};
 ghost use Rattle.question.specs.Asked.{IsAsked};
+ghost use Rattle.tide_answer.specs.declared.slot.Slot.{Slot};
 ghost use Rattle.tide_answer.specs.Answers.{answered, answered_alone};
 ghost use Rattle.tide_edge.specs.Clocks.{IsClockMinute};
 ghost use Rattle.tide_edge.specs.Faults.{faults_after};
 ghost use Rattle.tide_desk.specs.Answers.{AsksClock, HasFiles, NamesFile, answer_from, answer_of, answered_over, asked_of, refused_from};
 ghost use Rattle.tide_desk.specs.NoAnswers.{IsTold, reading_failed, refused_over, source_of, told, wants_memory};
 ghost use Rattle.tide_desk.specs.Outcomes.{ClockFailed, FilesFailed, IsFirm};
-ghost use Rattle.tide_desk.specs.Readings.{Folders, asks_clock, files_in, given_with, minute_for};
+ghost use Rattle.tide_desk.specs.Readings.{Folder, Folders, StopsAtLimit, asks_clock, file_named, files_in, files_named, given_with, minute_for};
 ghost use Rattle.tide_desk.specs.Workings.Materials.{AreMaterials};
 ghost use Rattle.tide_desk.specs.Workings.Meetings.{MeetsIf};
 
@@ -43,6 +44,10 @@ pub fn answer_words<F: Files, K: Clock>(
     ensures unopened { ¬ (NamesFile (asked_of words.now)) → files.new ≡ files.old }
     ensures unasked { ¬ (AsksClock (asked_of words.now)) → clock.new ≡ clock.old }
     ensures asked_last { F.tells files.old → ¬ (HasFiles (λ slot. F.folder files.old) (asked_of words.now)) → clock.new ≡ clock.old }
+    ensures stops { F.tells files.old → IfErr result (λ none. IfOk (asked_of words.now)
+        (λ question. StopsAtLimit (F.folder files.old) (file_named question) (F.rest files.new) none)) }
+    ensures opened { IfOk (asked_of words.now) (λ question. F.opens files.new ≤ F.opens files.old + files_named question) }
+    ensures asks_once { K.asked clock.new ≤ K.asked clock.old + 1 }
     ensures same_files { F.folder files.new ≡ F.folder files.old }
     ensures as_steady { F.steady files.new ≡ F.steady files.old }
     ensures still_tells { F.tells files.old → F.tells files.new }
@@ -62,6 +67,7 @@ fn answer_without(alloc: Global, question: &Question) -> Result<Reply, NoAnswer>
     ensures exact { Gives wants_memory (told (refused_from (answered_alone question.now))) result }
     ensures told { IfErr result IsTold }
     ensures read { reading_failed result ≡ false }
+    ensures unstopped { (folder : Folder) (named : Slot → Option (List ℕ)) (left : List ℕ) → IfErr result (StopsAtLimit folder named left) }
 {
     match answer_alone(alloc, question) {
         Ok(answer) => Ok(Reply::made(answer)),
@@ -87,6 +93,10 @@ fn answer_over<F: Files, K: Clock>(
         ⊎ ClockFailed (reading_failed result) (IsTrue (asks_clock question.now.command)) (F.faults files.old) (F.faults files.new) (K.faults clock.old) (K.faults clock.new) }
     ensures unasked { ¬ (IsTrue (asks_clock question.now.command)) → clock.new ≡ clock.old }
     ensures asked_last { F.tells files.old → ¬ (IsOk (files_in (λ slot. F.folder files.old) question.now name.now)) → clock.new ≡ clock.old }
+    ensures stops { F.tells files.old → question.now.file ≡ Some name.now
+        → IfErr result (StopsAtLimit (F.folder files.old) (file_named question.now) (F.rest files.new)) }
+    ensures opened { question.now.file ≡ Some name.now → F.opens files.new ≤ F.opens files.old + files_named question.now }
+    ensures asks_once { K.asked clock.new ≤ K.asked clock.old + 1 }
     ensures same_files { F.folder files.new ≡ F.folder files.old }
     ensures as_steady { F.steady files.new ≡ F.steady files.old }
     ensures still_tells { F.tells files.old → F.tells files.new }
@@ -106,6 +116,7 @@ fn read_minute<K: Clock>(clock: &mut K, command: Command) -> Result<i64, NoAnswe
     ensures unread { IfErr result (λ none. none ≡ NoAnswer.Unread) }
     ensures asked { OnErr result (IsTrue (asks_clock command)) }
     ensures counts { K.faults clock.new ≡ faults_after (is_err result) (K.faults clock.old) }
+    ensures asks_once { K.asked clock.new ≤ K.asked clock.old + 1 }
     ensures unasked { ¬ (IsTrue (asks_clock command)) → clock.new ≡ clock.old }
     ensures same_minute { K.minute_held clock.new ≡ K.minute_held clock.old }
     ensures still_tells { K.tells clock.old → K.tells clock.new }
@@ -138,6 +149,7 @@ fn answer_with(
     ensures exact { Gives wants_memory (refused_over read.table (answered read.book read.table question.now (given_with read now))) result }
     ensures told { IfErr result IsTold }
     ensures read { reading_failed result ≡ false }
+    ensures unstopped { (folder : Folder) (named : Slot → Option (List ℕ)) (left : List ℕ) → IfErr result (StopsAtLimit folder named left) }
 {
     let Materials {
         book,

@@ -1,10 +1,13 @@
 //! One run, from the words to the status.
 
-ghost use Rattle.std.specs.Prelude.{◌≡◌, ◌⊎◌, ℤ, Bool, if◌then◌else◌};
+ghost use Rattle.std.specs.Prelude.{◌≡◌, ◌⊎◌, ◌+◌, ◌≤◌, ℤ, Bool, if◌then◌else◌, Err, IfOk};
+ghost use Rattle.tide_answer.specs.declared.fault.Fault.{Fault};
+ghost use Rattle.tide_answer.specs.declared.slot.Slot.{Slot};
 ghost use Rattle.tide_answer.specs.declared.status.Status.{Status};
 ghost use Rattle.tide_desk.specs.Answers.{AsksClock, HasFiles, NamesFile, answer_from, answer_of, asked_of};
 ghost use Rattle.tide_desk.specs.Outcomes.{ClockFailed, EndsAs, FilesFailed, IsFirm, IsSilent, IsUntouched, Wrote, is_read_fault};
-ghost use Rattle.tide_desk.specs.Readings.{Folders};
+ghost use Rattle.tide_desk.specs.declared.no_answer.NoAnswer.{NoAnswer};
+ghost use Rattle.tide_desk.specs.Readings.{Folders, StopsAtLimit, file_named, files_named};
 
 use crate::answering::answer_words;
 use crate::telling::{refuse, tell};
@@ -15,8 +18,9 @@ use tide_edge::{Clock, Files, Sink};
 
 /// Answers the words from the files: writes the whole answer to `out`, or one line that says why
 /// there is none to `err`. A failure to write to `err` changes nothing of the status. Nothing is
-/// tried again after a failure, no file is opened for words that name none, and the clock is asked
-/// for the command `clock` alone, after all files were read.
+/// tried again after a failure. No file is opened for words that name none, and else none more often
+/// than they name it; where one is too long, reading stops at most a piece of 65,536 bytes past its
+/// limit. The clock is asked once, for the command `clock` alone, after all files were read.
 pub fn run<F: Files, O: Sink, E: Sink, K: Clock>(
     alloc: Global,
     words: &Words,
@@ -41,6 +45,11 @@ pub fn run<F: Files, O: Sink, E: Sink, K: Clock>(
     ensures unopened { ¬ (NamesFile (asked_of words.now)) → files.new ≡ files.old }
     ensures unasked { ¬ (AsksClock (asked_of words.now)) → clock.new ≡ clock.old }
     ensures asked_last { F.tells files.old → ¬ (HasFiles (λ slot. F.folder files.old) (asked_of words.now)) → clock.new ≡ clock.old }
+    ensures stops { F.tells files.old → K.tells clock.old → (slot : Slot)
+        → answer_of (F.folder files.old) (K.minute_held clock.old) words.now ≡ Err (NoAnswer.Told (Fault.TooLong slot)) → result ≡ Status.FileRefused
+        → IfOk (asked_of words.now) (λ question. StopsAtLimit (F.folder files.old) (file_named question) (F.rest files.new) (NoAnswer.Told (Fault.TooLong slot))) }
+    ensures opened { IfOk (asked_of words.now) (λ question. F.opens files.new ≤ F.opens files.old + files_named question) }
+    ensures asks_once { K.asked clock.new ≤ K.asked clock.old + 1 }
     ensures same_files { F.folder files.new ≡ F.folder files.old }
     ensures as_steady { F.steady files.new ≡ F.steady files.old }
     ensures still_tells { F.tells files.old → F.tells files.new }

@@ -1,7 +1,6 @@
 //! Reading the files of a question.
 
-ghost use Rattle.std.specs.Prelude.{◌≡◌, ◌≤◌, ℕ, false, IsTrue, length, List, Option, IfOk, IfErr, IsErrOf};
-ghost use Rattle.book_loading.specs.Loading.{IsStopped};
+ghost use Rattle.std.specs.Prelude.{◌≡◌, ◌+◌, ◌≤◌, ℕ, false, IsTrue, length, List, Option, Some, is_some, IfOk, IfErr};
 ghost use Rattle.decimal_text.specs.Expected.{Gives};
 ghost use Rattle.harmonics_text.specs.Books.{IsBook};
 ghost use Rattle.question.specs.Asked.{IsAsked, IsZoneWord};
@@ -10,7 +9,7 @@ ghost use Rattle.station_table.specs.Table.{table_of};
 ghost use Rattle.zone_time.specs.Zones.{IsZone, zone_of};
 ghost use Rattle.tide_edge.specs.Faults.{faults_after};
 ghost use Rattle.tide_desk.specs.NoAnswers.{IsTold, reading_failed, source_of, wants_memory};
-ghost use Rattle.tide_desk.specs.Readings.{Folder, Folders, limit_of, fault_of_reading, bytes_of, book_named, table_from, table_named, zone_from, zone_named, certificate_named, files_in};
+ghost use Rattle.tide_desk.specs.Readings.{Folder, Folders, StopsAtLimit, file_named, files_named, one_if, zone_file, limit_of, fault_of_reading, bytes_of, book_named, table_from, table_named, zone_from, zone_named, certificate_named, files_in};
 ghost use Rattle.tide_desk.specs.Workings.Materials.{AreMaterials};
 ghost use Rattle.tide_desk.specs.Workings.Meetings.{MeetsIf};
 
@@ -42,6 +41,9 @@ pub fn read_files<F: Files>(
     ensures sound { IfOk result AreMaterials }
     ensures told { IfErr result IsTold }
     ensures counts { F.faults files.new ≡ faults_after (reading_failed result) (F.faults files.old) }
+    ensures stops { F.tells files.old → question.now.file ≡ Some name.now
+        → IfErr result (StopsAtLimit (F.folder files.old) (file_named question.now) (F.rest files.new)) }
+    ensures opened { question.now.file ≡ Some name.now → F.opens files.new ≤ F.opens files.old + files_named question.now }
     ensures same_files { F.folder files.new ≡ F.folder files.old }
     ensures as_steady { F.steady files.new ≡ F.steady files.old }
     ensures still_tells { F.tells files.old → F.tells files.new }
@@ -65,9 +67,10 @@ pub fn read_book<F: Files>(alloc: Global, files: &mut F, name: &Text) -> Result<
     ensures some { (folder : Folder) × MeetsIf (Unit {0}) source_of (book_named folder name.now) result }
     ensures sound { IfOk result IsBook }
     ensures told { IfErr result IsTold }
-    ensures stops { F.tells files.old → IsErrOf result (NoAnswer.Told (Fault.TooLong Slot.File))
-        → IsStopped (limit_of Slot.File) (F.folder files.old name.now) (F.rest files.new) }
     ensures counts { F.faults files.new ≡ faults_after (reading_failed result) (F.faults files.old) }
+    ensures stops { F.tells files.old → (named : Slot → Option (List ℕ)) → named Slot.File ≡ Some name.now
+        → IfErr result (StopsAtLimit (F.folder files.old) named (F.rest files.new)) }
+    ensures opened { F.opens files.new ≤ F.opens files.old + 1 }
     ensures same_files { F.folder files.new ≡ F.folder files.old }
     ensures as_steady { F.steady files.new ≡ F.steady files.old }
     ensures still_tells { F.tells files.old → F.tells files.new }
@@ -90,6 +93,9 @@ pub fn read_table<F: Files>(
     ensures sound { IfOk result IsTable }
     ensures told { IfErr result IsTold }
     ensures counts { F.faults files.new ≡ faults_after (reading_failed result) (F.faults files.old) }
+    ensures stops { F.tells files.old → (named : Slot → Option (List ℕ)) → named Slot.Offsets ≡ name.now
+        → IfErr result (StopsAtLimit (F.folder files.old) named (F.rest files.new)) }
+    ensures opened { F.opens files.new ≤ F.opens files.old + one_if (is_some name.now) }
     ensures same_files { F.folder files.new ≡ F.folder files.old }
     ensures as_steady { F.steady files.new ≡ F.steady files.old }
     ensures still_tells { F.tells files.old → F.tells files.new }
@@ -129,6 +135,9 @@ fn read_zone_named<F: Files>(
     ensures sound { IfOk result IsZone }
     ensures told { IfErr result IsTold }
     ensures counts { F.faults files.new ≡ faults_after (reading_failed result) (F.faults files.old) }
+    ensures stops { F.tells files.old → (named : Slot → Option (List ℕ)) → named Slot.Zone ≡ zone_file word.now
+        → IfErr result (StopsAtLimit (F.folder files.old) named (F.rest files.new)) }
+    ensures opened { F.opens files.new ≤ F.opens files.old + one_if (is_some (zone_file word.now)) }
     ensures same_files { F.folder files.new ≡ F.folder files.old }
     ensures as_steady { F.steady files.new ≡ F.steady files.old }
     ensures still_tells { F.tells files.old → F.tells files.new }
@@ -168,6 +177,9 @@ fn read_certificate<F: Files>(
     ensures within { IfOk result (λ bytes. length bytes ≤ 400000000) }
     ensures told { IfErr result IsTold }
     ensures counts { F.faults files.new ≡ faults_after (reading_failed result) (F.faults files.old) }
+    ensures stops { F.tells files.old → (named : Slot → Option (List ℕ)) → named Slot.Certificate ≡ name.now
+        → IfErr result (StopsAtLimit (F.folder files.old) named (F.rest files.new)) }
+    ensures opened { F.opens files.new ≤ F.opens files.old + one_if (is_some name.now) }
     ensures same_files { F.folder files.new ≡ F.folder files.old }
     ensures as_steady { F.steady files.new ≡ F.steady files.old }
     ensures still_tells { F.tells files.old → F.tells files.new }
@@ -191,6 +203,9 @@ fn read_file<F: Files>(
     ensures within { IfOk result (λ bytes. length bytes ≤ limit_of slot) }
     ensures told { IfErr result IsTold }
     ensures counts { F.faults files.new ≡ faults_after (reading_failed result) (F.faults files.old) }
+    ensures stops { F.tells files.old → (named : Slot → Option (List ℕ)) → named slot ≡ Some name.now
+        → IfErr result (StopsAtLimit (F.folder files.old) named (F.rest files.new)) }
+    ensures opened { F.opens files.new ≤ F.opens files.old + 1 }
     ensures same_files { F.folder files.new ≡ F.folder files.old }
     ensures as_steady { F.steady files.new ≡ F.steady files.old }
     ensures still_tells { F.tells files.old → F.tells files.new }

@@ -5,7 +5,7 @@ use Rattle.std.proofs.lemmas.Grind.{common_steps}
 use Rattle.tide_edge.specs.declared.read_all_fault.ReadAllFault.{ReadAllFault}
 use Rattle.tide_edge.specs.declared.read_all_fault.ReadAllFault.TheVariants.{Failed, TooLong}
 use Rattle.tide_edge.specs.Excuses.{Meets}
-use Rattle.tide_edge.specs.Whole.{whole, source_of}
+use Rattle.tide_edge.specs.Whole.{IsStopped, whole, source_of}
 
 -- at the end of the file
 pub whole_at_end : (limit : ℕ) (all bytes rest : List ℕ) → all ≡ bytes ++ rest → rest ≡ [] → length bytes ≤ limit
@@ -34,3 +34,14 @@ pub meets_opened : (limit : ℕ) (file : Option (List ℕ)) (rest : List ℕ) (b
     → file ≡ Some rest → now ≡ before → Meets source_of now (whole limit (Some rest)) result
     → Meets source_of before (whole limit file) result
 meets_opened limit file rest before now result is same meets = rw (is, ← same) meets
+
+-- where more came than may
+pub stopped : (limit : ℕ) (file read before piece left : List ℕ) → file ≡ read ++ before → before ≡ piece ++ left → length read ≤ limit → length piece ≤ 65536 → IsStopped limit (Some file) left
+stopped limit file read before piece left so_far next few one = record {
+  read = read ++ piece;
+  parts = ap Some (so_far ∙ ap (λ xs. read ++ xs) next ∙ sym (append_assoc read piece left));
+  within = grind (arith, common_steps, few, one);
+}
+
+pub stopped_opened : (limit : ℕ) (file : Option (List ℕ)) (rest left : List ℕ) → file ≡ Some rest → IsStopped limit (Some rest) left → IsStopped limit file left
+stopped_opened limit file rest left is stops = rw is stops

@@ -1,6 +1,5 @@
 -- What a door tells of its connections (this project).
-use Rattle.std.specs.Prelude.{ℕ, Bool, true, false, List, [], ◌∷◌, ◌++◌, take, drop, Option, Some, None, Result, Ok, Err}
-use Rattle.std.specs.List.{concat}
+use Rattle.std.specs.Prelude.{ℕ, ◌-◌, ◌==◌, nat_lt, Bool, true, false, ◌||◌, if◌then◌else◌, List, [], ◌∷◌, ◌++◌, length, take, drop, Option, Some, None, Result, Ok, Err}
 use Rattle.tide_edge.specs.declared.failed.Failed.{Failed}
 use Rattle.tide_edge.specs.Faults.{counted}
 
@@ -35,28 +34,33 @@ abbrev pub closed : Doorway → Doorway
 closed d =
     record { port = d.port; listens = d.listens; taken = d.taken; is_open = false; is_over = d.is_over }
 
--- What a door may tell besides: the requests that wait, each a list of pieces that aren't empty; the bytes of the open
--- connection that weren't read yet; and the replies given, one a connection, of which an open connection's is the last.
+-- What a door may tell besides: the requests that wait, each in the pieces in which it comes, which aren't empty; what wasn't
+-- read yet of the connection taken last; and the replies given, one a connection, of which an open connection's is the last.
 pub record Traffic : Type 0 where
   pub waiting : List (List (List ℕ))
-  pub rest : List ℕ
+  pub rest : List (List ℕ)
   pub replies : List (List ℕ)
 
--- the bytes of the first request that waits
-abbrev pub first_bytes : List (List (List ℕ)) → List ℕ
-first_bytes [] = []
-first_bytes (request ∷ more) = concat request
+abbrev pub first_or_empty : {A : Type 0} → List (List A) → List A
+first_or_empty [] = []
+first_or_empty (first ∷ more) = first
+
+-- what is left of the pieces behind so many bytes
+abbrev pub left_after : ℕ → List (List ℕ) → List (List ℕ)
+left_after count [] = []
+left_after count (piece ∷ more) =
+    if count == 0 || nat_lt count (length piece) then drop count piece ∷ more else left_after (count - length piece) more
 
 -- `next` takes the first request that waits, with an empty reply, unless it answers otherwise
 abbrev pub taken_by : Result Bool Failed → Traffic → Traffic
 taken_by (Ok true) t =
-    record { waiting = drop 1 t.waiting; rest = first_bytes t.waiting; replies = t.replies ++ [] ∷ [] }
+    record { waiting = drop 1 t.waiting; rest = first_or_empty t.waiting; replies = t.replies ++ [] ∷ [] }
 taken_by (Ok false) t = t
 taken_by (Err failed) t = t
 
 -- `read` leaves what comes after the bytes that it gave
 abbrev pub read_by : Result ℕ Failed → Traffic → Traffic
-read_by (Ok count) t = record { waiting = t.waiting; rest = drop count t.rest; replies = t.replies }
+read_by (Ok count) t = record { waiting = t.waiting; rest = left_after count t.rest; replies = t.replies }
 read_by (Err failed) t = t
 
 -- the last reply with more bytes after it

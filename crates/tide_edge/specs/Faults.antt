@@ -5,9 +5,13 @@ use Rattle.std.specs.Prelude.{ℕ, ◌+◌, ◌-◌, ◌^◌, ◌==◌, ◌≤�
 abbrev pub counted : ℕ → ℕ
 counted n = if n == 2 ^ 64 - 1 then n else n + 1
 
+-- one more where something is so
+abbrev pub counted_if : Bool → ℕ → ℕ
+counted_if is n = if is then counted n else n
+
 -- the count of faults after a call that failed or didn't
 abbrev pub faults_after : Bool → ℕ → ℕ
-faults_after failed faults = if failed then counted faults else faults
+faults_after failed faults = counted_if failed faults
 
 -- The count rose: it is greater than before, or stands at its last value. A rise over a part of the time is one over the whole.
 abbrev pub Rose : ℕ → ℕ → Type 0

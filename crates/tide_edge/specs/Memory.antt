@@ -1,18 +1,19 @@
 -- The objects in memory: what each holds, what its calls answer and what they leave (this project).
 use Rattle.std.specs.Prelude.{ℕ, ℤ, ◌-◌, ◌==◌, nat_lt, min, Bool, false, not, ◌||◌, if◌then◌else◌, List, [], ◌∷◌, ◌++◌, length, take, drop, find, Option, None, is_none, unwrap_or, Result, Ok, Err}
-use Rattle.std.specs.List.{concat, list_all}
+use Rattle.std.specs.List.{list_all}
 use Rattle.std.specs.Option.{option_map}
 use Rattle.std.specs.Str.{bytes_eq}
 use Rattle.tide_edge.specs.declared.named_file.NamedFile.{NamedFile}
 use Rattle.tide_edge.specs.declared.failed.Failed.{Failed}
 use Rattle.tide_edge.specs.Calls.{HeldCalls, answer, is_to_fail, after_call}
-use Rattle.tide_edge.specs.Doors.{Doorway, Traffic, asked, after_next, closed, append_to_last}
+use Rattle.tide_edge.specs.Doors.{Doorway, Traffic, asked, after_next, closed, append_to_last, first_or_empty, left_after}
 use Rattle.tide_edge.specs.Faults.{counted, faults_after}
 
--- files by name, and the rest of the open one, which is empty where none is open
+-- files by name, the rest of the open one, which is empty where none is open, and how many times one was to be opened
 pub record HeldFiles : Type 0 where
   pub files : List NamedFile
   pub rest : List ℕ
+  pub opens : ℕ
   pub calls : HeldCalls
 
 -- the map of the files: the first file of a name counts
@@ -27,6 +28,7 @@ abbrev pub after_open : HeldFiles → List ℕ → HeldFiles
 after_open held name = record {
   files = held.files;
   rest = unwrap_or (found held name) [];
+  opens = counted held.opens;
   calls = after_call (is_none (found held name)) held.calls;
 }
 
@@ -38,6 +40,7 @@ abbrev pub after_read : HeldFiles → ℕ → HeldFiles
 after_read held room = record {
   files = held.files;
   rest = drop (read_count held room) held.rest;
+  opens = held.opens;
   calls = after_call (is_to_fail held.calls) held.calls;
 }
 
@@ -83,16 +86,11 @@ are_pieces pieces = list_all (λ piece. nat_lt 0 (length piece)) pieces
 
 -- what it tells
 abbrev pub traffic_of : HeldDoor → Traffic
-traffic_of held = record { waiting = held.waiting; rest = concat held.coming; replies = held.replies }
+traffic_of held = record { waiting = held.waiting; rest = held.coming; replies = held.replies }
 
 -- what the next `next` answers
 abbrev pub comes : HeldDoor → Result Bool Failed
 comes held = answer (is_to_fail held.calls) (nat_lt 0 (length held.waiting))
-
--- the pieces of the first request that waits
-abbrev pub first_pieces : List (List (List ℕ)) → List (List ℕ)
-first_pieces [] = []
-first_pieces (request ∷ more) = request
 
 -- whether a call answered that there is a connection
 abbrev pub is_taken : Result Bool Failed → Bool
@@ -114,7 +112,7 @@ abbrev pub after_taking : HeldDoor → HeldDoor
 after_taking held = record {
   doorway = after_next (comes held) held.doorway;
   waiting = (if is_taken (comes held) then drop 1 held.waiting else held.waiting);
-  coming = (if is_taken (comes held) then first_pieces held.waiting else held.coming);
+  coming = (if is_taken (comes held) then first_or_empty held.waiting else held.coming);
   replies = (if is_taken (comes held) then held.replies ++ [] ∷ [] else held.replies);
   room = held.room;
   calls = after_call (is_to_fail held.calls) held.calls;
@@ -125,25 +123,15 @@ after_taking held = record {
 abbrev pub after_line_call : HeldCalls → HeldCalls
 after_line_call calls = record { fails = calls.fails; made = counted calls.made; faults = calls.faults }
 
--- how many bytes of the first piece left a room of that length takes: no read goes across pieces
-abbrev pub piece_count : List (List ℕ) → ℕ → ℕ
-piece_count [] room = 0
-piece_count (piece ∷ more) room = min room (length piece)
-
--- what is left of the pieces after so many bytes of the first
-abbrev pub pieces_after : ℕ → List (List ℕ) → List (List ℕ)
-pieces_after count [] = []
-pieces_after count (piece ∷ more) = (if length piece == count then more else drop count piece ∷ more)
-
--- how many bytes the next `read` gives, unless it fails
+-- how many bytes the next `read` gives to a room of that length, unless it fails: as many as room and the first piece left allow
 abbrev pub line_count : HeldDoor → ℕ → ℕ
-line_count held room = (if is_to_fail held.calls then 0 else piece_count held.coming room)
+line_count held room = (if is_to_fail held.calls then 0 else min room (length (first_or_empty held.coming)))
 
 abbrev pub after_line_read : HeldDoor → ℕ → HeldDoor
 after_line_read held room = record {
   doorway = held.doorway;
   waiting = held.waiting;
-  coming = (if is_to_fail held.calls then held.coming else pieces_after (line_count held room) held.coming);
+  coming = (if is_to_fail held.calls then held.coming else left_after (line_count held room) held.coming);
   replies = held.replies;
   room = held.room;
   calls = after_line_call held.calls;

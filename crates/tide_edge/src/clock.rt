@@ -2,7 +2,7 @@
 
 ghost use Rattle.std.specs.Prelude.{◌≡◌, ℕ, ℤ, IfOk, is_err};
 ghost use Rattle.tide_edge.specs.Clocks.{IsClockMinute};
-ghost use Rattle.tide_edge.specs.Faults.{faults_after};
+ghost use Rattle.tide_edge.specs.Faults.{counted, faults_after};
 
 use crate::failed::Failed;
 
@@ -20,6 +20,9 @@ pub trait Clock {
     /// How many calls have failed, a count that stays at the last value of a `u64`.
     ghost faults: { Self → ℕ };
 
+    /// How many calls were made, a count of the same kind.
+    ghost asked: { Self → ℕ };
+
     /// The present minute, in minutes since 1970-01-01 00:00 UTC, from -10,000,000,000 to 10,000,000,000.
     ///
     /// # Errors
@@ -29,5 +32,6 @@ pub trait Clock {
         ensures held { tells self.old → IfOk result (λ minute. minute ≡ minute_held self.old) }
         ensures same_minute { minute_held self.new ≡ minute_held self.old }
         ensures still_tells { tells self.old → tells self.new }
-        ensures counts { faults self.new ≡ faults_after (is_err result) (faults self.old) };
+        ensures counts { faults self.new ≡ faults_after (is_err result) (faults self.old) }
+        ensures asks { asked self.new ≡ counted (asked self.old) };
 }

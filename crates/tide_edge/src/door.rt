@@ -1,7 +1,8 @@
 //! Connections that are taken one after the other.
 
 ghost use Rattle.std.specs.Prelude.{◌≡◌, ◌↔◌, ◌<◌, ◌≤◌, ℕ, false, IsTrue, [], length, take, None, IfOk, is_ok, is_err};
-ghost use Rattle.tide_edge.specs.Doors.{Doorway, Traffic, asked, after_next, closed, taken_by, read_by, written_by};
+ghost use Rattle.std.specs.List.{concat};
+ghost use Rattle.tide_edge.specs.Doors.{Doorway, Traffic, asked, after_next, closed, first_or_empty, taken_by, read_by, written_by};
 ghost use Rattle.tide_edge.specs.Faults.{faults_after};
 
 use crate::failed::Failed;
@@ -53,7 +54,7 @@ pub trait Door {
         ensures same_lines { line_faults self.new ≡ line_faults self.old };
 
     /// Reads the next bytes of the open connection into the begin of `room`, and answers how many came.
-    /// It is 0 at the end of its bytes.
+    /// It is 0 at the end of its bytes. They come in pieces, and no call gives bytes of two.
     ///
     /// # Errors
     /// [`Failed`] where the connection can't be read.
@@ -61,8 +62,9 @@ pub trait Door {
         requires room { 0 < length room.old }
         requires open { IsTrue (doorway self.old).is_open }
         ensures within { IfOk result (λ count. count ≤ length room.old) }
-        ensures next_bytes { tells self.old → IfOk result (λ count. take count room.new ≡ take count (traffic self.old).rest) }
-        ensures end { tells self.old → IfOk result (λ count. (count ≡ 0) ↔ ((traffic self.old).rest ≡ [])) }
+        ensures within_piece { tells self.old → IfOk result (λ count. count ≤ length (first_or_empty (traffic self.old).rest)) }
+        ensures next_bytes { tells self.old → IfOk result (λ count. take count room.new ≡ take count (concat (traffic self.old).rest)) }
+        ensures end { tells self.old → IfOk result (λ count. (count ≡ 0) ↔ (concat (traffic self.old).rest ≡ [])) }
         ensures reads { tells self.old → traffic self.new ≡ read_by result (traffic self.old) }
         ensures same_doorway { doorway self.new ≡ doorway self.old }
         ensures still_tells { tells self.old → tells self.new }

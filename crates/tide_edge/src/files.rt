@@ -1,7 +1,7 @@
 //! Files that are opened by name and read from their begin to their end.
 
 ghost use Rattle.std.specs.Prelude.{◌≡◌, ◌↔◌, ◌<◌, ◌≤◌, ◌++◌, ℕ, Bool, IsTrue, List, [], length, take, Option, Some, None, IsOk, IfOk, OnOk, OnErr, is_err};
-ghost use Rattle.tide_edge.specs.Faults.{faults_after};
+ghost use Rattle.tide_edge.specs.Faults.{counted, faults_after};
 
 use crate::failed::Failed;
 use decimal_text::Text;
@@ -26,6 +26,9 @@ pub trait Files {
     /// How many calls have failed, a count that stays at the last value of a `u64`.
     ghost faults: { Self → ℕ };
 
+    /// How many calls of `open` were made, a count of the same kind.
+    ghost opens: { Self → ℕ };
+
     /// Makes the file of that name the open one, at its begin.
     ///
     /// # Errors
@@ -38,7 +41,8 @@ pub trait Files {
         ensures same_files { folder self.new ≡ folder self.old }
         ensures as_steady { steady self.new ≡ steady self.old }
         ensures still_tells { tells self.old → tells self.new }
-        ensures counts { faults self.new ≡ faults_after (is_err result) (faults self.old) };
+        ensures counts { faults self.new ≡ faults_after (is_err result) (faults self.old) }
+        ensures opens { opens self.new ≡ counted (opens self.old) };
 
     /// Reads the next bytes of the open file into the begin of `room`, and answers how many came.
     /// It is 0 at the end of the file, and where no file is open.
@@ -55,5 +59,6 @@ pub trait Files {
         ensures same_files { folder self.new ≡ folder self.old }
         ensures as_steady { steady self.new ≡ steady self.old }
         ensures still_tells { tells self.old → tells self.new }
-        ensures counts { faults self.new ≡ faults_after (is_err result) (faults self.old) };
+        ensures counts { faults self.new ≡ faults_after (is_err result) (faults self.old) }
+        ensures same_opens { opens self.new ≡ opens self.old };
 }

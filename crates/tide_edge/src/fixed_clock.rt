@@ -2,7 +2,7 @@
 
 ghost use Rattle.std.specs.Prelude.{◌≡◌, IfOk, is_err};
 ghost use Rattle.tide_edge.specs.Clocks.{IsClockMinute};
-ghost use Rattle.tide_edge.specs.Faults.{faults_after};
+ghost use Rattle.tide_edge.specs.Faults.{counted, faults_after};
 
 use crate::calls::Calls;
 use crate::clock::Clock;
@@ -53,11 +53,14 @@ impl Clock for FixedClock {
 
     ghost faults = { λ c. c.calls.faults };
 
+    ghost asked = { λ c. c.calls.made };
+
     fn minute(&mut self) -> Result<i64, Failed>
         ensures answer { result ≡ answer (is_to_fail self.old.calls) self.old.minute }
         ensures after { self.new ≡ after_minute self.old }
         ensures in_range { IfOk result IsClockMinute }
         ensures counts { self.new.calls.faults ≡ faults_after (is_err result) self.old.calls.faults }
+        ensures asks { self.new.calls.made ≡ counted self.old.calls.made }
     {
         self.calls.next()?;
         Ok(self.minute)

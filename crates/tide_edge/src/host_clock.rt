@@ -4,6 +4,7 @@ ghost use Rattle.std.specs.Prelude.{◌≡◌, ◌/◌, ◌<◌, pos, IfSome, Ma
 ghost use Rattle.tide_edge.specs.Clocks.{IsClockMinute};
 
 use crate::clock::Clock;
+use crate::count::one_more;
 use crate::failed::Failed;
 use crate::host_fault::count_fault;
 use std::rt;
@@ -18,14 +19,20 @@ const LAST_MINUTE: u64 = 10_000_000_000;
 pub struct HostClock<R: rt::Clock + Drop> {
     system: R,
     faults: u64,
+    asked: u64,
 }
 
 impl<R: rt::Clock + Drop> HostClock<R> {
     /// The clock of the machine.
     pub fn new(system: R) -> HostClock<R>
-        ensures { ⟦<HostClock<R> as Clock>⟧.faults result ≡ 0 }
+        ensures faults { ⟦<HostClock<R> as Clock>⟧.faults result ≡ 0 }
+        ensures asked { ⟦<HostClock<R> as Clock>⟧.asked result ≡ 0 }
     {
-        HostClock { system, faults: 0 }
+        HostClock {
+            system,
+            faults: 0,
+            asked: 0,
+        }
     }
 }
 
@@ -36,7 +43,10 @@ impl<R: rt::Clock + Drop> Clock for HostClock<R> {
 
     ghost faults = { λ h. h.faults };
 
+    ghost asked = { λ h. h.asked };
+
     fn minute(&mut self) -> Result<i64, Failed> {
+        self.asked = one_more(self.asked);
         if let Ok(now) = SystemTime::now(&self.system)
             && let Ok(since) = now.duration_since(UNIX_EPOCH)
             && let Some(minute) = minute_of(since.as_secs())

@@ -2,6 +2,7 @@
 
 ghost use Rattle.std.specs.Prelude.{◌≡◌, false, [], None};
 
+use crate::count::one_more;
 use crate::failed::Failed;
 use crate::files::Files;
 use crate::host_fault::{count_fault, outcome};
@@ -17,17 +18,20 @@ pub struct HostFiles<R: rt::Files + Drop> {
     system: R,
     opened: Option<R::File>,
     faults: u64,
+    opens: u64,
 }
 
 impl<R: rt::Files + Drop> HostFiles<R> {
     /// The files of the machine, none of them open.
     pub fn new(system: R) -> HostFiles<R>
-        ensures { ⟦<HostFiles<R> as Files>⟧.faults result ≡ 0 }
+        ensures faults { ⟦<HostFiles<R> as Files>⟧.faults result ≡ 0 }
+        ensures opens { ⟦<HostFiles<R> as Files>⟧.opens result ≡ 0 }
     {
         HostFiles {
             system,
             opened: None,
             faults: 0,
+            opens: 0,
         }
     }
 }
@@ -43,8 +47,11 @@ impl<R: rt::Files + Drop> Files for HostFiles<R> {
 
     ghost faults = { λ h. h.faults };
 
+    ghost opens = { λ h. h.opens };
+
     fn open(&mut self, name: &Text) -> Result<(), Failed> {
         self.opened = None;
+        self.opens = one_more(self.opens);
         match fs::open(&self.system, name.as_str()) {
             Ok(file) => {
                 self.opened = Some(file);

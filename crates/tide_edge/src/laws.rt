@@ -19,6 +19,7 @@ pub fn memory_files_tell()
     ensures rest { (m : HeldFiles) → ⟦<MemoryFiles as Files>⟧.rest m ≡ m.rest }
     ensures steady { (m : HeldFiles) → ⟦<MemoryFiles as Files>⟧.steady m ≡ (length m.calls.fails == 0) }
     ensures faults { (m : HeldFiles) → ⟦<MemoryFiles as Files>⟧.faults m ≡ m.calls.faults }
+    ensures opens { (m : HeldFiles) → ⟦<MemoryFiles as Files>⟧.opens m ≡ m.opens }
 {}
 
 /// A sink in memory tells what it has taken.
@@ -33,6 +34,7 @@ pub fn fixed_clock_tells()
     ensures tells { (c : HeldClock) → ⟦<FixedClock as Clock>⟧.tells c }
     ensures minute { (c : HeldClock) → ⟦<FixedClock as Clock>⟧.minute_held c ≡ c.minute }
     ensures faults { (c : HeldClock) → ⟦<FixedClock as Clock>⟧.faults c ≡ c.calls.faults }
+    ensures asked { (c : HeldClock) → ⟦<FixedClock as Clock>⟧.asked c ≡ c.calls.made }
 {}
 
 /// A door in memory tells which requests wait and which replies were given.

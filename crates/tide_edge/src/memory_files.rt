@@ -8,6 +8,7 @@ ghost use Rattle.tide_edge.specs.Memory.{folder_of};
 ghost use Rattle.tide_edge.specs.Workings.OpenFile.{bytes_at, rest_of};
 
 use crate::calls::Calls;
+use crate::count::one_more;
 use crate::failed::Failed;
 use crate::files::Files;
 use crate::named_file::NamedFile;
@@ -21,6 +22,7 @@ pub struct MemoryFiles {
     files: Vec<NamedFile>,
     opened: Option<usize>,
     at: usize,
+    opens: u64,
     calls: Calls,
 }
 
@@ -31,7 +33,12 @@ impl Model for MemoryFiles {
 
     ghost use Rattle.tide_edge.specs.Workings.OpenFile.{bytes_at, rest_of};
 
-    ghost view = { λ m. record { files = m.files.items; rest = rest_of m.files.items m.opened m.at; calls = m.calls } };
+    ghost view = { λ m. record {
+      files = m.files.items;
+      rest = rest_of m.files.items m.opened m.at;
+      opens = m.opens;
+      calls = m.calls;
+    } };
 }
 
 impl MemoryFiles {
@@ -41,6 +48,7 @@ impl MemoryFiles {
         ensures { result ≡ record {
           files = files.items;
           rest = [];
+          opens = 0;
           calls = record { fails = fails.items; made = 0; faults = 0 };
         } }
     {
@@ -48,6 +56,7 @@ impl MemoryFiles {
             files,
             opened: None,
             at: 0,
+            opens: 0,
             calls: Calls::new(fails),
         }
     }
@@ -67,6 +76,8 @@ impl Files for MemoryFiles {
 
     ghost faults = { λ m. m.calls.faults };
 
+    ghost opens = { λ m. m.opens };
+
     fn open(&mut self, name: &Text) -> Result<(), Failed>
         ensures answer { result ≡ answer (is_none (found self.old name.now)) record {} }
         ensures after { self.new ≡ after_open self.old name.now }
@@ -74,6 +85,7 @@ impl Files for MemoryFiles {
     {
         self.opened = None;
         self.at = 0;
+        self.opens = one_more(self.opens);
         self.calls.next()?;
         self.opened = place_of(&self.files, name);
         if self.opened.is_none() {

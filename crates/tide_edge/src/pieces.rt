@@ -1,8 +1,9 @@
 //! What is left of a connection's bytes.
 
-ghost use Rattle.std.specs.Prelude.{◌≡◌, ◌↔◌, ◌<◌, ◌++◌, IsTrue, [], length, take, drop};
+ghost use Rattle.std.specs.Prelude.{◌≡◌, ◌↔◌, ◌<◌, ◌++◌, IsTrue, [], length, min, take, drop};
 ghost use Rattle.std.specs.List.{concat};
-ghost use Rattle.tide_edge.specs.Memory.{are_pieces, piece_count, pieces_after};
+ghost use Rattle.tide_edge.specs.Doors.{first_or_empty, left_after};
+ghost use Rattle.tide_edge.specs.Memory.{are_pieces};
 
 use crate::rest::rest_from;
 use decimal_text::Bytes;
@@ -44,8 +45,8 @@ impl Pieces {
     pub(crate) fn read(&mut self, room: &mut [u8]) -> usize
         requires { 0 < length room.old }
         ensures end { (result ≡ 0) ↔ (concat self.old ≡ []) }
-        ensures count { result ≡ piece_count self.old (length room.old) }
-        ensures after { self.new ≡ pieces_after result self.old }
+        ensures count { result ≡ min (length room.old) (length (first_or_empty self.old)) }
+        ensures after { self.new ≡ left_after result self.old }
         ensures filled { room.new ≡ take result (concat self.old) ++ drop result room.old }
     {
         let Some(piece) = self.pieces.front() else {

@@ -2,9 +2,9 @@
 
 ghost use Rattle.std.specs.Prelude.{◌≡◌, ◌-◌, ◌^◌, true, false, [], ◌∷◌, Some, None, Ok, Err};
 ghost use Rattle.tide_edge.specs.Calls.{is_to_fail};
-ghost use Rattle.tide_edge.specs.Doors.{asked, after_next, append_to_last};
+ghost use Rattle.tide_edge.specs.Doors.{asked, after_next, append_to_last, left_after};
 ghost use Rattle.tide_edge.specs.Faults.{counted, Rose};
-ghost use Rattle.tide_edge.specs.Memory.{folder_of, read_count, is_refused, write_count, piece_count, pieces_after};
+ghost use Rattle.tide_edge.specs.Memory.{folder_of, read_count, is_refused, write_count};
 ghost use Rattle.tide_edge.specs.Whole.{whole};
 
 use crate::read_all_fault::ReadAllFault;
@@ -29,11 +29,13 @@ pub fn worked_rows()
     ensures small_room { read_count (record {
       files = [];
       rest = 7 ∷ 8 ∷ [];
+      opens = 0;
       calls = record { fails = []; made = 0; faults = 0 };
     }) 1 ≡ 1 }
     ensures small_rest { read_count (record {
       files = [];
       rest = 7 ∷ 8 ∷ [];
+      opens = 0;
       calls = record { fails = []; made = 0; faults = 0 };
     }) 9 ≡ 2 }
     ensures nearly_full { write_count (record {
@@ -53,7 +55,7 @@ pub fn worked_rows()
     ensures count_stays { (after_next (Ok true) (record (asked 80 true) { taken = 2 ^ 64 - 1 })).taken ≡ 2 ^ 64 - 1 }
     ensures no_more { (after_next (Ok false) (asked 80 true)).is_over ≡ true }
     ensures to_the_last { append_to_last ((1 ∷ []) ∷ (2 ∷ []) ∷ []) (3 ∷ []) ≡ (1 ∷ []) ∷ (2 ∷ 3 ∷ []) ∷ [] }
-    ensures within_a_piece { piece_count ((7 ∷ 8 ∷ []) ∷ (9 ∷ []) ∷ []) 3 ≡ 2 }
-    ensures piece_read { pieces_after 2 ((7 ∷ 8 ∷ []) ∷ (9 ∷ []) ∷ []) ≡ (9 ∷ []) ∷ [] }
-    ensures piece_begun { pieces_after 1 ((7 ∷ 8 ∷ []) ∷ (9 ∷ []) ∷ []) ≡ (8 ∷ []) ∷ (9 ∷ []) ∷ [] }
+    ensures piece_read { left_after 2 ((7 ∷ 8 ∷ []) ∷ (9 ∷ []) ∷ []) ≡ (9 ∷ []) ∷ [] }
+    ensures piece_begun { left_after 1 ((7 ∷ 8 ∷ []) ∷ (9 ∷ []) ∷ []) ≡ (8 ∷ []) ∷ (9 ∷ []) ∷ [] }
+    ensures second_begun { left_after 3 ((7 ∷ 8 ∷ []) ∷ (9 ∷ 10 ∷ []) ∷ []) ≡ (10 ∷ []) ∷ [] }
 {}

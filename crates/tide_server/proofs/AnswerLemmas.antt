@@ -6,14 +6,14 @@ use Rattle.harmonics_text.specs.declared.book.Book.{Book}
 use Rattle.station_table.specs.declared.offsets.Offsets.{Offsets}
 use Rattle.tide_edge.specs.declared.failed.Failed.{Failed}
 use Rattle.tide_edge.specs.Doors.{Traffic, append_to_last}
-use Rattle.tide_edge.specs.Faults.{faults_after}
+use Rattle.tide_edge.specs.Faults.{counted, faults_after}
 use Rattle.tide_server.specs.declared.stock.Stock.{Stock}
 use Rattle.tide_server.specs.Heads.{head_end}
 use Rattle.tide_server.specs.Replies.{IsReply}
 use Rattle.tide_server.specs.Responses.{fixed_of}
 use Rattle.tide_server.specs.Rows.{Row, rejects, asks, IsRow, is_settled}
-use Rattle.tide_server.specs.Serving.{Answers, AnswersUnlessCut, IsUnavailable}
-use Rattle.tide_server.specs.Workings.Connections.{IsEnough, IsQuiet, IsRead, SentBy, Went, WentBy}
+use Rattle.tide_server.specs.Serving.{Answers, AnswersUnlessCut, AsksUnlessCut, IsEnough, IsUnavailable, has_byte}
+use Rattle.tide_server.specs.Workings.Connections.{IsQuiet, IsRead, SentBy, Went, WentBy}
 use Rattle.tide_server.proofs.ConnectionLemmas.{append_none, not_enough}
 use Rattle.tide_server.proofs.RowLemmas.{one_row_at, settled_stays}
 
@@ -46,47 +46,63 @@ made_answers : (stock : Stock) (minute : ℤ) (request reply : List ℕ) → req
 made_answers stock minute [] reply some made = absurd (some refl)
 made_answers stock minute (b ∷ bytes) reply some made = made
 
+some_byte : (request : List ℕ) → request ≢ [] → true ≡ has_byte request
+some_byte [] some = absurd (some refl)
+some_byte (b ∷ bytes) some = refl
+
 pub went_sent : {T : Type 0} (stock : Stock) (minute : ℤ) (request text : List ℕ) (result : Result T Failed) (before after : Traffic)
-    (was is : ℕ) → request ≢ [] → IsReply stock.book stock.table minute request text ⊎ IsUnavailable request text
-    → SentBy result text before after → is ≡ faults_after (is_err result) was
-    → Went (Answers stock minute) request before after was is
-went_sent stock minute request text (Ok value) before after was is some made sends count = record {
+    (was is asked_was asked_is : ℕ) → request ≢ [] → IsReply stock.book stock.table minute request text ⊎ IsUnavailable request text
+    → SentBy result text before after → is ≡ faults_after (is_err result) was → asked_is ≡ counted asked_was
+    → Went (Answers stock minute) request before after was is asked_was asked_is
+went_sent stock minute request text (Ok value) before after was is asked_was asked_is some made sends count asked = record {
   reply = text;
   is_cut = false;
+  is_asked = true;
   waiting = ap (λ t. t.waiting) sends;
   replies = ap (λ t. t.replies) sends;
-  held = made_answers stock minute request text some made;
+  answered = made_answers stock minute request text some made;
+  asks = some_byte request some;
   lines = count;
+  asked = asked;
 }
-went_sent stock minute request text (Err failed) before after was is some made sends count = record {
+went_sent stock minute request text (Err failed) before after was is asked_was asked_is some made sends count asked = record {
   reply = take sends.0 text;
   is_cut = true;
+  is_asked = true;
   waiting = ap (λ t. t.waiting) sends.1;
   replies = ap (λ t. t.replies) sends.1;
-  held = inr (text, made_answers stock minute request text some made, sends.0, refl);
+  answered = inr (text, made_answers stock minute request text some made, sends.0, refl);
+  asks = tt;
   lines = count;
+  asked = asked;
 }
 
-pub went_silent : (stock : Stock) (minute : ℤ) (request : List ℕ) (t : Traffic) (lines : ℕ) → request ≡ []
-    → Went (Answers stock minute) request t t lines lines
-went_silent stock minute request t lines none = record {
+pub went_silent : (stock : Stock) (minute : ℤ) (request : List ℕ) (t : Traffic) (lines asked : ℕ) → request ≡ []
+    → Went (Answers stock minute) request t t lines lines asked asked
+went_silent stock minute request t lines asked none = record {
   reply = [];
   is_cut = false;
+  is_asked = false;
   waiting = refl;
   replies = sym (append_none t.replies);
-  held = subst (λ (r : List ℕ). Answers stock minute r []) (sym none) refl;
+  answered = subst (λ (r : List ℕ). Answers stock minute r []) (sym none) refl;
+  asks = ap has_byte (sym none);
   lines = refl;
+  asked = refl;
 }
 
-pub went_unread : (answers : List ℕ → List ℕ → Type 0) (bytes : List ℕ) (before after : Traffic) (was is : ℕ)
-    → IsQuiet before after → is ≡ faults_after true was → Went answers bytes before after was is
-went_unread answers bytes before after was is quiet count = record {
+pub went_unread : (answers : List ℕ → List ℕ → Type 0) (bytes : List ℕ) (before after : Traffic) (was is asked : ℕ)
+    → IsQuiet before after → is ≡ faults_after true was → Went answers bytes before after was is asked asked
+went_unread answers bytes before after was is asked quiet count = record {
   reply = [];
   is_cut = true;
+  is_asked = false;
   waiting = quiet.waiting;
   replies = quiet.replies ∙ sym (append_none before.replies);
-  held = inl refl;
+  answered = inl refl;
+  asks = tt;
   lines = count;
+  asked = refl;
 }
 
 -- ---- What was read stands for all bytes
@@ -128,24 +144,39 @@ cut_whole stock minute true bytes request reply read held =
       | inr part ↦ inr (part.0, answers_whole stock minute bytes request part.0 read part.1, part.2, part.3)
     ]
 
+same_byte : (bytes request : List ℕ) → IsRead bytes request → has_byte request ≡ has_byte bytes
+same_byte bytes [] read =
+    elim read.enough [ inl none ↦ ap has_byte (sym (read.parts ∙ none)) | inr e ↦ absurd (not_enough e) ]
+same_byte bytes (b ∷ request) read =
+    let parts : bytes ≡ b ∷ (request ++ read.rest) = read.parts in ap has_byte (sym parts)
+
+asks_whole : (is_cut is_asked : Bool) (bytes request : List ℕ) → IsRead bytes request → AsksUnlessCut is_cut request is_asked
+    → AsksUnlessCut is_cut bytes is_asked
+asks_whole false is_asked bytes request read so_far = so_far ∙ same_byte bytes request read
+asks_whole true is_asked bytes request read so_far = tt
+
 some_whole : (bytes request : List ℕ) → IsRead bytes request → ¬ (request ≡ []) → ¬ (bytes ≡ [])
 some_whole bytes [] read some = absurd (some refl)
 some_whole bytes (b ∷ request) read some = λ none. let parts : bytes ≡ b ∷ (request ++ read.rest) = read.parts in cc
 
 pub went_whole : {T : Type 0} (stock : Stock) (minute : ℤ) (bytes request : List ℕ) (result : Result T Failed)
-    (before between after : Traffic) (was still is : ℕ) → IsRead bytes request → IsQuiet before between → still ≡ was
-    → WentBy result (Answers stock minute) request between after still is
-    → WentBy result (Answers stock minute) bytes before after was is
-went_whole stock minute bytes request (Ok value) before between after was still is read quiet same went = record {
+    (before between after : Traffic) (was still is asked_was asked_is : ℕ) → IsRead bytes request → IsQuiet before between → still ≡ was
+    → WentBy result (Answers stock minute) request between after still is asked_was asked_is
+    → WentBy result (Answers stock minute) bytes before after was is asked_was asked_is
+went_whole stock minute bytes request (Ok value) before between after was still is asked_was asked_is read quiet same went = record {
   reply = went.reply;
   is_cut = went.is_cut;
+  is_asked = went.is_asked;
   waiting = went.waiting ∙ quiet.waiting;
   replies = went.replies ∙ ap (λ rs. append_to_last rs went.reply) quiet.replies;
-  held = cut_whole stock minute went.is_cut bytes request went.reply read went.held;
+  answered = cut_whole stock minute went.is_cut bytes request went.reply read went.answered;
+  asks = asks_whole went.is_cut went.is_asked bytes request read went.asks;
   lines = went.lines ∙ ap (faults_after went.is_cut) same;
+  asked = went.asked;
 }
-went_whole stock minute bytes request (Err failed) before between after was still is read quiet same went = (
+went_whole stock minute bytes request (Err failed) before between after was still is asked_was asked_is read quiet same went = (
   record { waiting = went.0.waiting ∙ quiet.waiting; replies = went.0.replies ∙ quiet.replies },
   went.1 ∙ same,
   some_whole bytes request read went.2,
+  went.3,
 )

@@ -1,15 +1,18 @@
 -- What goes over a connection, piece by piece.
-use Rattle.std.proofs.Common.{◌≡◌, ℕ, ◌+◌, ◌<◌, ◌≤◌, Bool, false, true, List, [], ◌∷◌, ◌++◌, length, take, drop, append_assoc, append-nil, arith, ap, sym, ◌∙◌, subst, refl, Result, Ok, Err}
+use Rattle.std.proofs.Common.{◌≡◌, ℕ, ◌+◌, ◌<◌, ◌≤◌, Bool, false, true, List, [], ◌∷◌, ◌++◌, length, take, drop, append_assoc, append-nil, arith, ap, sym, ◌∙◌, subst, refl, Result, Ok, Err, inl}
 use Rattle.std.specs.Bool.{IsTrue}
+use Rattle.std.specs.List.{concat}
 use Rattle.std.specs.Prelude.{nat_le}
 use Rattle.std.proofs.lemmas.Bool.Decides.{nat_tests}
 use Rattle.std.proofs.lemmas.List.{take-append-drop}
-use Rattle.std.proofs.Math.Seq.{take-add}
+use Rattle.std.proofs.Math.Seq.{drop-nil, take-add}
 use Rattle.tide_edge.specs.declared.failed.Failed.{Failed}
-use Rattle.tide_edge.specs.Doors.{Traffic, append_to_last, read_by}
+use Rattle.tide_edge.specs.Doors.{Traffic, append_to_last, first_or_empty, left_after, read_by}
 use Rattle.tide_server.specs.Heads.{head_end, head_length}
 use Rattle.tide_server.specs.Rows.{Row, IsRow, is_settled}
-use Rattle.tide_server.specs.Workings.Connections.{sent, IsEnough, IsQuiet}
+use Rattle.tide_server.specs.Serving.{IsEnough, IsReadAsNeeded}
+use Rattle.tide_server.specs.Workings.Connections.{sent, IsQuiet, IsRead, SentBy}
+use Rattle.tide_server.proofs.PieceLemmas.{all_left, bytes_left, left_on}
 use Rattle.tide_server.proofs.RowLemmas.{long_settled, one_row_at}
 
 pub append_none : (replies : List (List ℕ)) → append_to_last replies [] ≡ replies
@@ -74,14 +77,80 @@ not_enough enough = unsettled [] enough.0 enough.1 (unsettled_at enough.0 enough
 
 -- ---- Reading on
 
-pub read_on : (bytes request next : List ℕ) (count : ℕ) (before after : Traffic) → bytes ≡ request ++ before.rest
-    → next ≡ request ++ take count before.rest → after ≡ read_by (Ok count) before → bytes ≡ next ++ after.rest
-read_on bytes request next count before after so_far more is =
-    so_far
-    ∙ ap (λ xs. request ++ xs) (sym (take-append-drop count before.rest))
-    ∙ sym (append_assoc request (take count before.rest) (drop count before.rest))
-    ∙ ap (λ xs. xs ++ drop count before.rest) (sym more)
-    ∙ ap (λ t. next ++ t.rest) (sym is)
+-- so many bytes were read: this is left of the pieces, and these are the bytes
+pub record IsReadTo (pieces : List (List ℕ)) (request : List ℕ) (left : List (List ℕ)) : Type 0 where
+  rest : left ≡ left_after (length request) pieces
+  bytes : request ≡ take (length request) (concat pieces)
+
+pub none_read : (pieces : List (List ℕ)) → IsReadTo pieces [] pieces
+none_read pieces = record { rest = all_left pieces; bytes = refl }
+
+-- the bytes read, and those that are left
+pub read_parts : (pieces : List (List ℕ)) (request : List ℕ) (left : List (List ℕ)) → IsReadTo pieces request left
+    → concat pieces ≡ request ++ concat left
+read_parts pieces request left read =
+    sym (take-append-drop (length request) (concat pieces))
+    ∙ ap (λ xs. xs ++ drop (length request) (concat pieces)) (sym read.bytes)
+    ∙ ap (λ xs. request ++ xs) (sym (ap concat read.rest ∙ bytes_left (length request) pieces))
+
+pub read_on : (pieces : List (List ℕ)) (request next : List ℕ) (count : ℕ) (before after : Traffic)
+    → IsReadTo pieces request before.rest → length next ≡ length request + count
+    → next ≡ request ++ take count (concat before.rest) → after ≡ read_by (Ok count) before → IsReadTo pieces next after.rest
+read_on pieces request next count before after so_far longer more is = record {
+  rest =
+      ap (λ t. t.rest) is
+      ∙ ap (left_after count) so_far.rest
+      ∙ left_on (length request) count pieces
+      ∙ ap (λ n. left_after n pieces) (sym longer);
+  bytes =
+      more
+      ∙ ap (λ xs. request ++ take count xs) (ap concat so_far.rest ∙ bytes_left (length request) pieces)
+      ∙ ap (λ xs. xs ++ take count (drop (length request) (concat pieces))) so_far.bytes
+      ∙ sym (take-add (length request) count (concat pieces))
+      ∙ ap (λ n. take n (concat pieces)) (sym longer);
+}
+
+-- at the end of the bytes all were read
+pub all_read : (pieces : List (List ℕ)) (request next : List ℕ) (count : ℕ) (before after : Traffic)
+    → IsReadTo pieces request before.rest → length next ≡ length request + count
+    → next ≡ request ++ take count (concat before.rest) → after ≡ read_by (Ok count) before → concat before.rest ≡ []
+    → IsRead (concat pieces) next
+all_read pieces request next count before after so_far longer more is none =
+    let now = read_on pieces request next count before after so_far longer more is in
+    let left : concat after.rest ≡ [] =
+    ap (λ t. concat t.rest) is ∙ bytes_left count before.rest ∙ ap (drop count) none ∙ drop-nil count in record {
+      rest = concat after.rest;
+      parts = read_parts pieces next after.rest now;
+      enough = inl left;
+    }
+
+-- what was read last was needed, where nothing more is read
+pub needed_still : (pieces : List (List ℕ)) (request : List ℕ) (left : List (List ℕ)) → IsReadTo pieces request left
+    → ¬ (IsEnough request) → IsReadAsNeeded pieces left
+needed_still pieces request left read waits = record {
+  before = length request;
+  all = length request;
+  rest = read.rest;
+  waits = subst (λ (bs : List ℕ). ¬ (IsEnough bs)) read.bytes waits;
+  one = omega arith;
+}
+
+pub needed_on : (pieces : List (List ℕ)) (request next : List ℕ) (count : ℕ) (left after : List (List ℕ))
+    → IsReadTo pieces request left → ¬ (IsEnough request) → length next ≡ length request + count
+    → count ≤ length (first_or_empty left) → IsReadTo pieces next after → IsReadAsNeeded pieces after
+needed_on pieces request next count left after read waits longer one now = record {
+  before = length request;
+  all = length next;
+  rest = now.rest;
+  waits = subst (λ (bs : List ℕ). ¬ (IsEnough bs)) read.bytes waits;
+  one = rw (longer, ← read.rest) (omega (arith, one));
+}
+
+-- sending leaves what wasn't read
+pub sent_unread : {T : Type 0} (result : Result T Failed) (text : List ℕ) (before after : Traffic) → SentBy result text before after
+    → after.rest ≡ before.rest
+sent_unread (Ok value) text before after sends = ap (λ t. t.rest) sends
+sent_unread (Err failed) text before after sends = ap (λ t. t.rest) sends.1
 
 pub quiet_on : (first before after : Traffic) (result : Result ℕ Failed) → IsQuiet first before → after ≡ read_by result before
     → IsQuiet first after

@@ -4,6 +4,7 @@ pub mod EndLemmas
 pub mod HeadLemmas
 pub mod LineLemmas
 pub mod OpeningLemmas
+pub mod PieceLemmas
 pub mod QueryLemmas
 pub mod ReplyLemmas
 pub mod RowLemmas

@@ -1,13 +1,14 @@
 //! One connection.
 
 ghost use Rattle.std.specs.Prelude.{◌≡◌, ◌⊎◌, ℕ, List, IsTrue, None, is_err};
+ghost use Rattle.std.specs.List.{concat};
 ghost use Rattle.tide_edge.specs.Clocks.{IsClockMinute};
 ghost use Rattle.tide_edge.specs.Doors.{closed};
 ghost use Rattle.tide_edge.specs.Faults.{faults_after};
 ghost use Rattle.tide_server.specs.Replies.{IsReply};
 ghost use Rattle.tide_server.specs.Responses.{fixed_of};
 ghost use Rattle.tide_server.specs.Rows.{Row, IsRow};
-ghost use Rattle.tide_server.specs.Serving.{Answers, IsUnavailable};
+ghost use Rattle.tide_server.specs.Serving.{Answers, IsReadAsNeeded, IsUnavailable};
 ghost use Rattle.tide_server.specs.Workings.Connections.{IsStock, SentBy, WentBy};
 
 use crate::deciding::{fixed_reply, unavailable_reply};
@@ -34,8 +35,10 @@ pub(crate) fn serve_connection<D: Door, K: Clock>(
     requires open { IsTrue (D.doorway door.old).is_open }
     requires stock { IsStock stock.now }
     ensures went { D.tells door.old → K.tells clock.old
-        → WentBy result (Answers stock.now (K.minute_held clock.old)) (D.traffic door.old).rest
-        (D.traffic door.old) (D.traffic door.new) (D.line_faults door.old) (D.line_faults door.new) }
+        → WentBy result (Answers stock.now (K.minute_held clock.old)) (concat (D.traffic door.old).rest)
+        (D.traffic door.old) (D.traffic door.new) (D.line_faults door.old) (D.line_faults door.new)
+        (K.asked clock.old) (K.asked clock.new) }
+    ensures needed { D.tells door.old → IsReadAsNeeded (D.traffic door.old).rest (D.traffic door.new).rest }
     ensures closed { D.doorway door.new ≡ closed (D.doorway door.old) }
     ensures still_tells { D.tells door.old → D.tells door.new }
     ensures same_faults { D.faults door.new ≡ D.faults door.old }
@@ -58,8 +61,10 @@ fn answer_connection<D: Door, K: Clock>(
     requires open { IsTrue (D.doorway door.old).is_open }
     requires stock { IsStock stock.now }
     ensures went { D.tells door.old → K.tells clock.old
-        → WentBy result (Answers stock.now (K.minute_held clock.old)) (D.traffic door.old).rest
-        (D.traffic door.old) (D.traffic door.new) (D.line_faults door.old) (D.line_faults door.new) }
+        → WentBy result (Answers stock.now (K.minute_held clock.old)) (concat (D.traffic door.old).rest)
+        (D.traffic door.old) (D.traffic door.new) (D.line_faults door.old) (D.line_faults door.new)
+        (K.asked clock.old) (K.asked clock.new) }
+    ensures needed { D.tells door.old → IsReadAsNeeded (D.traffic door.old).rest (D.traffic door.new).rest }
     ensures same_doorway { D.doorway door.new ≡ D.doorway door.old }
     ensures still_tells { D.tells door.old → D.tells door.new }
     ensures same_faults { D.faults door.new ≡ D.faults door.old }
@@ -85,7 +90,9 @@ fn answer_request<D: Door, K: Clock>(
     requires stock { IsStock stock.now }
     ensures went { D.tells door.old → K.tells clock.old
         → WentBy result (Answers stock.now (K.minute_held clock.old)) request.now
-        (D.traffic door.old) (D.traffic door.new) (D.line_faults door.old) (D.line_faults door.new) }
+        (D.traffic door.old) (D.traffic door.new) (D.line_faults door.old) (D.line_faults door.new)
+        (K.asked clock.old) (K.asked clock.new) }
+    ensures unread { D.tells door.old → (D.traffic door.new).rest ≡ (D.traffic door.old).rest }
     ensures same_doorway { D.doorway door.new ≡ D.doorway door.old }
     ensures still_tells { D.tells door.old → D.tells door.new }
     ensures same_faults { D.faults door.new ≡ D.faults door.old }

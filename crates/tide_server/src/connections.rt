@@ -26,7 +26,8 @@ pub(crate) fn serve_all<D: Door, K: Clock>(
     requires stock { IsStock stock.now }
     ensures served { D.tells door.old → K.tells clock.old
         → Served (Answers stock.now (K.minute_held clock.old)) (is_err result) (D.doorway door.new).taken
-        (D.traffic door.old) (D.traffic door.new) (D.line_faults door.old) (D.line_faults door.new) (K.faults clock.old) (K.faults clock.new) }
+        (D.traffic door.old) (D.traffic door.new) (D.line_faults door.old) (D.line_faults door.new)
+        (K.faults clock.old) (K.faults clock.new) (K.asked clock.old) (K.asked clock.new) }
     ensures over { OnOk result (IsOver (D.doorway door.new)) }
     ensures port { (D.doorway door.new).port ≡ Some stock.now.port }
     ensures listens { (D.doorway door.new).listens ≡ true }
@@ -59,7 +60,8 @@ fn serve_next<D: Door, K: Clock>(
     requires stock { IsStock stock.now }
     ensures steps { D.tells door.old → K.tells clock.old
         → StepBy result (Answers stock.now (K.minute_held clock.old))
-        (D.traffic door.old) (D.traffic door.new) (D.line_faults door.old) (D.line_faults door.new) }
+        (D.traffic door.old) (D.traffic door.new) (D.line_faults door.old) (D.line_faults door.new)
+        (K.asked clock.old) (K.asked clock.new) }
     ensures doorway { D.doorway door.new ≡ doorway_after result (D.doorway door.old) }
     ensures counts { D.faults door.new ≡ faults_after (is_door_outage result) (D.faults door.old) }
     ensures clock_counts { K.faults clock.new ≡ faults_after (is_clock_outage result) (K.faults clock.old) }

@@ -1,13 +1,13 @@
 //! What a server serves from.
 
-ghost use Rattle.std.specs.Prelude.{◌≡◌, [], IsOk, IsTrue, IfOk, IfErr};
+ghost use Rattle.std.specs.Prelude.{◌≡◌, ◌+◌, ◌≤◌, [], Some, IsOk, IsTrue, IfOk, IfErr};
 ghost use Rattle.decimal_text.specs.Expected.{Gives};
 ghost use Rattle.question.specs.Questions.{wants_memory as ask_wants_memory};
 ghost use Rattle.question.specs.Words.{pairs_of};
 ghost use Rattle.tide_answer.specs.Faults.{wants_memory, IsTold as IsToldFault};
 ghost use Rattle.tide_edge.specs.Faults.{faults_after};
 ghost use Rattle.tide_desk.specs.NoAnswers.{IsTold, reading_failed, source_of};
-ghost use Rattle.tide_desk.specs.Readings.{Folders};
+ghost use Rattle.tide_desk.specs.Readings.{Folders, StopsAtLimit, file_named, files_named};
 ghost use Rattle.tide_desk.specs.Workings.Meetings.{MeetsIf};
 ghost use Rattle.tide_server.specs.Openings.{asks_another, service_in, service_of, stock_from, stock_named};
 ghost use Rattle.tide_server.specs.Workings.Connections.{IsStock};
@@ -34,6 +34,9 @@ pub(crate) fn read_stock<F: Files>(
     ensures told { IfErr result IsTold }
     ensures counts { F.faults files.new ≡ faults_after (reading_failed result) (F.faults files.old) }
     ensures unopened { ¬ (IsOk (service_of words.now)) → files.new ≡ files.old }
+    ensures stops { F.tells files.old → IfErr result (λ none. IfOk (service_of words.now)
+        (λ question. StopsAtLimit (F.folder files.old) (file_named question) (F.rest files.new) none)) }
+    ensures opened { IfOk (service_of words.now) (λ question. F.opens files.new ≤ F.opens files.old + files_named question) }
     ensures same_files { F.folder files.new ≡ F.folder files.old }
     ensures as_steady { F.steady files.new ≡ F.steady files.old }
     ensures still_tells { F.tells files.old → F.tells files.new }
@@ -59,6 +62,9 @@ fn read_named<F: Files>(
     ensures sound { IfOk result IsStock }
     ensures told { IfErr result IsTold }
     ensures counts { F.faults files.new ≡ faults_after (reading_failed result) (F.faults files.old) }
+    ensures stops { F.tells files.old → question.now.file ≡ Some name.now
+        → IfErr result (StopsAtLimit (F.folder files.old) (file_named question.now) (F.rest files.new)) }
+    ensures opened { question.now.file ≡ Some name.now → F.opens files.new ≤ F.opens files.old + files_named question.now }
     ensures same_files { F.folder files.new ≡ F.folder files.old }
     ensures as_steady { F.steady files.new ≡ F.steady files.old }
     ensures still_tells { F.tells files.old → F.tells files.new }

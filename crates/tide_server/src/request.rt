@@ -1,7 +1,9 @@
 //! The request of the open connection.
 
 ghost use Rattle.std.specs.Prelude.{◌≡◌, ◌<◌, IsTrue, length, OnOk, is_err};
+ghost use Rattle.std.specs.List.{concat};
 ghost use Rattle.tide_edge.specs.Faults.{faults_after};
+ghost use Rattle.tide_server.specs.Serving.{IsReadAsNeeded};
 ghost use Rattle.tide_server.specs.Workings.Connections.{IsQuiet, IsRead};
 
 use crate::deciding::enough;
@@ -33,8 +35,9 @@ impl Model for Request {
 }
 
 impl Request {
-    ghost use Rattle.std.specs.Prelude.{◌≡◌, ◌↔◌, ◌+◌, ◌<◌, ◌++◌, IsTrue, [], length, take, IfOk, is_err};
-    ghost use Rattle.tide_edge.specs.Doors.{read_by};
+    ghost use Rattle.std.specs.Prelude.{◌≡◌, ◌↔◌, ◌+◌, ◌<◌, ◌≤◌, ◌++◌, IsTrue, [], length, take, IfOk, is_err};
+    ghost use Rattle.std.specs.List.{concat};
+    ghost use Rattle.tide_edge.specs.Doors.{first_or_empty, read_by};
     ghost use Rattle.tide_edge.specs.Faults.{faults_after};
 
     /// No byte yet, with memory for the longest request.
@@ -66,8 +69,9 @@ impl Request {
         requires short { length self.old < 4202496 }
         requires open { IsTrue (D.doorway door.old).is_open }
         ensures longer { IfOk result (λ count. length self.new ≡ length self.old + count) }
-        ensures next_bytes { D.tells door.old → IfOk result (λ count. self.new ≡ self.old ++ take count (D.traffic door.old).rest) }
-        ensures end { D.tells door.old → IfOk result (λ count. (count ≡ 0) ↔ ((D.traffic door.old).rest ≡ [])) }
+        ensures within_piece { D.tells door.old → IfOk result (λ count. count ≤ length (first_or_empty (D.traffic door.old).rest)) }
+        ensures next_bytes { D.tells door.old → IfOk result (λ count. self.new ≡ self.old ++ take count (concat (D.traffic door.old).rest)) }
+        ensures end { D.tells door.old → IfOk result (λ count. (count ≡ 0) ↔ (concat (D.traffic door.old).rest ≡ [])) }
         ensures reads { D.tells door.old → D.traffic door.new ≡ read_by result (D.traffic door.old) }
         ensures same_doorway { D.doorway door.new ≡ D.doorway door.old }
         ensures still_tells { D.tells door.old → D.tells door.new }
@@ -80,13 +84,15 @@ impl Request {
     }
 }
 
-/// Reads the open connection until its bytes are enough for a reply, or to their end. It takes no memory.
+/// Reads the open connection until its bytes are enough for a reply, or to their end, and no further:
+/// a client may wait for its reply before it sends more. It takes no memory.
 ///
 /// # Errors
 /// [`Failed`] where a read failed. Nothing was read after that one.
 pub(crate) fn read_request<D: Door>(request: &mut Request, door: &mut D) -> Result<(), Failed>
     requires { IsTrue (D.doorway door.old).is_open }
-    ensures whole { D.tells door.old → OnOk result (IsRead (D.traffic door.old).rest request.new) }
+    ensures whole { D.tells door.old → OnOk result (IsRead (concat (D.traffic door.old).rest) request.new) }
+    ensures needed { D.tells door.old → IsReadAsNeeded (D.traffic door.old).rest (D.traffic door.new).rest }
     ensures quiet { D.tells door.old → IsQuiet (D.traffic door.old) (D.traffic door.new) }
     ensures same_doorway { D.doorway door.new ≡ D.doorway door.old }
     ensures still_tells { D.tells door.old → D.tells door.new }

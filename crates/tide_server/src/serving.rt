@@ -1,11 +1,14 @@
 //! The server, from the words to the status.
 
-ghost use Rattle.std.specs.Prelude.{◌≡◌, ◌++◌, ◌≤◌, ◌+◌, ℕ, Bool, true, false, [], IsOk, Some, None, decimal, is_err};
+ghost use Rattle.std.specs.Prelude.{◌≡◌, ◌++◌, ◌≤◌, ◌+◌, ℕ, Bool, true, false, [], IsOk, IfOk, Some, None, Err, decimal, is_err};
 ghost use Rattle.arrayvec.specs.ArrayString.{array_string_len};
+ghost use Rattle.tide_answer.specs.declared.fault.Fault.{Fault};
+ghost use Rattle.tide_answer.specs.declared.slot.Slot.{Slot};
 ghost use Rattle.tide_answer.specs.declared.status.Status.{Status};
 ghost use Rattle.tide_edge.specs.Doors.{asked};
 ghost use Rattle.tide_desk.specs.Outcomes.{Wrote, is_read_fault};
-ghost use Rattle.tide_desk.specs.Readings.{Folders};
+ghost use Rattle.tide_desk.specs.declared.no_answer.NoAnswer.{NoAnswer};
+ghost use Rattle.tide_desk.specs.Readings.{Folders, StopsAtLimit, file_named, files_named};
 ghost use Rattle.tide_server.specs.Openings.{EndedBy, EndsAs, HasListened, TookNone, WroteBoth, notice_of, service_of, stock_from};
 ghost use Rattle.tide_server.specs.Serving.{Answers, IsOver, Served};
 ghost use Rattle.tide_server.specs.Workings.Connections.{IsStock};
@@ -26,7 +29,8 @@ use tide_edge::{Clock, Door, Files, Sink};
 /// files, takes the memory for the longest request, listens, and serves one connection after the
 /// other. It tells on `err` where it listens, and why it ends where something has failed; a failure
 /// there changes nothing. A failure of a connection's lines ends that connection alone. The clock is
-/// asked once for each connection that has a byte.
+/// asked once for each connection that has a byte, and no connection is read further than its reply
+/// needs.
 pub fn serve<F: Files, D: Door, E: Sink, K: Clock>(
     alloc: Global,
     words: &Words,
@@ -40,13 +44,15 @@ pub fn serve<F: Files, D: Door, E: Sink, K: Clock>(
         → EndsAs (F.steady files.old) (stock_from (λ slot. F.folder files.old) words.now) result (D.doorway door.new)
         (λ stock. D.tells door.old → K.tells clock.old
         → Served (Answers stock (K.minute_held clock.old)) (is_read_fault result) (D.doorway door.new).taken
-        (D.traffic door.old) (D.traffic door.new) (D.line_faults door.old) (D.line_faults door.new) (K.faults clock.old) (K.faults clock.new))
+        (D.traffic door.old) (D.traffic door.new) (D.line_faults door.old) (D.line_faults door.new)
+        (K.faults clock.old) (K.faults clock.new) (K.asked clock.old) (K.asked clock.new))
         (WroteBoth (E.tells err.old) (E.tells err.new) (E.taken err.old) (E.taken err.new) (E.faults err.old) (E.faults err.new)) }
     ensures some_files { (folders : Folders)
         × EndsAs true (stock_from folders words.now) result (D.doorway door.new)
         (λ stock. D.tells door.old → K.tells clock.old
         → Served (Answers stock (K.minute_held clock.old)) (is_read_fault result) (D.doorway door.new).taken
-        (D.traffic door.old) (D.traffic door.new) (D.line_faults door.old) (D.line_faults door.new) (K.faults clock.old) (K.faults clock.new))
+        (D.traffic door.old) (D.traffic door.new) (D.line_faults door.old) (D.line_faults door.new)
+        (K.faults clock.old) (K.faults clock.new) (K.asked clock.old) (K.asked clock.new))
         (WroteBoth (E.tells err.old) (E.tells err.new) (E.taken err.old) (E.taken err.new) (E.faults err.old) (E.faults err.new)) }
     ensures done { result ≡ Status.Done → IsOver (D.doorway door.new) }
     ensures read_fault { EndedBy (is_read_fault result) (F.faults files.old) (F.faults files.new)
@@ -56,6 +62,10 @@ pub fn serve<F: Files, D: Door, E: Sink, K: Clock>(
     ensures unopened { ¬ (IsOk (service_of words.now)) → files.new ≡ files.old }
     ensures read_first { ¬ ((D.doorway door.new).port ≡ None) → F.faults files.new ≡ F.faults files.old }
     ensures closed { ¬ ((D.doorway door.new).port ≡ None) → (D.doorway door.new).is_open ≡ false }
+    ensures stops { F.tells files.old → (slot : Slot)
+        → stock_from (λ slot. F.folder files.old) words.now ≡ Err (NoAnswer.Told (Fault.TooLong slot)) → result ≡ Status.FileRefused
+        → IfOk (service_of words.now) (λ question. StopsAtLimit (F.folder files.old) (file_named question) (F.rest files.new) (NoAnswer.Told (Fault.TooLong slot))) }
+    ensures opened { IfOk (service_of words.now) (λ question. F.opens files.new ≤ F.opens files.old + files_named question) }
     ensures same_files { F.folder files.new ≡ F.folder files.old }
     ensures as_steady { F.steady files.new ≡ F.steady files.old }
     ensures still_tells { F.tells files.old → F.tells files.new }
@@ -86,7 +96,8 @@ fn serve_stock<D: Door, E: Sink, K: Clock>(
     ensures listened { HasListened stock.now result (D.doorway door.new)
         (D.tells door.old → K.tells clock.old
         → Served (Answers stock.now (K.minute_held clock.old)) (is_read_fault result) (D.doorway door.new).taken
-        (D.traffic door.old) (D.traffic door.new) (D.line_faults door.old) (D.line_faults door.new) (K.faults clock.old) (K.faults clock.new))
+        (D.traffic door.old) (D.traffic door.new) (D.line_faults door.old) (D.line_faults door.new)
+        (K.faults clock.old) (K.faults clock.new) (K.asked clock.old) (K.asked clock.new))
         (WroteBoth (E.tells err.old) (E.tells err.new) (E.taken err.old) (E.taken err.new) (E.faults err.old) (E.faults err.new)) }
     ensures done { result ≡ Status.Done → IsOver (D.doorway door.new) }
     ensures closed { (D.doorway door.new).is_open ≡ false }
@@ -117,7 +128,8 @@ fn serve_open<D: Door, E: Sink, K: Clock>(
     ensures listened { HasListened stock.now result (D.doorway door.new)
         (D.tells door.old → K.tells clock.old
         → Served (Answers stock.now (K.minute_held clock.old)) (is_read_fault result) (D.doorway door.new).taken
-        (D.traffic door.old) (D.traffic door.new) (D.line_faults door.old) (D.line_faults door.new) (K.faults clock.old) (K.faults clock.new))
+        (D.traffic door.old) (D.traffic door.new) (D.line_faults door.old) (D.line_faults door.new)
+        (K.faults clock.old) (K.faults clock.new) (K.asked clock.old) (K.asked clock.new))
         (WroteBoth (E.tells err.old) (E.tells err.new) (E.taken err.old) (E.taken err.new) (E.faults err.old) (E.faults err.new)) }
     ensures done { result ≡ Status.Done → IsOver (D.doorway door.new) }
     ensures closed { (D.doorway door.new).is_open ≡ false }

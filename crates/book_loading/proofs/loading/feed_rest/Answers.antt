@@ -1,5 +1,5 @@
 use Rattle.std.proofs.Common.{ℕ, take, length-take-le, arith}
-use Rattle.book_loading.proofs.LoadingLemmas.{stopped}
+use Rattle.tide_edge.proofs.ReadingLemmas.{stopped}
 use Rattle.book_loading.proofs.loading.feed_rest.Goals as goal
 
 pub returns-then-count-limit-clause-stops : goal.returns-then-count-limit-clause-stops

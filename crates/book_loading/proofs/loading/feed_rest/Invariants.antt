@@ -10,6 +10,7 @@ invariant-loop-reader g l = record {
   folder : g.F.Files.folder l.files ≡ g.F.Files.folder l.initial.files;
   steady : g.F.Files.steady l.files ≡ g.F.Files.steady l.initial.files;
   unfailed : g.F.Files.faults l.files ≡ g.F.Files.faults l.initial.files;
+  unopened : g.F.Files.opens l.files ≡ g.F.Files.opens l.initial.files;
 }
 
 abbrev pub decreases-loop-reader : goal.decreases-loop-reader

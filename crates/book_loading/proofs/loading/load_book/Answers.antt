@@ -1,4 +1,6 @@
-use Rattle.book_loading.proofs.LoadingLemmas.{unopened, some_reading, meets_opened, stopped_opened}
+use Rattle.book_loading.proofs.LoadingLemmas.{unopened, some_reading, meets_opened}
+use Rattle.tide_edge.proofs.CountLemmas.{counted_most}
+use Rattle.tide_edge.proofs.ReadingLemmas.{stopped_opened}
 use Rattle.tide_edge.specs.declared.read_all_fault.ReadAllFault.TheVariants as reading
 use Rattle.book_loading.proofs.loading.load_book.Goals as goal
 
@@ -31,3 +33,10 @@ returns-clause-own g c =
 
 pub returns-clause-some : goal.returns-clause-some
 returns-clause-some g c = some_reading c.args.limit reading.Failed
+
+pub returns-in-Ok-clause-opened : goal.returns-in-Ok-clause-opened
+returns-in-Ok-clause-opened g c =
+    rw (c.load_rest.ensures.unopened, c.open.ensures.opens) (counted_most (g.F.Files.opens c.args.files.now))
+
+pub returns-clause-opened : goal.returns-clause-opened
+returns-clause-opened g c = rw c.open.ensures.opens (counted_most (g.F.Files.opens c.args.files.now))

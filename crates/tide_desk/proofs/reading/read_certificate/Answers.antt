@@ -1,4 +1,4 @@
-use Rattle.std.proofs.Common.{None, refl}
+use Rattle.std.proofs.Common.{None, refl, ◌∙◌}
 use Rattle.tide_desk.specs.Readings.{certificate_named}
 use Rattle.tide_desk.proofs.reading.read_certificate.Goals as goal
 
@@ -18,3 +18,6 @@ returns-in-None-clause-own g c = λ t. rw (c.in-None.is, c.from_vec.ensures, c.n
 pub returns-in-None-clause-some : goal.returns-in-None-clause-some
 unfolding certificate_named
 returns-in-None-clause-some g c = (λ _. None, rw (c.in-None.is, c.from_vec.ensures, c.new.ensures.items) refl)
+
+pub returns-in-Some-clause-stops : goal.returns-in-Some-clause-stops
+returns-in-Some-clause-stops g c = λ t named is. c.read_file.ensures.stops t named (is ∙ c.in-Some.is)

@@ -1,7 +1,7 @@
 use Rattle.std.proofs.Common.{None, refl}
 use Rattle.std.specs.Bool.{IsTrue}
-use Rattle.tide_desk.specs.Readings.{book_named, table_named, zone_named, certificate_named, files_in}
-use Rattle.tide_desk.proofs.ReadingLemmas.{by_slot, meets_at}
+use Rattle.tide_desk.specs.Readings.{book_named, file_named, table_named, zone_named, certificate_named, files_in}
+use Rattle.tide_desk.proofs.ReadingLemmas.{by_slot, meets_at, stops_at}
 use Rattle.tide_desk.proofs.reading.read_files.Goals as goal
 
 pub returns-in_err-book-clause-own : goal.returns-in_err-book-clause-own
@@ -85,3 +85,23 @@ returns-clause-some g c =
     let zone = c.in_ok-zone.ensures.some in
     let certificate = c.in_ok-certificate.ensures.some in
     (by_slot book.0 table.0 zone.0 certificate.0, rw (book.1, table.1, zone.1, certificate.1) refl)
+
+pub returns-in_err-book-clause-stops : goal.returns-in_err-book-clause-stops
+returns-in_err-book-clause-stops g c =
+    λ t is. stops_at (g.F.Files.folder c.args.files.now) (file_named c.args.question.now) (g.F.Files.rest c.read_book.new.files) c.from_residual.result _ c.from_residual.ensures.1
+    (c.in_err-book.ensures.stops t (file_named c.args.question.now) is)
+
+pub returns-in_err-table-clause-stops : goal.returns-in_err-table-clause-stops
+returns-in_err-table-clause-stops g c =
+    λ t is. stops_at (g.F.Files.folder c.args.files.now) (file_named c.args.question.now) (g.F.Files.rest c.read_table.new.files) c.from_residual-in_err-table.result _ c.from_residual-in_err-table.ensures.1
+    (rw c.read_book.ensures.same_files at (c.in_err-table.ensures.stops (c.read_book.ensures.still_tells t) (file_named c.args.question.now) refl))
+
+pub returns-in_err-zone-clause-stops : goal.returns-in_err-zone-clause-stops
+returns-in_err-zone-clause-stops g c =
+    λ t is. stops_at (g.F.Files.folder c.args.files.now) (file_named c.args.question.now) (g.F.Files.rest c.read_zone_named.new.files) c.from_residual-in_err-zone.result _ c.from_residual-in_err-zone.ensures.1
+    (rw (c.read_table.ensures.same_files, c.read_book.ensures.same_files) at (c.in_err-zone.ensures.stops (c.read_table.ensures.still_tells (c.read_book.ensures.still_tells t)) (file_named c.args.question.now) refl))
+
+pub returns-in_err-certificate-clause-stops : goal.returns-in_err-certificate-clause-stops
+returns-in_err-certificate-clause-stops g c =
+    λ t is. stops_at (g.F.Files.folder c.args.files.now) (file_named c.args.question.now) (g.F.Files.rest c.read_certificate.new.files) c.from_residual-in_err-certificate.result _ c.from_residual-in_err-certificate.ensures.1
+    (rw (c.read_zone_named.ensures.same_files, c.read_table.ensures.same_files, c.read_book.ensures.same_files) at (c.in_err-certificate.ensures.stops (c.read_zone_named.ensures.still_tells (c.read_table.ensures.still_tells (c.read_book.ensures.still_tells t))) (file_named c.args.question.now) refl))

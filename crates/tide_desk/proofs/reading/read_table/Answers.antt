@@ -1,8 +1,8 @@
-use Rattle.std.proofs.Common.{None, refl}
+use Rattle.std.proofs.Common.{None, refl, ◌∙◌}
 use Rattle.std.specs.Bool.{IsTrue}
 use Rattle.tide_answer.specs.declared.slot.Slot.TheVariants.{Offsets}
 use Rattle.tide_desk.specs.Readings.{bytes_of, table_named}
-use Rattle.tide_desk.proofs.ReadingLemmas.{meets_at, meets_inside}
+use Rattle.tide_desk.proofs.ReadingLemmas.{meets_at, meets_inside, stops_at}
 use Rattle.tide_desk.proofs.reading.read_table.Goals as goal
 
 pub returns-in_err-bytes-in-Some-clause-own : goal.returns-in_err-bytes-in-Some-clause-own
@@ -37,3 +37,8 @@ returns-in-None-clause-own g c = λ t. rw (c.in-None.is, c.new.ensures) refl
 pub returns-in-None-clause-some : goal.returns-in-None-clause-some
 unfolding table_named
 returns-in-None-clause-some g c = (λ _. None, rw (c.in-None.is, c.new.ensures) refl)
+
+pub returns-in_err-bytes-in-Some-clause-stops : goal.returns-in_err-bytes-in-Some-clause-stops
+returns-in_err-bytes-in-Some-clause-stops g c =
+    λ t named is. stops_at (g.F.Files.folder c.args.files.now) named (g.F.Files.rest c.read_file.new.files) c.from_residual.result _ c.from_residual.ensures.1
+    (c.in_err-bytes-in-Some.ensures.stops t named (is ∙ c.in-Some.is))

@@ -1,8 +1,8 @@
-use Rattle.std.proofs.Common.{None, refl, rules}
+use Rattle.std.proofs.Common.{None, ap, refl, rules, ◌∙◌}
 use Rattle.std.specs.Bool.{IsTrue}
 use Rattle.tide_answer.specs.declared.slot.Slot.TheVariants.{Zone}
-use Rattle.tide_desk.specs.Readings.{bytes_of, zone_named}
-use Rattle.tide_desk.proofs.ReadingLemmas.{meets_at, meets_inside}
+use Rattle.tide_desk.specs.Readings.{bytes_of, zone_file, zone_named}
+use Rattle.tide_desk.proofs.ReadingLemmas.{meets_at, meets_inside, stops_at}
 use Rattle.tide_desk.proofs.reading.read_zone_named.Goals as goal
 
 pub returns-in_err-bytes-in-Named-clause-own : goal.returns-in_err-bytes-in-Named-clause-own
@@ -45,3 +45,8 @@ returns-in-Fixed-clause-own g c = λ t. rw c.in-Fixed.is (search rules)
 pub returns-in-Fixed-clause-some : goal.returns-in-Fixed-clause-some
 unfolding zone_named
 returns-in-Fixed-clause-some g c = (λ _. None, rw c.in-Fixed.is (search rules))
+
+pub returns-in_err-bytes-in-Named-clause-stops : goal.returns-in_err-bytes-in-Named-clause-stops
+returns-in_err-bytes-in-Named-clause-stops g c =
+    λ t named is. stops_at (g.F.Files.folder c.args.files.now) named (g.F.Files.rest c.read_file.new.files) c.from_residual.result _ c.from_residual.ensures.1
+    (c.in_err-bytes-in-Named.ensures.stops t named (is ∙ ap zone_file c.in-Named.is))

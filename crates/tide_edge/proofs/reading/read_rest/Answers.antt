@@ -2,7 +2,7 @@ use Rattle.std.proofs.Common.{Ok, ap, sym, ◌∙◌, ℕ, Some, length-take-le,
 use Rattle.tide_edge.specs.declared.read_all_fault.ReadAllFault.TheVariants.{Failed, NoMemory}
 use Rattle.tide_edge.specs.Whole.{whole, source_of}
 use Rattle.tide_edge.proofs.ExcuseLemmas.{meets_by_fault, outside_by_fault}
-use Rattle.tide_edge.proofs.ReadingLemmas.{whole_at_end, whole_too_long, read_on}
+use Rattle.tide_edge.proofs.ReadingLemmas.{whole_at_end, whole_too_long, read_on, stopped}
 use Rattle.tide_edge.proofs.reading.read_rest.Goals as goal
 
 pub returns-in_err-count-clause-whole : goal.returns-in_err-count-clause-whole
@@ -57,6 +57,20 @@ returns-then-count-limit-clause-whole g c =
     (omega (arith, c.in_ok-count.ensures.within, c.read.auto.room))
     (omega (arith, c.loop-bytes.bytes.ok.0))
 
+pub returns-then-count-limit-clause-stops : goal.returns-then-count-limit-clause-stops
+returns-then-count-limit-clause-stops g c =
+    λ t too_long. stopped
+    c.args.limit
+    (g.F.Files.rest c.args.files.now)
+    c.loop-bytes.bytes.items
+    (g.F.Files.rest c.loop-bytes.files)
+    (take c.in_ok-count.count c.read.new.room)
+    (g.F.Files.rest c.read.new.self)
+    (c.loop-bytes.invariant.read t)
+    (c.in_ok-count.ensures.next_bytes (c.loop-bytes.invariant.tells t))
+    (omega (arith, c.loop-bytes.invariant.within, c.loop-bytes.bytes.ok.0))
+    (omega (arith, c.in_ok-count.ensures.within, c.requires, c.loop-bytes.auto.room, length-take-le {A = ℕ}))
+
 pub returns-then-count-limit-clause-still_tells : goal.returns-then-count-limit-clause-still_tells
 returns-then-count-limit-clause-still_tells g c = λ t. c.read.ensures.still_tells (c.loop-bytes.invariant.tells t)
 
@@ -78,6 +92,7 @@ loop-bytes-preserved g c = record {
   folder = cc (c.read.ensures.same_files, c.loop-bytes.invariant.folder);
   steady = cc (c.read.ensures.as_steady, c.loop-bytes.invariant.steady);
   unfailed = cc (c.in_ok-count.ensures.counts, c.loop-bytes.invariant.unfailed);
+  unopened = cc (c.read.ensures.same_opens, c.loop-bytes.invariant.unopened);
 }
 
 pub returns-in_err-extend_from_slice-clause-counts : goal.returns-in_err-extend_from_slice-clause-counts

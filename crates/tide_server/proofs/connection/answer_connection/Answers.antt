@@ -1,3 +1,4 @@
+use Rattle.std.specs.List.{concat}
 use Rattle.tide_server.specs.Serving.{Answers}
 use Rattle.tide_server.proofs.AnswerLemmas.{went_unread, went_whole}
 use Rattle.tide_server.proofs.connection.answer_connection.Goals as goal
@@ -8,7 +9,7 @@ returns-in-Ok-clause-went g c =
     went_whole
     c.args.stock.now
     (g.K.Clock.minute_held c.args.clock.now)
-    (g.D.Door.traffic c.args.door.now).rest
+    (concat (g.D.Door.traffic c.args.door.now).rest)
     c.read_request.new.request
     c.answer_request.result
     (g.D.Door.traffic c.args.door.now)
@@ -17,6 +18,8 @@ returns-in-Ok-clause-went g c =
     (g.D.Door.line_faults c.args.door.now)
     (g.D.Door.line_faults c.read_request.new.door)
     (g.D.Door.line_faults c.answer_request.new.door)
+    (g.K.Clock.asked c.args.clock.now)
+    (g.K.Clock.asked c.answer_request.new.clock)
     (c.in-Ok.ensures.whole t)
     (c.in-Ok.ensures.quiet t)
     c.in-Ok.ensures.counts
@@ -26,10 +29,11 @@ pub returns-in-Err-clause-went : goal.returns-in-Err-clause-went
 returns-in-Err-clause-went g c =
     λ t k. went_unread
     (Answers c.args.stock.now (g.K.Clock.minute_held c.args.clock.now))
-    (g.D.Door.traffic c.args.door.now).rest
+    (concat (g.D.Door.traffic c.args.door.now).rest)
     (g.D.Door.traffic c.args.door.now)
     (g.D.Door.traffic c.read_request.new.door)
     (g.D.Door.line_faults c.args.door.now)
     (g.D.Door.line_faults c.read_request.new.door)
+    (g.K.Clock.asked c.args.clock.now)
     (c.in-Err.ensures.quiet t)
     c.in-Err.ensures.counts

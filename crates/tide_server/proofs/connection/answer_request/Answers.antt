@@ -12,6 +12,7 @@ returns-then-is_empty-clause-went g c =
     c.args.request.now
     (g.D.Door.traffic c.args.door.now)
     (g.D.Door.line_faults c.args.door.now)
+    (g.K.Clock.asked c.args.clock.now)
     (grind (arith, common_steps, c.is_empty.ensures, c.if-is_empty.true))
 
 pub returns-clause-went : goal.returns-clause-went
@@ -30,7 +31,10 @@ returns-clause-went g c =
     (g.D.Door.traffic c.send_reply.new.door)
     (g.D.Door.line_faults c.args.door.now)
     (g.D.Door.line_faults c.send_reply.new.door)
+    (g.K.Clock.asked c.args.clock.now)
+    (g.K.Clock.asked c.minute.new.self)
     some
     made
     (sends.2 t)
     c.send_reply.ensures.counts
+    c.minute.ensures.asks

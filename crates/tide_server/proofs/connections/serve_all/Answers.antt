@@ -23,6 +23,9 @@ returns-in_err-serve_next-clause-served g c =
     (g.D.Door.line_faults c.serve_next.new.door)
     (g.K.Clock.faults c.args.clock.now)
     (g.K.Clock.faults c.serve_next.new.clock)
+    (g.K.Clock.asked c.args.clock.now)
+    (g.K.Clock.asked c.loop-taken.clock)
+    (g.K.Clock.asked c.serve_next.new.clock)
     c.loop-taken-test.true
     (c.loop-taken.invariant.served t k)
     step
@@ -45,6 +48,9 @@ loop-taken-preserved g c =
           (g.D.Door.line_faults c.args.door.now)
           (g.D.Door.line_faults c.loop-taken.door)
           (g.D.Door.line_faults c.serve_next.new.door)
+          (g.K.Clock.asked c.args.clock.now)
+          (g.K.Clock.asked c.loop-taken.clock)
+          (g.K.Clock.asked c.serve_next.new.clock)
           (c.loop-taken.invariant.served t k)
           step;
       faults = cc (c.in_ok-serve_next.ensures.counts, c.loop-taken.invariant.faults);

@@ -9,7 +9,8 @@ invariant-loop-taken g l = record {
   served : g.D.Door.tells l.initial.door → g.K.Clock.tells l.initial.clock
       → WereServed (Answers l.stock (g.K.Clock.minute_held l.initial.clock)) l._taken
       (g.D.Door.traffic l.initial.door) (g.D.Door.traffic l.door)
-      (g.D.Door.line_faults l.initial.door) (g.D.Door.line_faults l.door);
+      (g.D.Door.line_faults l.initial.door) (g.D.Door.line_faults l.door)
+      (g.K.Clock.asked l.initial.clock) (g.K.Clock.asked l.clock);
   faults : g.D.Door.faults l.door ≡ g.D.Door.faults l.initial.door;
   unasked : l._taken ≡ 0 → l.clock ≡ l.initial.clock;
   clock_faults : g.K.Clock.faults l.clock ≡ g.K.Clock.faults l.initial.clock;

@@ -14,7 +14,10 @@ returns-in-Ok-serve_connection-clause-steps g c =
     (g.D.Door.line_faults c.args.door.now)
     (g.D.Door.line_faults c.next.new.self)
     (g.D.Door.line_faults c.serve_connection.new.door)
+    (g.K.Clock.asked c.args.clock.now)
+    (g.K.Clock.asked c.serve_connection.new.clock)
     ((c.in-Ok.ensures.comes t).0 comes)
     (rw comes at (c.in-Ok.ensures.takes t))
     c.in-Ok.ensures.same_lines
     (c.in-Ok-serve_connection.ensures.went (c.next.ensures.still_tells t) k)
+    (c.serve_connection.ensures.needed (c.next.ensures.still_tells t))

@@ -1,7 +1,7 @@
 use Rattle.std.proofs.Common.{None, refl}
 use Rattle.std.specs.Bool.{IsTrue}
-use Rattle.tide_desk.specs.Readings.{book_named, table_named}
-use Rattle.tide_desk.proofs.ReadingLemmas.{by_slot, meets_at}
+use Rattle.tide_desk.specs.Readings.{book_named, file_named, table_named}
+use Rattle.tide_desk.proofs.ReadingLemmas.{by_slot, meets_at, stops_at}
 use Rattle.tide_server.specs.Openings.{stock_named}
 use Rattle.tide_server.proofs.opening.read_named.Goals as goal
 
@@ -46,3 +46,13 @@ returns-clause-some g c =
     let book = c.in_ok-book.ensures.some in
     let table = c.in_ok-table.ensures.some in
     (by_slot book.0 table.0 (λ _. None) (λ _. None), rw (book.1, table.1) refl)
+
+pub returns-in_err-book-clause-stops : goal.returns-in_err-book-clause-stops
+returns-in_err-book-clause-stops g c =
+    λ t is. stops_at (g.F.Files.folder c.args.files.now) (file_named c.args.question.now) (g.F.Files.rest c.read_book.new.files) c.from_residual.result _ c.from_residual.ensures.1
+    (c.in_err-book.ensures.stops t (file_named c.args.question.now) is)
+
+pub returns-in_err-table-clause-stops : goal.returns-in_err-table-clause-stops
+returns-in_err-table-clause-stops g c =
+    λ t is. stops_at (g.F.Files.folder c.args.files.now) (file_named c.args.question.now) (g.F.Files.rest c.read_table.new.files) c.from_residual-in_err-table.result _ c.from_residual-in_err-table.ensures.1
+    (rw c.read_book.ensures.same_files at (c.in_err-table.ensures.stops (c.read_book.ensures.still_tells t) (file_named c.args.question.now) refl))

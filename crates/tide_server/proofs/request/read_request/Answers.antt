@@ -1,5 +1,6 @@
-use Rattle.std.proofs.Common.{Ok, inr, take, arith, ◌∙◌, sym, refl}
-use Rattle.tide_server.proofs.ConnectionLemmas.{few, not_enough, quiet_on, read_on, unsettled}
+use Rattle.std.proofs.Common.{Ok, inr, arith, ap, ◌∙◌, sym, refl}
+use Rattle.std.specs.List.{concat}
+use Rattle.tide_server.proofs.ConnectionLemmas.{all_read, few, needed_on, needed_still, none_read, not_enough, quiet_on, read_on, read_parts, unsettled}
 use Rattle.tide_server.proofs.request.read_request.Goals as goal
 
 pub loop-count-init : goal.loop-count-init
@@ -7,7 +8,7 @@ loop-count-init g c =
     rw c.clear.ensures (record {
       waits = not_enough;
       short = omega arith;
-      read = λ t. refl;
+      read = λ t. none_read (g.D.Door.traffic c.args.door.now).rest;
       quiet = λ t. record { waiting = refl; replies = refl };
       tells = λ t. t;
       doorway = refl;
@@ -15,11 +16,65 @@ loop-count-init g c =
       lines = refl;
     })
 
+pub returns-in_err-count-clause-needed : goal.returns-in_err-count-clause-needed
+returns-in_err-count-clause-needed g c =
+    λ t. rw (ap (λ s. s.rest) (c.in_err-count.ensures.reads (c.loop-count.invariant.tells t)))
+    (needed_still
+    (g.D.Door.traffic c.args.door.now).rest
+    c.loop-count.request
+    (g.D.Door.traffic c.loop-count.door).rest
+    (c.loop-count.invariant.read t)
+    c.loop-count.invariant.waits)
+
+pub returns-then-count-eq0-clause-whole : goal.returns-then-count-eq0-clause-whole
+returns-then-count-eq0-clause-whole g c =
+    λ t. all_read
+    (g.D.Door.traffic c.args.door.now).rest
+    c.loop-count.request
+    c.read_more.new.self
+    c.in_ok-count.count
+    (g.D.Door.traffic c.loop-count.door)
+    (g.D.Door.traffic c.read_more.new.door)
+    (c.loop-count.invariant.read t)
+    c.in_ok-count.ensures.longer
+    (c.in_ok-count.ensures.next_bytes (c.loop-count.invariant.tells t))
+    (c.in_ok-count.ensures.reads (c.loop-count.invariant.tells t))
+    ((c.in_ok-count.ensures.end (c.loop-count.invariant.tells t)).0 c.if-count-eq0.true)
+
+pub returns-then-count-eq0-clause-needed : goal.returns-then-count-eq0-clause-needed
+returns-then-count-eq0-clause-needed g c =
+    λ t. needed_on
+    (g.D.Door.traffic c.args.door.now).rest
+    c.loop-count.request
+    c.read_more.new.self
+    c.in_ok-count.count
+    (g.D.Door.traffic c.loop-count.door).rest
+    (g.D.Door.traffic c.read_more.new.door).rest
+    (c.loop-count.invariant.read t)
+    c.loop-count.invariant.waits
+    c.in_ok-count.ensures.longer
+    (c.in_ok-count.ensures.within_piece (c.loop-count.invariant.tells t))
+    (read_on
+    (g.D.Door.traffic c.args.door.now).rest
+    c.loop-count.request
+    c.read_more.new.self
+    c.in_ok-count.count
+    (g.D.Door.traffic c.loop-count.door)
+    (g.D.Door.traffic c.read_more.new.door)
+    (c.loop-count.invariant.read t)
+    c.in_ok-count.ensures.longer
+    (c.in_ok-count.ensures.next_bytes (c.loop-count.invariant.tells t))
+    (c.in_ok-count.ensures.reads (c.loop-count.invariant.tells t)))
+
 pub returns-then-enough-clause-whole : goal.returns-then-enough-clause-whole
 returns-then-enough-clause-whole g c =
     λ t. let row = rw c.as_slice.ensures at c.enough.ensures in record {
-      rest = (g.D.Door.traffic c.read_more.new.door).rest;
-      parts = read_on
+      rest = concat (g.D.Door.traffic c.read_more.new.door).rest;
+      parts = read_parts
+          (g.D.Door.traffic c.args.door.now).rest
+          c.read_more.new.self
+          (g.D.Door.traffic c.read_more.new.door).rest
+          (read_on
           (g.D.Door.traffic c.args.door.now).rest
           c.loop-count.request
           c.read_more.new.self
@@ -27,14 +82,36 @@ returns-then-enough-clause-whole g c =
           (g.D.Door.traffic c.loop-count.door)
           (g.D.Door.traffic c.read_more.new.door)
           (c.loop-count.invariant.read t)
+          c.in_ok-count.ensures.longer
           (c.in_ok-count.ensures.next_bytes (c.loop-count.invariant.tells t))
-          (c.in_ok-count.ensures.reads (c.loop-count.invariant.tells t));
+          (c.in_ok-count.ensures.reads (c.loop-count.invariant.tells t)));
       enough = inr (row.0, row.1, sym row.2 ∙ c.if-enough.true);
-      before = c.loop-count.request;
-      piece = take c.in_ok-count.count (g.D.Door.traffic c.loop-count.door).rest;
-      pieces = c.in_ok-count.ensures.next_bytes (c.loop-count.invariant.tells t);
-      waits = c.loop-count.invariant.waits;
     }
+
+pub returns-then-enough-clause-needed : goal.returns-then-enough-clause-needed
+returns-then-enough-clause-needed g c =
+    λ t. needed_on
+    (g.D.Door.traffic c.args.door.now).rest
+    c.loop-count.request
+    c.read_more.new.self
+    c.in_ok-count.count
+    (g.D.Door.traffic c.loop-count.door).rest
+    (g.D.Door.traffic c.read_more.new.door).rest
+    (c.loop-count.invariant.read t)
+    c.loop-count.invariant.waits
+    c.in_ok-count.ensures.longer
+    (c.in_ok-count.ensures.within_piece (c.loop-count.invariant.tells t))
+    (read_on
+    (g.D.Door.traffic c.args.door.now).rest
+    c.loop-count.request
+    c.read_more.new.self
+    c.in_ok-count.count
+    (g.D.Door.traffic c.loop-count.door)
+    (g.D.Door.traffic c.read_more.new.door)
+    (c.loop-count.invariant.read t)
+    c.in_ok-count.ensures.longer
+    (c.in_ok-count.ensures.next_bytes (c.loop-count.invariant.tells t))
+    (c.in_ok-count.ensures.reads (c.loop-count.invariant.tells t)))
 
 pub loop-count-preserved : goal.loop-count-preserved
 loop-count-preserved g c =
@@ -50,6 +127,7 @@ loop-count-preserved g c =
           (g.D.Door.traffic c.loop-count.door)
           (g.D.Door.traffic c.read_more.new.door)
           (c.loop-count.invariant.read t)
+          c.in_ok-count.ensures.longer
           (c.in_ok-count.ensures.next_bytes (c.loop-count.invariant.tells t))
           (c.in_ok-count.ensures.reads (c.loop-count.invariant.tells t));
       quiet = λ t.

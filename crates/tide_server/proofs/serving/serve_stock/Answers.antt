@@ -31,8 +31,9 @@ returns-in-Err-clause-listened g c =
           (g.D.Door.line_faults c.listen.new.self)
           (g.K.Clock.faults c.args.clock.now)
           (g.K.Clock.faults c.args.clock.now)
-          (c.in-Err.ensures.same_traffic t)
-          c.in-Err.ensures.same_lines
+          (g.K.Clock.asked c.args.clock.now)
+          (g.K.Clock.asked c.args.clock.now)
+          (record { traffic = c.in-Err.ensures.same_traffic t; lines = c.in-Err.ensures.same_lines; asked = refl })
           (ap (λ d. d.taken) c.in-Err.ensures.asked)
           refl;
       wrote = rw c.in-Err.ensures.asked (wrote_one _ _ _ _ _ _ c.refuse.ensures.line.0 (codes "read fault\n") c.refuse.ensures.line.1);
