@@ -14,8 +14,9 @@ use tide_answer::Status;
 use tide_edge::{FixedClock, MemoryFiles, MemorySink};
 
 /// Over files and a clock in memory and an empty sink: where the run is done, or rejects a certificate,
-/// the sink has taken exactly the answer's text, and nothing is told beside it. Any status but that of a fault of reading says the answer, and such a
-/// fault comes only where a call on the files or the clock failed.
+/// the sink has taken exactly the answer's text, and nothing is told beside it. Any status but that of
+/// a fault of reading says the answer, and such a fault comes only where a call on the files or the
+/// clock failed.
 pub fn run_in_memory(
     alloc: Global,
     words: &Words,

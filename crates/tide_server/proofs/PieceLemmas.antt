@@ -1,13 +1,13 @@
 -- What is left of the pieces of a connection.
-use Rattle.std.proofs.Common.{◌≡◌, ℕ, ◌+◌, ◌-◌, ◌≤◌, Bool, false, true, List, [], ◌∷◌, ◌++◌, length, take, drop, arith, ap, sym, ◌∙◌, refl}
+use Rattle.std.proofs.Common.{◌≡◌, ℕ, ◌+◌, ◌-◌, ◌≤◌, Bool, false, true, List, [], ◌∷◌, ◌++◌, length, drop, arith, ap, sym, ◌∙◌, refl}
 use Rattle.std.specs.List.{concat}
 use Rattle.std.specs.Prelude.{◌==◌, ◌||◌, nat_lt}
 use Rattle.std.proofs.lemmas.Bool.Decides.{nat_tests}
 use Rattle.std.proofs.lemmas.Grind.{common_steps}
 use Rattle.std.proofs.lemmas.List.{drop-append-le}
 use Rattle.std.proofs.Math.Seq.{drop-append-add}
-use Rattle.tide_edge.specs.Doors.{first_or_empty, left_after}
-use Rattle.tide_server.specs.Serving.{IsEnough, IsLastReadAsNeeded, IsReadAsNeeded}
+use Rattle.tide_edge.specs.Doors.{left_after}
+use Rattle.tide_server.specs.Serving.{IsLastReadAsNeeded, IsReadAsNeeded}
 
 -- the first piece isn't read to its end
 abbrev is_within : ℕ → List ℕ → Bool

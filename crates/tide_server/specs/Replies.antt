@@ -1,5 +1,5 @@
 -- The reply to a request, over a book of harmonic constants, a table of offsets and the present minute (this project).
-use Rattle.std.specs.Prelude.{◌≡◌, ℕ, ℤ, Bool, true, false, List, [], codes, Result, Ok, Err}
+use Rattle.std.specs.Prelude.{◌≡◌, ℕ, ℤ, Bool, List, [], codes, is_some, Result, Ok, Err}
 use Rattle.harmonics_text.specs.declared.book.Book.{Book}
 use Rattle.question.specs.declared.fault.AskFault.{AskFault}
 use Rattle.question.specs.declared.question.Layout.{Layout}
@@ -16,6 +16,7 @@ use Rattle.tide_answer.specs.declared.refusal.Refusal.{Refusal}
 use Rattle.tide_answer.specs.declared.text.Answer.{Answer}
 use Rattle.tide_answer.specs.Answers.{answered}
 use Rattle.tide_answer.specs.Faults.{line_of}
+use Rattle.tide_desk.specs.Readings.{zone_file}
 use Rattle.zone_time.specs.declared.zone.Zone.{Zone}
 use Rattle.zone_time.specs.declared.zone.Zone.TheVariants.{Utc, Fixed}
 use Rattle.tide_server.specs.declared.code.Code.{Code}
@@ -25,9 +26,7 @@ use Rattle.tide_server.specs.Responses.{response, rejection_of}
 use Rattle.tide_server.specs.Rows.{Row, rejects, asks, Asking, IsRow}
 
 abbrev pub names_file : ZoneWord → Bool
-names_file words.Utc = false
-names_file (words.Fixed minutes) = false
-names_file (words.Named name) = true
+names_file word = is_some (zone_file word)
 
 -- the zone of a query's word, which never names a file
 abbrev pub zone_of : ZoneWord → Zone
