@@ -93,15 +93,16 @@ read_parts pieces request left read =
     ∙ ap (λ xs. xs ++ drop (length request) (concat pieces)) (sym read.bytes)
     ∙ ap (λ xs. request ++ xs) (sym (ap concat read.rest ∙ bytes_left (length request) pieces))
 
+left_more : (pieces : List (List ℕ)) (request : List ℕ) (count : ℕ) (before after : Traffic) → IsReadTo pieces request before.rest
+    → after ≡ read_by (Ok count) before → after.rest ≡ left_after (length request + count) pieces
+left_more pieces request count before after so_far is =
+    ap (λ t. t.rest) is ∙ ap (left_after count) so_far.rest ∙ left_on (length request) count pieces
+
 pub read_on : (pieces : List (List ℕ)) (request next : List ℕ) (count : ℕ) (before after : Traffic)
     → IsReadTo pieces request before.rest → length next ≡ length request + count
     → next ≡ request ++ take count (concat before.rest) → after ≡ read_by (Ok count) before → IsReadTo pieces next after.rest
 read_on pieces request next count before after so_far longer more is = record {
-  rest =
-      ap (λ t. t.rest) is
-      ∙ ap (left_after count) so_far.rest
-      ∙ left_on (length request) count pieces
-      ∙ ap (λ n. left_after n pieces) (sym longer);
+  rest = left_more pieces request count before after so_far is ∙ ap (λ n. left_after n pieces) (sym longer);
   bytes =
       more
       ∙ ap (λ xs. request ++ take count xs) (ap concat so_far.rest ∙ bytes_left (length request) pieces)
@@ -135,15 +136,16 @@ needed_still pieces request left read waits = record {
   one = omega arith;
 }
 
-pub needed_on : (pieces : List (List ℕ)) (request next : List ℕ) (count : ℕ) (left after : List (List ℕ))
-    → IsReadTo pieces request left → ¬ (IsEnough request) → length next ≡ length request + count
-    → count ≤ length (first_or_empty left) → IsReadTo pieces next after → IsReadAsNeeded pieces after
-needed_on pieces request next count left after read waits longer one now = record {
+-- so was one read more, which stays in one piece, where the bytes before it weren't enough
+pub needed_on : (pieces : List (List ℕ)) (request : List ℕ) (count : ℕ) (before after : Traffic)
+    → IsReadTo pieces request before.rest → ¬ (IsEnough request) → count ≤ length (first_or_empty before.rest)
+    → after ≡ read_by (Ok count) before → IsReadAsNeeded pieces after.rest
+needed_on pieces request count before after so_far waits one is = record {
   before = length request;
-  all = length next;
-  rest = now.rest;
-  waits = subst (λ (bs : List ℕ). ¬ (IsEnough bs)) read.bytes waits;
-  one = rw (longer, ← read.rest) (omega (arith, one));
+  all = length request + count;
+  rest = left_more pieces request count before after so_far is;
+  waits = subst (λ (bs : List ℕ). ¬ (IsEnough bs)) so_far.bytes waits;
+  one = rw (← so_far.rest) (omega (arith, one));
 }
 
 -- sending leaves what wasn't read

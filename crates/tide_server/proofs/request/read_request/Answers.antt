@@ -46,25 +46,13 @@ returns-then-count-eq0-clause-needed g c =
     λ t. needed_on
     (g.D.Door.traffic c.args.door.now).rest
     c.loop-count.request
-    c.read_more.new.self
-    c.in_ok-count.count
-    (g.D.Door.traffic c.loop-count.door).rest
-    (g.D.Door.traffic c.read_more.new.door).rest
-    (c.loop-count.invariant.read t)
-    c.loop-count.invariant.waits
-    c.in_ok-count.ensures.longer
-    (c.in_ok-count.ensures.within_piece (c.loop-count.invariant.tells t))
-    (read_on
-    (g.D.Door.traffic c.args.door.now).rest
-    c.loop-count.request
-    c.read_more.new.self
     c.in_ok-count.count
     (g.D.Door.traffic c.loop-count.door)
     (g.D.Door.traffic c.read_more.new.door)
     (c.loop-count.invariant.read t)
-    c.in_ok-count.ensures.longer
-    (c.in_ok-count.ensures.next_bytes (c.loop-count.invariant.tells t))
-    (c.in_ok-count.ensures.reads (c.loop-count.invariant.tells t)))
+    c.loop-count.invariant.waits
+    (c.in_ok-count.ensures.within_piece (c.loop-count.invariant.tells t))
+    (c.in_ok-count.ensures.reads (c.loop-count.invariant.tells t))
 
 pub returns-then-enough-clause-whole : goal.returns-then-enough-clause-whole
 returns-then-enough-clause-whole g c =
@@ -93,25 +81,13 @@ returns-then-enough-clause-needed g c =
     λ t. needed_on
     (g.D.Door.traffic c.args.door.now).rest
     c.loop-count.request
-    c.read_more.new.self
-    c.in_ok-count.count
-    (g.D.Door.traffic c.loop-count.door).rest
-    (g.D.Door.traffic c.read_more.new.door).rest
-    (c.loop-count.invariant.read t)
-    c.loop-count.invariant.waits
-    c.in_ok-count.ensures.longer
-    (c.in_ok-count.ensures.within_piece (c.loop-count.invariant.tells t))
-    (read_on
-    (g.D.Door.traffic c.args.door.now).rest
-    c.loop-count.request
-    c.read_more.new.self
     c.in_ok-count.count
     (g.D.Door.traffic c.loop-count.door)
     (g.D.Door.traffic c.read_more.new.door)
     (c.loop-count.invariant.read t)
-    c.in_ok-count.ensures.longer
-    (c.in_ok-count.ensures.next_bytes (c.loop-count.invariant.tells t))
-    (c.in_ok-count.ensures.reads (c.loop-count.invariant.tells t)))
+    c.loop-count.invariant.waits
+    (c.in_ok-count.ensures.within_piece (c.loop-count.invariant.tells t))
+    (c.in_ok-count.ensures.reads (c.loop-count.invariant.tells t))
 
 pub loop-count-preserved : goal.loop-count-preserved
 loop-count-preserved g c =
