@@ -1,43 +1,22 @@
 -- Whole numbers as text, both ways.
-use Rattle.std.proofs.Common.{◌≡◌, ℕ, zero, suc, ◌+◌, ◌-◌, ◌*◌, ◌<◌, ◌≤◌, ◌^◌, true, eqb, List, [], ◌∷◌, codes, length, get_or, take, Option, Some, None, ℤ, pos, negsuc, inl, inr, refl, sym, ap, ◌∙◌, subst, lit<, arith, rules}
-use Rattle.std.specs.Prelude.{unsigned_abs, decimal, not, ◌||◌}
+use Rattle.std.proofs.Common.{◌≡◌, ℕ, zero, suc, ◌<◌, ◌≤◌, ◌^◌, true, false, ltb, leb, eqb, List, [], ◌∷◌, codes, length, get_or, Option, Some, None, ℤ, pos, negsuc, inl, inr, refl, sym, ap, ◌∙◌, subst, lit<, arith, rules}
+use Rattle.std.specs.Prelude.{unsigned_abs, decimal, ◌&&◌}
 use Rattle.std.specs.Fmt.{signed_decimal}
 use Rattle.std.specs.List.{list_all}
-use Rattle.std.specs.Char.{is_ascii_digit, digit_value}
+use Rattle.std.specs.Char.{is_ascii_digit}
 use Rattle.std.specs.Str.Parse.{digits_value}
-use Rattle.std.proofs.lemmas.Bool.{ltb-true, leb-true, eqb-true, eqb-false, lt-ltb, le-leb, eq-eqb, ne_eqb, and_parts, and_from, or_cases, or_left, or_right, not-true, not_from_false, cases_Bool}
+use Rattle.std.proofs.lemmas.Bool.{ltb-true, ltb-false, leb-true, eqb-true, le-leb, eq-eqb, ne_eqb, and_parts, and_from, cases_Bool}
 use Rattle.std.proofs.lemmas.Bool.Decides.{nat_tests}
 use Rattle.std.proofs.lemmas.Fmt.{length-decimal-le, decimal_digit, decimal_nonempty, first_decimal, digits_decimal, digits_value-decimal, decimal-digits_value}
-use Rattle.std.proofs.lemmas.Grind.{pow_more}
-use Rattle.std.proofs.lemmas.Int.Digits.{digits_value_more}
 use Rattle.std.proofs.lemmas.List.Sums.{AllPass-from_list_all}
 use Rattle.std.proofs.lemmas.Option.{cond_some, same_Some, option_and_then_some}
 use Rattle.std.proofs.lemmas.Str.Parse.{IsNumeralModel, numerals_by_value, digits_value_short}
-use Rattle.std.proofs.Math.Nat.{pow-le-pow_right}
-use Rattle.cert_text.specs.Workings.LineReading.{after, is_numeral, size_of, negative, number_from, number_of}
-use Rattle.cert_text.proofs.OptionLemmas.{option_map_some}
-
--- ---- digits gone through one by one
-
-digit_value_is : (b : ℕ) → is_ascii_digit b ≡ true → digit_value b ≡ b - 48
-digit_value_is b h = grind (arith, nat_tests)
+use Rattle.decimal_text.specs.Digits.{digits_of}
+use Rattle.cert_text.specs.Workings.LineReading.{after, size_of, negative, number_from, number_of}
+use Rattle.cert_text.proofs.OptionLemmas.{cond_none, option_map_some}
 
 digit_is : (b : ℕ) → is_ascii_digit b ≡ true → (48 ≤ b) × (b ≤ 57)
 digit_is b h = grind (arith, nat_tests)
-
-pub digit_at : (text : List ℕ) (i : ℕ) → list_all is_ascii_digit text ≡ true → i < length text → (48 ≤ get_or text i 0) × (get_or text i 0 ≤ 57)
-digit_at text i h lt = digit_is (get_or text i 0) (AllPass-from_list_all is_ascii_digit text h i 0 lt)
-
--- one more digit
-pub digits_value_next : (text : List ℕ) (i : ℕ) → list_all is_ascii_digit text ≡ true → i < length text → digits_value 10 (take (i + 1) text) ≡ digits_value 10 (take i text) * 10 + (get_or text i 0 - 48)
-digits_value_next text i h lt =
-    rw (← digit_value_is (get_or text i 0) (AllPass-from_list_all is_ascii_digit text h i 0 lt)) (digits_value_more 10 text i lt)
-
-pub within : (i most value : ℕ) → i ≤ most → value < 10 ^ i → value < 10 ^ most
-within i most value few h = omega (arith, pow-le-pow_right {n = 10} (lit< tt) few)
-
-pub small_push : (i value digit : ℕ) → digit ≤ 9 → value < 10 ^ i → value * 10 + digit < 10 ^ (i + 1)
-small_push i value digit nine h = rw (pow_more 10 i) (omega (arith, h))
 
 -- ---- how long a number is
 
@@ -57,30 +36,49 @@ record IsNumeral (text : List ℕ) : Type 0 where
   digits : list_all is_ascii_digit text ≡ true
   no_zero : get_or text 0 0 ≡ 48 → length text ≡ 1
 
-numeral_is : (text : List ℕ) → is_numeral text ≡ true → IsNumeral text
-numeral_is text h =
-    let all = and_parts _ _ h in let front = and_parts _ _ all.0 in let counts = and_parts _ _ front.0 in
-    record {
-      some = ltb-true _ _ counts.0;
-      few = leb-true _ _ counts.1;
-      digits = front.1;
-      no_zero = λ e. elim (or_cases _ _ all.1) [ inl other ↦ absurd (eqb-false _ _ (not-true _ other) e) | inr one ↦ eqb-true _ _ one ];
-    }
+no_zero_if : (text : List ℕ) → (ltb 1 (length text) && eqb (get_or text 0 0) 48) ≡ false → 0 < length text → get_or text 0 0 ≡ 48 → length text ≡ 1
+no_zero_if text unpadded some first = elim (cases_Bool (ltb 1 (length text))) [
+  | inl more ↦
+      let padded : (ltb 1 (length text) && eqb (get_or text 0 0) 48) ≡ true = and_from _ _ more (eq-eqb _ _ first) in
+      absurd cc
+  | inr one ↦ omega (arith, ltb-false _ _ one)
+]
 
-is_numeral-from : (text : List ℕ) → IsNumeral text → is_numeral text ≡ true
-is_numeral-from text h =
-    let last : (not (eqb (get_or text 0 0) 48) || eqb (length text) 1) ≡ true =
-    elim (cases_Bool (eqb (get_or text 0 0) 48)) [
-      | inl first ↦ or_right _ _ (eq-eqb _ _ (h.no_zero (eqb-true _ _ first)))
-      | inr other ↦ or_left _ _ (not_from_false _ other)
-    ] in
-    and_from _ _ (and_from _ _ (and_from _ _ (lt-ltb _ _ h.some) (le-leb _ _ h.few)) h.digits) last
+numeral_is : (text : List ℕ) (n : ℕ) → size_of text ≡ Some n → IsNumeral text × (digits_value 10 text ≡ n)
+unfolding size_of digits_of
+numeral_is text n e =
+    let unpadded = cond_none (ltb 1 (length text) && eqb (get_or text 0 0) 48) _ n e in
+    let got = cond_some (leb 1 (length text) && leb (length text) 14 && list_all is_ascii_digit text) (digits_value 10 text) n unpadded.1 in
+    let all = and_parts (leb 1 (length text) && leb (length text) 14) (list_all is_ascii_digit text) got.0 in
+    let counts = and_parts (leb 1 (length text)) (leb (length text) 14) all.0 in
+    let some : 0 < length text = leb-true 1 (length text) counts.0 in (
+      record {
+        some = some;
+        few = leb-true _ _ counts.1;
+        digits = all.1;
+        no_zero = no_zero_if text unpadded.0 some;
+      },
+      got.1,
+    )
+
+unpadded_if : (text : List ℕ) → IsNumeral text → (ltb 1 (length text) && eqb (get_or text 0 0) 48) ≡ false
+unpadded_if text h = elim (cases_Bool (ltb 1 (length text) && eqb (get_or text 0 0) 48)) [
+  | inl padded ↦
+      let parts = and_parts (ltb 1 (length text)) (eqb (get_or text 0 0) 48) padded in
+      let more : 1 < length text = ltb-true 1 (length text) parts.0 in
+      let one : length text ≡ 1 = h.no_zero (eqb-true (get_or text 0 0) 48 parts.1) in
+      absurd (omega arith)
+  | inr unpadded ↦ unpadded
+]
+
+size_of-numeral : (text : List ℕ) → IsNumeral text → size_of text ≡ Some (digits_value 10 text)
+unfolding size_of digits_of
+size_of-numeral text h = rw (unpadded_if text h, le-leb 1 _ h.some, le-leb _ _ h.few, h.digits) refl
 
 pub size_is : (text : List ℕ) (n : ℕ) → size_of text ≡ Some n → (n ≤ 99999999999999) × (decimal n ≡ text)
-unfolding size_of
 size_is text n e =
-    let got = cond_some (is_numeral text) (digits_value 10 text) n e in
-    let h = numeral_is text got.0 in
+    let got = numeral_is text n e in
+    let h = got.0 in
     let small : digits_value 10 text < 10 ^ 14 = digits_value_short own text 14 h.digits h.few in
     let written : decimal (digits_value 10 text) ≡ text = decimal-digits_value own text h.digits h.some h.no_zero (omega arith) in
     (omega (arith, got.1), rw (← got.1) written)
@@ -105,15 +103,13 @@ decimal_numeral (suc n) h =
     }
 
 pub size_of-decimal : (n : ℕ) → n ≤ 99999999999999 → size_of (decimal n) ≡ Some n
-unfolding size_of
-size_of-decimal n h =
-    rw (is_numeral-from (decimal n) (decimal_numeral n h), digits_value-decimal own n (omega arith)) refl
+size_of-decimal n h = size_of-numeral (decimal n) (decimal_numeral n h) ∙ ap Some (digits_value-decimal own n (omega arith))
 
 -- digits begin with no other byte
 pub first_digit : (n : ℕ) → n ≤ 99999999999999 → (48 ≤ get_or (decimal n) 0 0) × (get_or (decimal n) 0 0 ≤ 57)
 first_digit n h =
     let below : n < 2 ^ 64 = omega arith in
-    digit_at (decimal n) 0 (digits_decimal own n below) (decimal_nonempty n below)
+    digit_is _ (AllPass-from_list_all is_ascii_digit (decimal n) (digits_decimal own n below) 0 0 (decimal_nonempty n below))
 
 pub digits_of_decimal : (n : ℕ) → n ≤ 99999999999999 → list_all is_ascii_digit (decimal n) ≡ true
 digits_of_decimal n h = digits_decimal own n (omega arith)

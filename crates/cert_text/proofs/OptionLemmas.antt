@@ -1,5 +1,5 @@
 -- What a step over an option came from.
-use Rattle.std.proofs.Common.{◌≡◌, Option, Some, None, refl}
+use Rattle.std.proofs.Common.{◌≡◌, Bool, true, false, if◌then◌else◌, Option, Some, None, refl}
 use Rattle.std.specs.Option.{option_map, option_or}
 use Rattle.std.proofs.lemmas.Option.{same_Some}
 
@@ -11,3 +11,8 @@ option_map_some f (Some x) y e k = k x refl (same_Some _ _ e)
 pub option_or_some : {A P : Type 0} (o p : Option A) (y : A) → option_or o p ≡ Some y → (o ≡ Some y → P) → (p ≡ Some y → P) → P
 option_or_some None p y e first second = second e
 option_or_some (Some x) p y e first second = first e
+
+-- what isn't none is the other branch
+pub cond_none : {A : Type 0} (b : Bool) (o : Option A) (y : A) → (if b then None else o) ≡ Some y → (b ≡ false) × (o ≡ Some y)
+cond_none true o y e = absurd cc
+cond_none false o y e = (refl, e)

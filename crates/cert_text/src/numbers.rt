@@ -1,45 +1,12 @@
 //! Whole numbers read.
 
-ghost use Rattle.std.specs.Prelude.{◌≡◌, ℕ, ◌<◌, ◌≤◌, ◌^◌, true, length, IfSome, unsigned_abs};
-ghost use Rattle.std.specs.List.{list_all};
-ghost use Rattle.std.specs.Char.{is_ascii_digit};
-ghost use Rattle.std.specs.Str.Parse.{digits_value};
-ghost use Rattle.cert_text.specs.Workings.LineReading.{is_numeral, size_of, negative, number_of};
+ghost use Rattle.std.specs.Prelude.{◌≡◌, ◌<◌, ◌^◌, IfSome};
+ghost use Rattle.cert_text.specs.Workings.LineReading.{size_of, negative, number_of};
 
 use crate::lines::after;
+use decimal_text::digits;
 
 const MOST_DIGITS: usize = 14;
-
-fn are_digits(text: &[u8]) -> bool
-    ensures { result ≡ list_all is_ascii_digit text.now }
-{
-    text.iter().all(|b| b.is_ascii_digit())
-}
-
-/// Whether the text is at most fourteen digits without leading zeros.
-fn is_numeral(text: &[u8]) -> bool
-    ensures { result ≡ is_numeral text.now }
-{
-    let count = text.len();
-    if count == 0 || count > MOST_DIGITS || !are_digits(text) {
-        return false;
-    }
-    text[0] != b'0' || count == 1
-}
-
-/// The value of at most fourteen digits.
-fn digits_value(text: &[u8]) -> u64
-    requires few { length text.now ≤ 14 }
-    requires digits { list_all is_ascii_digit text.now ≡ true }
-    ensures value { result ≡ digits_value 10 text.now }
-    ensures small { result < 10 ^ 14 }
-{
-    let mut value = 0;
-    for b in text {
-        value = value * 10 + u64::from(*b - b'0');
-    }
-    value
-}
 
 /// The number of at most fourteen digits without leading zeros.
 #[tactic(auto, unfolding(crate::specs::Workings::LineReading::size_of))]
@@ -47,11 +14,10 @@ pub fn size_of(text: &[u8]) -> Option<u64>
     ensures value { result ≡ size_of text.now }
     ensures small { IfSome result (λ n. n < 10 ^ 14) }
 {
-    if is_numeral(text) {
-        Some(digits_value(text))
-    } else {
-        None
+    if text.len() > 1 && text[0] == b'0' {
+        return None;
     }
+    digits(text, MOST_DIGITS)
 }
 
 fn negative(size: u64) -> Option<i64>

@@ -1,4 +1,5 @@
 pub mod Decimal
+pub mod Digits
 pub mod Expected
 pub mod Rounding
 pub mod Workings

@@ -1,7 +1,8 @@
 //! Facts about reading and writing, and rows that show what they mean.
 
-ghost use Rattle.std.specs.Prelude.{◌≡◌, Ok, Err, pos, negsuc, [], codes};
+ghost use Rattle.std.specs.Prelude.{◌≡◌, Some, None, Ok, Err, pos, negsuc, [], codes};
 ghost use Rattle.decimal_text.specs.Decimal.{read_of, ReadsItsFraction, TooFineIsNoFraction};
+ghost use Rattle.decimal_text.specs.Digits.{digits_of};
 ghost use Rattle.decimal_text.specs.Rounding.{rounded_of};
 ghost use Rattle.decimal_text.specs.Writing.{write_of};
 ghost use Rattle.decimal_text.specs.declared.fault.DecimalFault.TheVariants.{BadForm, TooLong, TooFine};
@@ -30,6 +31,16 @@ pub fn worked_readings()
     ensures two_signs { read_of (codes "+-5") 2 ≡ Err BadForm }
     ensures two_points { read_of (codes "1.2.3") 2 ≡ Err BadForm }
     ensures greatest { read_of (codes "999999999999999999.9") 9 ≡ Ok (pos 999999999999999999900000000) }
+{}
+
+/// Some texts, and the whole numbers that their digits write.
+#[tactic(auto, unfolding(crate::specs::Digits::digits_of))]
+pub fn worked_digits()
+    ensures zeros_first { digits_of 4 (codes "0019") ≡ Some 19 }
+    ensures none { digits_of 4 [] ≡ None }
+    ensures one_more { digits_of 4 (codes "00019") ≡ None }
+    ensures signed { digits_of 4 (codes "+19") ≡ None }
+    ensures greatest { digits_of 18 (codes "999999999999999999") ≡ Some 999999999999999999 }
 {}
 
 /// Some numbers, and what they are written as.

@@ -2,7 +2,8 @@
 //!
 //! Contracts see [`Text`], [`Bytes`], [`Numbers`] and [`Words`] as lists: a [`Text`] as the list of
 //! its UTF-8 bytes, the others as the list of their items. Only `copy` and [`Text::from_str`] take
-//! memory. [`read`] and [`write`] turn decimals into whole numbers and back.
+//! memory. [`read`] and [`write`] turn decimals into whole numbers and back, and [`digits`] reads whole
+//! numbers of digits alone.
 #![tactic(auto)]
 
 mod bytes;
@@ -15,18 +16,22 @@ mod rounding;
 mod sign;
 mod steps;
 mod text;
+mod whole;
 mod words;
 mod writing;
 
 pub use bytes::Bytes;
 pub use digit::push_digit;
 pub use fault::DecimalFault;
-pub use laws::{reads_its_fraction, worked_readings, worked_roundings, worked_writings};
+pub use laws::{
+    reads_its_fraction, worked_digits, worked_readings, worked_roundings, worked_writings,
+};
 pub use numbers::Numbers;
 pub use reading::read;
 pub use rounding::rounded;
 pub use sign::split_sign;
 pub use text::Text;
+pub use whole::{are_digits, digits, digits_value};
 pub use words::Words;
 pub use writing::write;
 

@@ -34,6 +34,20 @@ fn decimals_are_read(rt: HostRuntime) {
 }
 
 #[test]
+fn whole_numbers_are_read(rt: HostRuntime) {
+    assert_eq!(rt; digits(b"0019", 4), Some(19));
+    assert_eq!(rt; digits(b"00019", 4), None);
+    assert_eq!(rt; digits(b"", 4), None);
+    assert_eq!(rt; digits(b"1x", 4), None);
+    assert_eq!(rt;
+        digits(b"999999999999999999", 18),
+        Some(999_999_999_999_999_999)
+    );
+    assert_eq!(rt; are_digits(b"+1"), false);
+    assert_eq!(rt; digits_value(b"0123"), 123);
+}
+
+#[test]
 fn decimals_are_written(rt: HostRuntime) {
     let cases = [
         (-5i64, 2u32, "-0.05"),

@@ -4,7 +4,8 @@ use Rattle.std.specs.Prelude.{not, filter, position, unwrap_or}
 use Rattle.std.specs.List.{onto_first, slice_split, position_or_len}
 use Rattle.std.proofs.lemmas.Bool.{ltb-true, ltb-false, lt-ltb}
 use Rattle.std.proofs.lemmas.List.{drop-drop}
-use Rattle.harmonics_text.specs.Rules.{is_colon, digits_of, two_digits_of, minutes_of, clock_of}
+use Rattle.decimal_text.specs.Digits.{digits_of}
+use Rattle.harmonics_text.specs.Rules.{is_colon, two_digits_of, minutes_of, clock_of}
 use Rattle.std.proofs.lemmas.List.Sums.{prefix_len-le-length}
 use Rattle.harmonics_text.specs.Lines.{is_blank, is_visible, is_filled, tokens, trimmed, without_blank_end}
 

@@ -1,6 +1,5 @@
 pub mod Latin
 pub mod Cutting
-pub mod Digits
 pub mod Pieces
 pub mod Resume
 pub mod Steps

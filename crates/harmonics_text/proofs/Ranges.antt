@@ -13,13 +13,14 @@ use Rattle.harmonics_text.specs.declared.fault.Why.TheVariants.{BadName, BadNumb
 use Rattle.harmonics_text.specs.declared.scale.Scale.{Scale}
 use Rattle.harmonics_text.specs.declared.scale.Scale.TheVariants.{Speed, Angle, Height}
 use Rattle.harmonics_text.specs.Lines.{only, only_two, tokens}
+use Rattle.decimal_text.specs.Digits.{digits_of}
 use Rattle.decimal_text.specs.declared.fault.DecimalFault.{DecimalFault}
 use Rattle.decimal_text.specs.declared.fault.DecimalFault.TheVariants as decimals
 use Rattle.harmonics_text.specs.declared.local_time.LocalTime.{LocalTime}
 use Rattle.harmonics_text.specs.declared.book.Units.{Units}
 use Rattle.harmonics_text.specs.Books.{IsWithin, IsName, IsNameByte, IsConstituent}
 use Rattle.decimal_text.specs.Expected.{◌>>=◌}
-use Rattle.harmonics_text.specs.Rules.{or_fault, in_scale, number_of, least_of, most_of, from_to, count_of, first_year_of, whole_of, is_name_byte, name_of, new_name_of, is_absent, is_end, has_name, constituent_from, constituent_of, local_time_from, local_time_of, meridian_of, clock_of, minutes_of, zone_of, datum_of, pair_from, pair_of, units_of, if_true, is_name, is_colon, digits_of, two_digits_of}
+use Rattle.harmonics_text.specs.Rules.{or_fault, in_scale, number_of, least_of, most_of, from_to, count_of, first_year_of, whole_of, is_name_byte, name_of, new_name_of, is_absent, is_end, has_name, constituent_from, constituent_of, local_time_from, local_time_of, meridian_of, clock_of, minutes_of, zone_of, datum_of, pair_from, pair_of, units_of, if_true, is_name, is_colon, two_digits_of}
 
 -- the value of a step that did not fail
 pub bind_ok : {A B E : Type 0} (r : Result A E) (f : A → Result B E) (y : B) → (r >>= f) ≡ Ok y → (x : A) × (r ≡ Ok x) × (f x ≡ Ok y)

@@ -1,12 +1,12 @@
 -- The rules for each line of a harmonics file (XTide's text harmonics file; this project). A rule reads a line's text.
 use Rattle.std.specs.Prelude.{ℕ, zero, suc, codes, ℤ, pos, negsuc, neg_ℤ, int_lt, ◌+◌, ◌*◌, ◌==◌, nat_eq, nat_le, nat_lt, Bool, true, false, ◌&&◌, ◌||◌, if◌then◌else◌, List, [], ◌∷◌, ◌++◌, length, drop, Option, Some, None, Result, Ok, Err, encode_utf8_all, option_and_then}
 use Rattle.std.specs.List.{list_all, list_any, starts_with, before_first, after_first, position_or_len}
-use Rattle.std.specs.Char.{is_ascii_digit}
 use Rattle.std.specs.Str.{bytes_eq}
-use Rattle.std.specs.Str.Parse.{digits_value, starts_with_minus, without_leading_sign}
+use Rattle.std.specs.Str.Parse.{starts_with_minus, without_leading_sign}
 use Rattle.decimal_text.specs.declared.fault.DecimalFault.{DecimalFault}
 use Rattle.decimal_text.specs.declared.fault.DecimalFault.TheVariants as decimals
 use Rattle.decimal_text.specs.Decimal.{read_of}
+use Rattle.decimal_text.specs.Digits.{digits_of}
 use Rattle.decimal_text.specs.Expected.{◌>>=◌}
 use Rattle.harmonics_text.specs.declared.book.Constituent.{Constituent}
 use Rattle.harmonics_text.specs.declared.book.Units.{Units}
@@ -52,12 +52,6 @@ in_scale s (Err decimals.TooLong) = Err BadNumber
 
 unfoldable pub number_of : Scale → List ℕ → Result ℤ Why
 number_of s text = in_scale s (read_of text (places_of s))
-
--- the number of one digit or more, at most so many
-unfoldable pub digits_of : ℕ → List ℕ → Option ℕ
-digits_of most text =
-    if nat_le 1 (length text) && nat_le (length text) most && list_all is_ascii_digit text
-    then Some (digits_value 10 text) else None
 
 -- a line with a number of one to nine digits alone
 unfoldable pub whole_of : List ℕ → Option ℕ

@@ -8,8 +8,7 @@ ghost use Rattle.harmonics_text.specs.Workings.Drafts.{Gives};
 use crate::fault::{LineFault, Why};
 use crate::lines::next_token;
 use crate::names::utf8_of;
-use crate::numbers::digits;
-use decimal_text::{Text, split_sign};
+use decimal_text::{Text, digits, split_sign};
 use std::alloc::Global;
 
 /// Where a station's clock stands.
@@ -27,7 +26,7 @@ fn colon_at(text: &[u8]) -> Option<usize>
 }
 
 #[tactic(auto, unfolding(crate::specs::Rules::two_digits_of))]
-fn two_digits(text: &[u8]) -> Option<u32>
+fn two_digits(text: &[u8]) -> Option<u64>
     ensures { result ≡ two_digits_of text.now }
 {
     if text.len() == 2 {
@@ -38,7 +37,7 @@ fn two_digits(text: &[u8]) -> Option<u32>
 }
 
 #[tactic(auto, unfolding(crate::specs::Rules::minutes_of))]
-fn minutes(hour: Option<u32>, minute: Option<u32>) -> Option<u32>
+fn minutes(hour: Option<u64>, minute: Option<u64>) -> Option<u32>
     ensures exact { result ≡ minutes_of hour minute }
     ensures small { IfSome result (λ n. n ≤ 959) }
 {
@@ -47,7 +46,7 @@ fn minutes(hour: Option<u32>, minute: Option<u32>) -> Option<u32>
     if hour > 15 || minute > 59 {
         return None;
     }
-    Some(60 * hour + minute)
+    Some((60 * hour + minute) as u32)
 }
 
 /// The minutes of `H:MM` or `HH:MM`.

@@ -1,53 +1,20 @@
 //! Numbers of the file: counts and decimals.
 
-ghost use Rattle.std.specs.Prelude.{◌≡◌, ◌<◌, ◌≤◌, ◌^◌, length, Ok, true};
-ghost use Rattle.std.specs.List.{list_all};
-ghost use Rattle.std.specs.Char.{is_ascii_digit};
-ghost use Rattle.std.specs.Str.Parse.{digits_value};
-ghost use Rattle.harmonics_text.specs.Rules.{digits_of, whole_of, count_of, first_year_of, in_scale, number_of};
+ghost use Rattle.std.specs.Prelude.{◌≡◌, Ok};
+ghost use Rattle.harmonics_text.specs.Rules.{whole_of, count_of, first_year_of, in_scale, number_of};
 
 use crate::fault::Why;
 use crate::lines::only_token;
 use crate::scale::Scale;
-use decimal_text::{DecimalFault, read};
-
-fn are_digits(text: &[u8]) -> bool
-    ensures { result ≡ list_all is_ascii_digit text.now }
-{
-    text.iter().all(|b| b.is_ascii_digit())
-}
-
-/// The value of at most nine digits.
-fn digits_value(text: &[u8]) -> u32
-    requires few { length text.now ≤ 9 }
-    requires digits { list_all is_ascii_digit text.now ≡ true }
-    ensures { result ≡ digits_value 10 text.now }
-{
-    let mut value = 0;
-    for b in text {
-        value = value * 10 + u32::from(*b - b'0');
-    }
-    value
-}
-
-/// The number of one digit or more, at most so many.
-#[tactic(auto, unfolding(crate::specs::Rules::digits_of))]
-pub fn digits(text: &[u8], most: usize) -> Option<u32>
-    requires { most ≤ 9 }
-    ensures { result ≡ digits_of most text.now }
-{
-    if text.is_empty() || text.len() > most || !are_digits(text) {
-        return None;
-    }
-    Some(digits_value(text))
-}
+use decimal_text::{DecimalFault, digits, read};
 
 /// The number of one to nine digits that the line holds.
 #[tactic(auto, unfolding(crate::specs::Rules::whole_of))]
 fn whole_number(text: &[u8]) -> Option<u32>
     ensures { result ≡ whole_of text.now }
 {
-    digits(only_token(text)?, 9)
+    let number = digits(only_token(text)?, 9)?;
+    Some(number as u32)
 }
 
 /// The number of constituents or years that the line holds.

@@ -1,8 +1,6 @@
 -- The question of pairs, step by step.
-use Rattle.std.proofs.Common.{◌≡◌, Bool, true, false, Some, None, Ok, Err}
-use Rattle.decimal_text.specs.Expected.{Excused}
+use Rattle.std.proofs.Common.{◌≡◌, Some, None, Ok, Err}
 use Rattle.question.specs.declared.command.Command.{Command}
-use Rattle.question.specs.declared.fault.AskFault.{AskFault}
 use Rattle.question.specs.declared.fault.AskFault.TheVariants.{MissingKey}
 use Rattle.question.specs.declared.key.Key.{Key}
 use Rattle.question.specs.declared.pairs.Pairs.{Pairs}

@@ -8,7 +8,7 @@ ghost use Rattle.std.specs.Str.Parse.{digits_value};
 ghost use Rattle.question.specs.Forms.{some_text, number_of, seed_of, port_of, step_of, mark_of, layout_of};
 
 use crate::question::Layout;
-use decimal_text::{Text, read};
+use decimal_text::{Text, are_digits, read};
 use std::alloc::{AllocError, Global};
 
 /// The places of a mark's decimals.
@@ -26,12 +26,6 @@ pub fn some_text(alloc: Global, text: &str) -> Result<Option<Text>, AllocError>
         return Ok(None);
     }
     Ok(Some(Text::from_str(alloc, text)?))
-}
-
-fn are_digits(text: &[u8]) -> bool
-    ensures { result ≡ list_all is_ascii_digit text.now }
-{
-    text.iter().all(|byte| byte.is_ascii_digit())
 }
 
 /// The number that digits write, if it has 64 bits.

@@ -8,5 +8,4 @@ pub mod PieceLemmas
 pub mod QueryLemmas
 pub mod ReplyLemmas
 pub mod RowLemmas
-pub mod SizeLemmas
 pub mod StepLemmas

@@ -1,14 +1,13 @@
 -- What a line says, read from its bytes: the other direction of the lines' text (this project).
-use Rattle.std.specs.Prelude.{ℕ, zero, suc, ℤ, pos, negsuc, unsigned_abs, ◌==◌, nat_lt, nat_le, Bool, not, ◌&&◌, ◌||◌, if◌then◌else◌, List, length, take, drop, Option, Some, None, option_and_then, codes, slice_index}
+use Rattle.std.specs.Prelude.{ℕ, zero, suc, ℤ, pos, negsuc, unsigned_abs, ◌==◌, nat_lt, nat_le, Bool, not, ◌&&◌, if◌then◌else◌, List, length, take, drop, Option, Some, None, option_and_then, codes, slice_index}
 use Rattle.std.specs.List.{list_all}
 use Rattle.std.specs.Option.{option_map, option_or}
-use Rattle.std.specs.Char.{is_ascii_digit}
 use Rattle.std.specs.Str.{bytes_eq, is_utf8}
-use Rattle.std.specs.Str.Parse.{digits_value}
 use Rattle.curve_law.specs.declared.cell.Cell.{Cell}
 use Rattle.curve_law.specs.declared.cell.Cell.TheVariants as cells
 use Rattle.curve_law.specs.declared.kind.Kind.{Kind}
 use Rattle.curve_law.specs.declared.kind.Kind.TheVariants.{High, Low, FloodBegins, EbbBegins, MarkRising, MarkFalling}
+use Rattle.decimal_text.specs.Digits.{digits_of}
 use Rattle.zone_time.specs.Moments.{moment_of}
 use Rattle.cert_text.specs.declared.track_name.TrackName.{TrackName}
 use Rattle.cert_text.specs.declared.track_name.TrackName.TheVariants.{Turn, Slack, Mark}
@@ -19,13 +18,8 @@ unfoldable pub after : List ℕ → List ℕ → Option (List ℕ)
 after word line = if bytes_eq (take (length word) line) word then Some (drop (length word) line) else None
 
 -- one to fourteen digits, and no 0 before others
-abbrev pub is_numeral : List ℕ → Bool
-is_numeral text =
-    (nat_lt 0 (length text) && nat_le (length text) 14) && list_all is_ascii_digit text
-    && (not (slice_index text 0 == 48) || (length text == 1))
-
 unfoldable pub size_of : List ℕ → Option ℕ
-size_of text = if is_numeral text then Some (digits_value 10 text) else None
+size_of text = if nat_lt 1 (length text) && slice_index text 0 == 48 then None else digits_of 14 text
 
 abbrev pub negative : ℕ → Option ℤ
 negative zero = None

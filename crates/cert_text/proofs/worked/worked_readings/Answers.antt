@@ -13,6 +13,7 @@ use Rattle.cert_text.specs.Lines.{title_of, station_line_of, begin_line_of, end_
 use Rattle.cert_text.specs.Tracks.{track_word, kind_word}
 use Rattle.cert_text.specs.Worked.{pier, pier_lines}
 use Rattle.cert_text.proofs.ReadingLemmas.{certificate_of-text}
+use Rattle.decimal_text.specs.Digits.{digits_of}
 use Rattle.cert_text.specs.Workings.LineReading.{after, size_of, number_of, version_of, station_of, moment_after, mark_of, quiet_of, turn_of, cell_of}
 use Rattle.cert_text.specs.Workings.Drafts.{next, read_from}
 use Rattle.cert_text.specs.Readings.{certificate_of}
@@ -52,21 +53,21 @@ pub returns-clause-pier : goal.returns-clause-pier
 returns-clause-pier c = sym (ap certificate_of pier_text) ∙ certificate_of-text pier pier_is
 
 pub returns-clause-changed : goal.returns-clause-changed
-unfolding encode chars is_utf8 moment_of has_form kind_word after size_of number_of version_of station_of moment_after mark_of quiet_of turn_of cell_of next read_from certificate_of
+unfolding encode chars is_utf8 moment_of has_form kind_word after digits_of size_of number_of version_of station_of moment_after mark_of quiet_of turn_of cell_of next read_from certificate_of
 returns-clause-changed c = refl
 
 pub returns-clause-empty : goal.returns-clause-empty
-unfolding encode chars is_utf8 moment_of has_form kind_word after size_of number_of version_of station_of moment_after mark_of quiet_of turn_of cell_of next read_from certificate_of
+unfolding encode chars is_utf8 moment_of has_form kind_word after digits_of size_of number_of version_of station_of moment_after mark_of quiet_of turn_of cell_of next read_from certificate_of
 returns-clause-empty c = refl
 
 pub returns-clause-not_done : goal.returns-clause-not_done
-unfolding encode chars is_utf8 moment_of has_form kind_word after size_of number_of version_of station_of moment_after mark_of quiet_of turn_of cell_of next read_from certificate_of
+unfolding encode chars is_utf8 moment_of has_form kind_word after digits_of size_of number_of version_of station_of moment_after mark_of quiet_of turn_of cell_of next read_from certificate_of
 returns-clause-not_done c = refl
 
 pub returns-clause-no_lf : goal.returns-clause-no_lf
-unfolding encode chars is_utf8 moment_of has_form kind_word after size_of number_of version_of station_of moment_after mark_of quiet_of turn_of cell_of next read_from certificate_of
+unfolding encode chars is_utf8 moment_of has_form kind_word after digits_of size_of number_of version_of station_of moment_after mark_of quiet_of turn_of cell_of next read_from certificate_of
 returns-clause-no_lf c = refl
 
 pub returns-clause-more : goal.returns-clause-more
-unfolding encode chars is_utf8 moment_of has_form kind_word after size_of number_of version_of station_of moment_after mark_of quiet_of turn_of cell_of next read_from certificate_of
+unfolding encode chars is_utf8 moment_of has_form kind_word after digits_of size_of number_of version_of station_of moment_after mark_of quiet_of turn_of cell_of next read_from certificate_of
 returns-clause-more c = refl

@@ -1,4 +1,4 @@
-use Rattle.std.proofs.Common.{◌≡◌, ◌≤◌, length, length-append, ap, arith}
+use Rattle.std.proofs.Common.{length-append, ap, arith}
 use Rattle.harmonics_text.specs.Pieces.{Fed}
 use Rattle.harmonics_text.proofs.Readers.{reads_sound, reads_number, reads_more, reads_fault}
 use Rattle.harmonics_text.proofs.book_reader.BookReader.feed.Goals as goal

@@ -1,4 +1,3 @@
-use Rattle.std.proofs.Common.{ap}
 use Rattle.harmonics_text.proofs.Readers.{reads_pending}
 use Rattle.harmonics_text.proofs.book_reader.BookReader.pending.Goals as goal
 

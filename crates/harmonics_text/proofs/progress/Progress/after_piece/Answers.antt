@@ -1,4 +1,3 @@
-use Rattle.std.proofs.Common.{arith}
 use Rattle.harmonics_text.proofs.Keeping.{piece_rest, IsWhole, whole_is, piece_gives, piece_fails, end_fails}
 use Rattle.harmonics_text.proofs.progress.Progress.after_piece.Goals as goal
 
