@@ -2,8 +2,8 @@
 //!
 //! The events in the cells of a station's tracks come at once by [`track_events`] and [`merged`], or
 //! one at a time and without memory by a [`Merge`] of the searches. [`widened`] gives the span of the
-//! reference from which a subordinate station's events come, and [`shifted`] these events.
-//! `specs/Events.antt` says which they are. [`word`] names an event as tide tables do.
+//! reference from which a subordinate station's events come, [`shifted`] these events, and [`scaled`]
+//! its level. `specs/Events.antt` says which they are. [`word`] names an event as tide tables do.
 #![tactic(auto)]
 
 mod coming;
@@ -15,6 +15,7 @@ mod merging;
 mod moving;
 mod naming;
 mod rank;
+mod scaling;
 mod shifting;
 mod span;
 mod turning;
@@ -30,6 +31,7 @@ pub use laws::{
 pub use merge::Merge;
 pub use merging::merged;
 pub use naming::word;
+pub use scaling::scaled;
 pub use shifting::shifted;
 pub use span::Span;
 pub use turning::track_events;

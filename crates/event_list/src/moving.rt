@@ -1,12 +1,11 @@
 //! An event of the reference, moved and scaled.
 
-ghost use Rattle.std.specs.Prelude.{◌≡◌, ◌+◌, ◌*◌, ◌^◌, ◌≤◌, ◌+ℤ◌, ◌*ℤ◌, unsigned_abs};
+ghost use Rattle.std.specs.Prelude.{◌≡◌, ◌^◌, ◌≤◌, ◌+ℤ◌, unsigned_abs};
 ghost use Rattle.station_table.specs.Offsets.{IsOffset, IsAdd};
-ghost use Rattle.decimal_text.specs.Rounding.{rounded_of};
-ghost use Rattle.event_list.specs.Shifts.{HasOffsets, IsMovable, later_by, offset_of, scaled, moved};
+ghost use Rattle.event_list.specs.Shifts.{HasOffsets, IsMovable, later_by, offset_of, moved};
 
+use crate::scaling::scaled;
 use curve_law::{Event, Kind};
-use decimal_text::rounded;
 use station_table::{Basis, Offset};
 
 /// The station's event of which an event of the reference tells: later by the add of its kind's
@@ -20,7 +19,7 @@ pub fn moved(basis: &Basis, event: &Event) -> Event
     Event {
         minute: later(event.minute, offset.add),
         kind: event.kind,
-        level: scaled(offset, event.level),
+        level: scaled(&offset, event.level),
     }
 }
 
@@ -55,32 +54,4 @@ fn later(minute: i64, add: i32) -> i64
     ensures { result ≡ minute +ℤ add }
 {
     minute + i64::from(add)
-}
-
-fn scaled(offset: Offset, level: i64) -> i64
-    requires range { IsOffset offset }
-    requires level { unsigned_abs level ≤ 11000000000 }
-    ensures { result ≡ scaled offset level }
-{
-    raised(
-        rounded(product(level, offset.times), 1_000_000),
-        offset.plus,
-    )
-}
-
-fn product(level: i64, times: i64) -> i128
-    requires level { unsigned_abs level ≤ 11000000000 }
-    requires times { unsigned_abs times ≤ 100000000 }
-    ensures exact { result ≡ level *ℤ times }
-    ensures size { unsigned_abs result ≤ 11000000000 * 100000000 }
-{
-    i128::from(level) * i128::from(times)
-}
-
-fn raised(level: i128, plus: i64) -> i64
-    requires level { unsigned_abs level ≤ 2000000000000 }
-    requires plus { unsigned_abs plus ≤ 10000000000 }
-    ensures { result ≡ level +ℤ plus }
-{
-    level as i64 + plus
 }

@@ -1,19 +1,18 @@
 //! The level of a station at a minute.
 
-ghost use Rattle.std.specs.Prelude.{◌≡◌, ◌*◌, ◌≤◌, ◌+ℤ◌, ◌*ℤ◌, pos, negsuc, [], unsigned_abs, IsTrue, Ok, Err, IfErr, OnOk};
+ghost use Rattle.std.specs.Prelude.{◌≡◌, pos, negsuc, [], IsTrue, Ok, Err, IfErr, OnOk};
 ghost use Rattle.decimal_text.specs.Expected.{Gives};
 ghost use Rattle.event_list.specs.Shifts.{scaled};
 ghost use Rattle.event_list.specs.Worked.{dock};
 ghost use Rattle.station_table.specs.Bases.{is_equal};
-ghost use Rattle.station_table.specs.Offsets.{IsOffset};
 ghost use Rattle.tide_answer.specs.Answers.{level_in};
 ghost use Rattle.tide_answer.specs.Faults.{wants_memory_of_refusal, IsToldRefusal};
 ghost use Rattle.tide_answer.specs.Workings.Levels.{HasLevel, source_of, tide_level, is_tide_rising};
 
 use crate::refusal::Refusal;
 use crate::station::{Found, earlier};
-use decimal_text::rounded;
-use station_table::{Basis, Offset};
+use event_list::scaled;
+use station_table::Basis;
 
 /// A station whose highs and lows have different offsets has no level between them.
 #[tactic(auto, unfolding(crate::specs::Answers::level_in))]
@@ -53,33 +52,6 @@ fn source(found: &Found, minute: i64) -> i64
     ensures { result ≡ source_of found.now minute }
 {
     earlier(minute, found.basis.high.add)
-}
-
-// A level times the factor, rounded to millionths, and then the plus.
-fn scaled(offset: &Offset, level: i64) -> i64
-    requires range { IsOffset offset.now }
-    requires level { unsigned_abs level ≤ 11000000000 }
-    ensures { result ≡ scaled offset.now level }
-{
-    let level = rounded(product(level, offset.times), 1_000_000);
-    raised(level, offset.plus)
-}
-
-fn product(level: i64, times: i64) -> i128
-    requires level { unsigned_abs level ≤ 11000000000 }
-    requires times { unsigned_abs times ≤ 100000000 }
-    ensures exact { result ≡ level *ℤ times }
-    ensures size { unsigned_abs result ≤ 11000000000 * 100000000 }
-{
-    i128::from(level) * i128::from(times)
-}
-
-fn raised(level: i128, plus: i64) -> i64
-    requires level { unsigned_abs level ≤ 2000000000000 }
-    requires plus { unsigned_abs plus ≤ 10000000000 }
-    ensures { result ≡ level +ℤ plus }
-{
-    level as i64 + plus
 }
 
 /// Levels of stations twice as high, and of half the height.
