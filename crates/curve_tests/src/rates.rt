@@ -44,8 +44,8 @@ fn slopes_and_their_rates(rt: HostRuntime) -> Result<(), Fail> {
     let book = pier(rt.alloc(), "0")?;
     assert_eq!(rt; book.stations.as_slice().len(), 1);
     let station = StationCurve::new(rt.alloc(), &book, 0)?;
-    let mut over = TurnCurve::over(&station);
-    let mut blended = TurnCurve::blended(&station);
+    let mut plain_parts = TurnCurve::new(&station, Version::First);
+    let mut all_parts = TurnCurve::new(&station, Version::Second);
     let plain = Some(10_857_785_564_160_000_000_000_000_000_000);
     let across = Some(202_958_823_641_415_808_556_800_000_000_000);
     let steep = 622_080_000_000_000_000_000_000_000_000_000;
@@ -58,19 +58,22 @@ fn slopes_and_their_rates(rt: HostRuntime) -> Result<(), Fail> {
     ];
     for (a, n, first, second, (begin, end, level)) in rows {
         assert_eq!(rt;
-            told(&mut over, a, n),
+            told(&mut plain_parts, a, n),
             Some((first, begin, end, level)),
             "from {a}"
         );
         assert_eq!(rt;
-            told(&mut blended, a, n),
+            told(&mut all_parts, a, n),
             Some((second, begin, end, level)),
             "from {a}"
         );
     }
-    assert_eq!(rt; told(&mut over, 16_830_719, 2), None);
-    assert_eq!(rt; over.evaluations(), 4);
-    assert_eq!(rt; (over.rising(), over.falling()), (Kind::Low, Kind::High));
+    assert_eq!(rt; told(&mut plain_parts, 16_830_719, 2), None);
+    assert_eq!(rt; plain_parts.evaluations(), 4);
+    assert_eq!(rt;
+        (plain_parts.rising(), plain_parts.falling()),
+        (Kind::Low, Kind::High)
+    );
     Ok(())
 }
 
@@ -79,8 +82,15 @@ fn levels_and_their_rates(rt: HostRuntime) -> Result<(), Fail> {
     let book = pier(rt.alloc(), "0")?;
     assert_eq!(rt; book.stations.as_slice().len(), 1);
     let station = StationCurve::new(rt.alloc(), &book, 0)?;
-    let mut slack = MarkCurve::over(&station, 1_000_000, 0, 0, true);
-    let mut mark = MarkCurve::blended(&station, 2_000_000, 500_000, 1_500_000, false);
+    let mut slack = MarkCurve::new(&station, Version::First, 1_000_000, 0, 0, true);
+    let mut mark = MarkCurve::new(
+        &station,
+        Version::Second,
+        2_000_000,
+        500_000,
+        1_500_000,
+        false,
+    );
     let high = 4_147_200_000_000_000_000_000_000_000_000;
     let plain = 36_192_618_547_200_000_000_000;
     let across = 165_792_618_547_200_000_000_000;

@@ -2,7 +2,8 @@
 //!
 //! A [`TurnCurve`] is a station's slope, whose sides tell high and low waters, and a [`MarkCurve`] its
 //! level against a mark or a slack. Each is a [`Curve`](curve_law::Curve) over the station's minutes:
-//! it tells a rate for a cell in the plain part of a year, and, where it is blended, across a new year.
+//! it tells a rate for a cell in the plain part of a year, and in the second [`Version`] across a new
+//! year too.
 #![tactic(auto)]
 
 mod laws;

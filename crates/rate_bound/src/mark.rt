@@ -29,15 +29,14 @@ pub struct MarkCurve<'a> {
 }
 
 impl<'a> MarkCurve<'a> {
-    ghost use Rattle.rate_bound.specs.declared.version.Version.TheVariants.{First, Second};
     ghost use Rattle.rate_bound.specs.Meanings.{mark_meaning};
 
-    /// The level against a mark, or a current's against 0 where it is a slack, with the rates of
-    /// version 1: those of cells in the plain part of one year. `times` is from 1 to 100,000,000,
-    /// `plus` and `mark` are from -10,000,000,000 to 10,000,000,000, and the mark of a slack is 0. It
-    /// was asked for no value yet.
-    pub fn over(
+    /// The level against a mark, or a current's against 0 where it is a slack, with the rates of the
+    /// version. `times` is from 1 to 100,000,000, `plus` and `mark` are from -10,000,000,000 to
+    /// 10,000,000,000, and the mark of a slack is 0. It was asked for no value yet.
+    pub fn new(
         station: &'a StationCurve,
+        version: Version,
         times: i64,
         plus: i64,
         mark: i64,
@@ -46,39 +45,13 @@ impl<'a> MarkCurve<'a> {
         requires scale { IsScale times plus mark }
         requires slack { OnTrue slack (mark ≡ pos 0) }
         ensures meaning { ⟦<MarkCurve<'a> as Curve>⟧.meaning result
-            ≡ mark_meaning First station.now times plus mark slack }
+            ≡ mark_meaning version station.now times plus mark slack }
         ensures count { ⟦<MarkCurve<'a> as Curve>⟧.count result ≡ 0 }
     {
         station.known();
         MarkCurve {
             station,
-            version: Version::First,
-            times,
-            plus,
-            mark,
-            slack,
-            evaluations: 0,
-        }
-    }
-
-    /// The same with the rates of version 2: those of cells across a new year too.
-    pub fn blended(
-        station: &'a StationCurve,
-        times: i64,
-        plus: i64,
-        mark: i64,
-        slack: bool,
-    ) -> MarkCurve<'a>
-        requires scale { IsScale times plus mark }
-        requires slack { OnTrue slack (mark ≡ pos 0) }
-        ensures meaning { ⟦<MarkCurve<'a> as Curve>⟧.meaning result
-            ≡ mark_meaning Second station.now times plus mark slack }
-        ensures count { ⟦<MarkCurve<'a> as Curve>⟧.count result ≡ 0 }
-    {
-        station.known();
-        MarkCurve {
-            station,
-            version: Version::Second,
+            version,
             times,
             plus,
             mark,

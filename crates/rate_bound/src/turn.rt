@@ -21,32 +21,17 @@ pub struct TurnCurve<'a> {
 }
 
 impl<'a> TurnCurve<'a> {
-    ghost use Rattle.rate_bound.specs.declared.version.Version.TheVariants.{First, Second};
     ghost use Rattle.rate_bound.specs.Meanings.{turn_meaning};
 
-    /// The slope with the rates of version 1: those of cells in the plain part of one year. It was
-    /// asked for no value yet.
-    pub fn over(station: &'a StationCurve) -> TurnCurve<'a>
-        ensures meaning { ⟦<TurnCurve<'a> as Curve>⟧.meaning result ≡ turn_meaning First station.now }
+    /// The slope with the rates of the version. It was asked for no value yet.
+    pub fn new(station: &'a StationCurve, version: Version) -> TurnCurve<'a>
+        ensures meaning { ⟦<TurnCurve<'a> as Curve>⟧.meaning result ≡ turn_meaning version station.now }
         ensures count { ⟦<TurnCurve<'a> as Curve>⟧.count result ≡ 0 }
     {
         station.known();
         TurnCurve {
             station,
-            version: Version::First,
-            evaluations: 0,
-        }
-    }
-
-    /// The slope with the rates of version 2: those of cells across a new year too.
-    pub fn blended(station: &'a StationCurve) -> TurnCurve<'a>
-        ensures meaning { ⟦<TurnCurve<'a> as Curve>⟧.meaning result ≡ turn_meaning Second station.now }
-        ensures count { ⟦<TurnCurve<'a> as Curve>⟧.count result ≡ 0 }
-    {
-        station.known();
-        TurnCurve {
-            station,
-            version: Version::Second,
+            version,
             evaluations: 0,
         }
     }

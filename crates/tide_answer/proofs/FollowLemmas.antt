@@ -137,13 +137,14 @@ pub slack_scale : (slack : Option Slack) (basis : Basis) → basis.slack ≡ sla
 slack_scale (Some slack) basis is has = rw is usual_scale
 slack_scale None basis is has = rw is (mark_scale basis (pos 0) has (omega arith))
 
-known_if_asked : (s : Span) (asks : Bool) (c : Meaning) → IsKnown s c → ForSome (if_asked asks c) (IsKnown s)
-known_if_asked s true c known = for_some (IsKnown s) c known
-known_if_asked s false c known = for_none (IsKnown s)
+-- what is asked for, or marked, has what each has
+pub for_asked : (P : Meaning → Type 0) (asks : Bool) (c : Meaning) → P c → ForSome (if_asked asks c) P
+for_asked P true c has = for_some P c has
+for_asked P false c has = for_none P
 
-known_if_marked : (s : Span) (mark : Option ℤ) (f : ℤ → Meaning) → ForSome mark (λ level. IsKnown s (f level)) → ForSome (option_map f mark) (IsKnown s)
-known_if_marked s (Some level) f known = for_some (IsKnown s) (f level) (known level refl)
-known_if_marked s None f known = for_none (IsKnown s)
+pub for_marked : (P : Meaning → Type 0) (mark : Option ℤ) (f : ℤ → Meaning) → ForSome mark (λ level. P (f level)) → ForSome (option_map f mark) P
+for_marked P (Some level) f has = for_some P (f level) (has level refl)
+for_marked P None f has = for_none P
 
 marks_known : (s : Span) (version : Version) (tide : Tide) (basis : Basis) (mark : Option ℤ) → HasOffsets basis → IsGentle tide → ForSome mark (λ level. unsigned_abs level ≤ 10000000000) → ((c : Meaning) → IsLawful c → c.first ≡ (turn_meaning version tide).first → c.last ≡ (turn_meaning version tide).last → IsKnown s c) → ForSome mark (λ level. IsKnown s (mark_meaning version tide basis.high.times basis.high.plus level false))
 marks_known s version tide basis mark has gentle small known level is =
@@ -160,26 +161,18 @@ followed_known version found mark s gentle has small minutes =
     let known = in_known version found.curve s minutes in
     record {
       turn = known (turn_meaning version found.curve) (turn_lawful version found.curve gentle) refl refl;
-      slack = known_if_asked s (asks_slack found.units found.basis) _
+      slack = for_asked (IsKnown s) (asks_slack found.units found.basis) _
           (known _ (mark_lawful version found.curve (slack_times found.basis) (slack_plus found.basis) (pos 0) true gentle (slack_scale found.basis.slack found.basis refl has)) refl refl);
-      mark = known_if_marked s mark _ (marks_known s version found.curve found.basis mark has gentle small known);
+      mark = for_marked (IsKnown s) mark _ (marks_known s version found.curve found.basis mark has gentle small known);
     }
 
 -- ---- the events have words
 
-slack_named_if : (asks : Bool) (c : Meaning) → IsNamed Knots c → ForSome (if_asked asks c) (IsNamed Knots)
-slack_named_if true c named = for_some (IsNamed Knots) c named
-slack_named_if false c named = for_none (IsNamed Knots)
-
 slack_named : (units : Units) (basis : Basis) (c : Meaning) → IsNamed Knots c → ForSome (if_asked (asks_slack units basis) c) (IsNamed units)
 slack_named Feet basis c named = for_none (IsNamed Feet)
 slack_named Meters basis c named = for_none (IsNamed Meters)
-slack_named Knots basis c named = slack_named_if (asks_slack Knots basis) c named
+slack_named Knots basis c named = for_asked (IsNamed Knots) (asks_slack Knots basis) c named
 slack_named KnotsSquared basis c named = for_none (IsNamed KnotsSquared)
-
-mark_named : (units : Units) (mark : Option ℤ) (f : ℤ → Meaning) → ((level : ℤ) → IsNamed units (f level)) → ForSome (option_map f mark) (IsNamed units)
-mark_named units (Some level) f named = for_some (IsNamed units) (f level) (named level)
-mark_named units None f named = for_none (IsNamed units)
 
 -- turns and marks of each unit of levels
 plain_word : (units : Units) → HasLevels units → (has_word units High ≡ true) × (has_word units Low ≡ true) × (has_word units MarkRising ≡ true) × (has_word units MarkFalling ≡ true)
@@ -195,7 +188,7 @@ followed_named version found mark levels =
     record {
       turn = record { rising = words.1; falling = words.0 };
       slack = slack_named found.units found.basis _ (record { rising = refl; falling = refl });
-      mark = mark_named found.units mark _ (λ level. record { rising = words.2; falling = words.3 });
+      mark = for_marked (IsNamed found.units) mark _ (λ level is. record { rising = words.2; falling = words.3 });
     }
 
 -- ---- the events over the minutes that are looked at
@@ -212,20 +205,12 @@ small_notes : (tide : Tide) (c : Meaning) → IsGentle tide → c.first ≡ (tur
 small_notes tide c gentle first last note m minute =
     rw note (millionths_small tide m gentle (record { least = rw first at minute.first; most = rw last at minute.last }))
 
-small_if_asked : (asks : Bool) (c : Meaning) → HasSmallNotes c → ForSome (if_asked asks c) HasSmallNotes
-small_if_asked true c small = for_some HasSmallNotes c small
-small_if_asked false c small = for_none HasSmallNotes
-
-small_if_marked : (mark : Option ℤ) (f : ℤ → Meaning) → ((level : ℤ) → HasSmallNotes (f level)) → ForSome (option_map f mark) HasSmallNotes
-small_if_marked (Some level) f small = for_some HasSmallNotes (f level) (small level)
-small_if_marked None f small = for_none HasSmallNotes
-
 pub followed_small : (version : Version) (found : Found) (mark : Option ℤ) → IsGentle found.curve → AreSmall (followed_tide version found mark)
 unfolding followed_tide
 followed_small version found mark gentle = record {
   turn = small_notes found.curve _ gentle refl refl refl;
-  slack = small_if_asked _ _ (small_notes found.curve _ gentle refl refl refl);
-  mark = small_if_marked mark _ (λ level. small_notes found.curve _ gentle refl refl refl);
+  slack = for_asked HasSmallNotes _ _ (small_notes found.curve _ gentle refl refl refl);
+  mark = for_marked HasSmallNotes mark _ (λ level is. small_notes found.curve _ gentle refl refl refl);
 }
 
 -- the events of accepted tracks can be moved

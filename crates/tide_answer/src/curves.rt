@@ -1,28 +1,24 @@
 //! The curves of a station, with the rates of a version.
 
-ghost use Rattle.std.specs.Prelude.{◌≡◌, ◌≤◌, pos, unsigned_abs, option_map};
-ghost use Rattle.std.specs.Bool.{OnTrue};
+ghost use Rattle.std.specs.Prelude.{◌≡◌, ◌≤◌, unsigned_abs, option_map};
 ghost use Rattle.std.specs.Option.{ForSome};
 ghost use Rattle.event_list.specs.Shifts.{HasOffsets};
-ghost use Rattle.rate_bound.specs.Meanings.{turn_meaning, mark_meaning};
-ghost use Rattle.rate_bound.specs.Scale.{IsScale};
+ghost use Rattle.rate_bound.specs.Meanings.{turn_meaning};
+ghost use Rattle.tide_answer.specs.Following.{asks_slack, slack_times, slack_plus};
 ghost use Rattle.tide_answer.specs.Workings.Telling.{tide_slack, tide_mark};
 
-use crate::following::{asks_slack, slack_plus, slack_times};
 use crate::station::Found;
 use curve_law::Curve;
+use harmonics_text::Units;
 use rate_bound::{MarkCurve, TurnCurve, Version};
-use station_curve::StationCurve;
+use station_table::Basis;
 
 /// High and low waters, or the greatest and least streams.
 pub fn turn_curve<'a>(found: &'a Found, version: Version) -> TurnCurve<'a>
     ensures meaning { ⟦<TurnCurve<'a> as Curve>⟧.meaning result ≡ turn_meaning version found.now.curve }
     ensures fresh { ⟦<TurnCurve<'a> as Curve>⟧.count result ≡ 0 }
 {
-    match version {
-        Version::First => TurnCurve::over(&found.curve),
-        Version::Second => TurnCurve::blended(&found.curve),
-    }
+    TurnCurve::new(&found.curve, version)
 }
 
 /// Where a current turns, if that is asked.
@@ -37,7 +33,7 @@ pub fn slack_curve<'a>(found: &'a Found, version: Version) -> Option<MarkCurve<'
     }
     let times = slack_times(basis);
     let plus = slack_plus(basis);
-    Some(level_curve(&found.curve, version, times, plus, 0, true))
+    Some(MarkCurve::new(&found.curve, version, times, plus, 0, true))
 }
 
 /// Where the level passes the mark, if there is one.
@@ -54,27 +50,40 @@ pub fn mark_curve<'a>(
     match mark {
         Some(level) => {
             let high = &found.basis.high;
-            Some(level_curve(&found.curve, version, high.times, high.plus, level, false))
+            Some(MarkCurve::new(&found.curve, version, high.times, high.plus, level, false))
         }
         None => None,
     }
 }
 
-fn level_curve<'a>(
-    station: &'a StationCurve,
-    version: Version,
-    times: i64,
-    plus: i64,
-    mark: i64,
-    slack: bool,
-) -> MarkCurve<'a>
-    requires scale { IsScale times plus mark }
-    requires slack { OnTrue slack (mark ≡ pos 0) }
-    ensures meaning { ⟦<MarkCurve<'a> as Curve>⟧.meaning result ≡ mark_meaning version station.now times plus mark slack }
-    ensures fresh { ⟦<MarkCurve<'a> as Curve>⟧.count result ≡ 0 }
+// Whether slack water is asked of a station.
+fn asks_slack(units: Units, basis: &Basis) -> bool
+    ensures { result ≡ asks_slack units basis.now }
 {
-    match version {
-        Version::First => MarkCurve::over(station, times, plus, mark, slack),
-        Version::Second => MarkCurve::blended(station, times, plus, mark, slack),
+    match units {
+        Units::Knots => basis.slack.is_some() || basis.equal(),
+        _ => false,
+    }
+}
+
+// What a slack's level is of the reference's, in millionths.
+fn slack_times(basis: &Basis) -> i64
+    ensures { result ≡ slack_times basis.now }
+{
+    if basis.slack.is_some() {
+        1_000_000
+    } else {
+        basis.high.times
+    }
+}
+
+// What is added to it.
+fn slack_plus(basis: &Basis) -> i64
+    ensures { result ≡ slack_plus basis.now }
+{
+    if basis.slack.is_some() {
+        0
+    } else {
+        basis.high.plus
     }
 }

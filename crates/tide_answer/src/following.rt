@@ -1,33 +1,32 @@
 //! The events of a station over a span, and the cells in which they are found.
 
-ghost use Rattle.std.specs.Prelude.{◌≡◌, ◌≤◌, ◌^◌, ℤ, pos, ◌≤ℤ◌, unsigned_abs, option_map, None, IfErr, IfOk, OnOk};
+ghost use Rattle.std.specs.Prelude.{◌≡◌, ◌≤◌, unsigned_abs, option_map, IfErr, IfOk, OnOk};
 ghost use Rattle.std.specs.Option.{ForSome};
-ghost use Rattle.std.specs.Bool.{OnTrue};
-ghost use Rattle.curve_law.specs.Cover.{cover};
-ghost use Rattle.event_list.specs.Events.{cover_over, covers_of, merged_of, minutes_in};
+ghost use Rattle.event_list.specs.Events.{cover_over};
 ghost use Rattle.event_list.specs.Merging.{cells_left};
-ghost use Rattle.event_list.specs.Shifts.{HasOffsets, widened_of};
+ghost use Rattle.event_list.specs.Shifts.{HasOffsets};
 ghost use Rattle.rate_bound.specs.declared.version.Version.{Version};
-ghost use Rattle.rate_bound.specs.Meanings.{turn_meaning, mark_meaning};
+ghost use Rattle.rate_bound.specs.Meanings.{turn_meaning};
 ghost use Rattle.harmonics_text.specs.Books.{IsBook};
 ghost use Rattle.station_table.specs.Offsets.{IsTable};
 ghost use Rattle.tide_answer.specs.Faults.{IsToldRefusal};
 ghost use Rattle.tide_answer.specs.Sites.{site_in};
 ghost use Rattle.tide_answer.specs.Workings.Spans.{IsNear};
-ghost use Rattle.tide_answer.specs.Following.{asks_slack, slack_times, slack_plus};
-ghost use Rattle.tide_answer.specs.Workings.Curves.{followed_tide, tide_cells, tide_events, AreMerged, HasMinutes, IsReady, IsTideList, Lists};
+ghost use Rattle.tide_answer.specs.Workings.Curves.{tide_cells, tide_events, AreMerged, HasMinutes, IsReady, IsTideList, Lists};
+ghost use Rattle.tide_answer.specs.Workings.Telling.{Tells, tide_mark, tide_slack};
 
 use crate::asked::Asked;
+use crate::curves::{mark_curve, slack_curve, turn_curve};
 use crate::reach::Reach;
 use crate::refusal::Refusal;
 use crate::station::{Found, find_station, reached};
-use curve_law::Events;
+use curve_law::{Curve, Events};
 use decimal_text::Text;
 use event_list::{Merge, Span, shifted};
 use harmonics_text::{Book, Units};
 use interval_search::Search;
-use rate_bound::{MarkCurve, TurnCurve};
-use station_table::{Basis, OffsetTable};
+use rate_bound::{MarkCurve, TurnCurve, Version};
+use station_table::OffsetTable;
 use std::alloc::{AllocError, Global};
 
 /// The events of a station over a span, in its reference's unit, and how many cells its curves were cut
@@ -123,39 +122,26 @@ pub fn merge_of<'a>(found: &'a Found, asked: &Asked) -> Merge<TurnCurve<'a>, Mar
     )
 }
 
+/// Where the reference's level turns.
 pub fn turn_search<'a>(found: &'a Found, span: &Span) -> Search<TurnCurve<'a>>
     requires { HasMinutes found.now.curve span.now }
     ensures at { result.at ≡ span.now.begin }
     ensures left { result.left ≡ cover_over span.now (turn_meaning Version.Second found.now.curve) }
 {
-    Search::new(TurnCurve::blended(&found.curve), span.begin, span.end)
+    Search::new(turn_curve(found, Version::Second), span.begin, span.end)
 }
 
-// Where a current turns, if that is asked.
-#[tactic(auto, unfolding(crate::specs::Workings::Curves::followed_tide))]
+/// Where a current turns, if that is asked.
 pub fn slack_search<'a>(found: &'a Found, span: &Span) -> Option<Search<MarkCurve<'a>>>
     requires minutes { HasMinutes found.now.curve span.now }
     requires offsets { HasOffsets found.now.basis }
     ensures at { ForSome result (λ search. search.at ≡ span.now.begin) }
-    ensures left { cells_left result ≡ option_map (cover_over span.now) (followed_tide Version.Second found.now None).slack }
+    ensures left { cells_left result ≡ option_map (cover_over span.now) (tide_slack Version.Second found.now) }
 {
-    let basis = &found.basis;
-    if asks_slack(found.units, basis) {
-        let curve = MarkCurve::blended(
-            &found.curve,
-            slack_times(basis),
-            slack_plus(basis),
-            0,
-            true,
-        );
-        Some(Search::new(curve, span.begin, span.end))
-    } else {
-        None
-    }
+    search_if(slack_curve(found, Version::Second), span)
 }
 
-// Where the level passes the mark, if there is one.
-#[tactic(auto, unfolding(crate::specs::Workings::Curves::followed_tide))]
+/// Where the level passes the mark, if there is one.
 pub fn mark_search<'a>(
     found: &'a Found,
     mark: Option<i64>,
@@ -165,46 +151,19 @@ pub fn mark_search<'a>(
     requires offsets { HasOffsets found.now.basis }
     requires mark { ForSome mark (λ level. unsigned_abs level ≤ 10000000000) }
     ensures at { ForSome result (λ search. search.at ≡ span.now.begin) }
-    ensures left { cells_left result ≡ option_map (cover_over span.now) (followed_tide Version.Second found.now mark).mark }
+    ensures left { cells_left result ≡ option_map (cover_over span.now) (tide_mark Version.Second found.now mark) }
 {
-    match mark {
-        Some(level) => {
-            let high = found.basis.high;
-            let curve = MarkCurve::blended(&found.curve, high.times, high.plus, level, false);
-            Some(Search::new(curve, span.begin, span.end))
-        }
+    search_if(mark_curve(found, Version::Second, mark), span)
+}
+
+// The search of a curve, if there is one.
+fn search_if<C: Curve>(curve: Option<C>, span: &Span) -> Option<Search<C>>
+    requires { ForSome curve (λ c. Tells span.now (C.meaning c) (C.count c)) }
+    ensures at { ForSome result (λ search. search.at ≡ span.now.begin) }
+    ensures left { cells_left result ≡ option_map (λ c. cover_over span.now (C.meaning c)) curve }
+{
+    match curve {
+        Some(curve) => Some(Search::new(curve, span.begin, span.end)),
         None => None,
-    }
-}
-
-/// Whether slack water is asked of a station.
-pub fn asks_slack(units: Units, basis: &Basis) -> bool
-    ensures { result ≡ asks_slack units basis.now }
-{
-    match units {
-        Units::Knots => basis.slack.is_some() || basis.equal(),
-        _ => false,
-    }
-}
-
-/// What a slack's level is of the reference's, in millionths.
-pub fn slack_times(basis: &Basis) -> i64
-    ensures { result ≡ slack_times basis.now }
-{
-    if basis.slack.is_some() {
-        1_000_000
-    } else {
-        basis.high.times
-    }
-}
-
-/// What is added to it.
-pub fn slack_plus(basis: &Basis) -> i64
-    ensures { result ≡ slack_plus basis.now }
-{
-    if basis.slack.is_some() {
-        0
-    } else {
-        basis.high.plus
     }
 }

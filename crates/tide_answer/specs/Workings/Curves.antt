@@ -1,5 +1,5 @@
 -- The curves that are followed at a site, by the tide that predicts it.
-use Rattle.std.specs.Prelude.{◌≡◌, All, Result, Ok, Err, ℕ, ℤ, pos, ◌-ℤ◌, ◌≤ℤ◌, ◌≤◌, unsigned_abs, length, true, false, List, Option, option_map}
+use Rattle.std.specs.Prelude.{◌≡◌, All, Result, Ok, Err, ℕ, ℤ, ◌-ℤ◌, ◌≤ℤ◌, ◌≤◌, unsigned_abs, length, List, Option}
 use Rattle.std.specs.Option.{ForSome}
 use Rattle.curve_law.specs.declared.event.Event.{Event}
 use Rattle.decimal_text.specs.Expected.{Excused}
@@ -10,7 +10,7 @@ use Rattle.harmonics_text.specs.declared.book.Book.{Book}
 use Rattle.listing.specs.Listings.{IsListed}
 use Rattle.rate_bound.specs.declared.version.Version.{Version}
 use Rattle.rate_bound.specs.declared.version.Version.TheVariants.{Second}
-use Rattle.rate_bound.specs.Meanings.{turn_meaning, mark_meaning}
+use Rattle.rate_bound.specs.Meanings.{turn_meaning}
 use Rattle.station_curve.specs.Limits.{IsGentle}
 use Rattle.station_curve.specs.Waves.{Tide}
 use Rattle.year_blend.specs.Places.{AreYears, InDomain}
@@ -20,17 +20,17 @@ use Rattle.tide_answer.specs.declared.following.Listed.{Listed}
 use Rattle.tide_answer.specs.declared.refusal.Refusal.{Refusal}
 use Rattle.tide_answer.specs.declared.station.Found.{Found}
 use Rattle.tide_answer.specs.Faults.{wants_memory_of_refusal}
-use Rattle.tide_answer.specs.Following.{asks_slack, slack_times, slack_plus, if_asked, events_of, cells_of}
+use Rattle.tide_answer.specs.Following.{events_of, cells_of}
 use Rattle.tide_answer.specs.Sites.{Site, span_limit}
 use Rattle.tide_answer.specs.Workings.Spans.{HasLevels, IsBeside, IsNearSpan}
+use Rattle.tide_answer.specs.Workings.Telling.{tide_slack, tide_mark}
 
 -- as the curves by every constituent of the book
 unfoldable pub followed_tide : Version → Found → Option ℤ → Followed
 followed_tide version found mark = record {
   turn = turn_meaning version found.curve;
-  slack = if_asked (asks_slack found.units found.basis)
-      (mark_meaning version found.curve (slack_times found.basis) (slack_plus found.basis) (pos 0) true);
-  mark = option_map (λ level. mark_meaning version found.curve found.basis.high.times found.basis.high.plus level false) mark;
+  slack = tide_slack version found;
+  mark = tide_mark version found mark;
 }
 
 abbrev pub tide_events : Found → Asked → List Event

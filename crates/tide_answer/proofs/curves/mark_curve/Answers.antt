@@ -3,8 +3,8 @@ use Rattle.std.proofs.lemmas.Int.{to_z-of_z}
 use Rattle.tide_answer.proofs.FollowLemmas.{mark_scale}
 use Rattle.tide_answer.proofs.curves.mark_curve.Goals as goal
 
-pub level_curve-requires-clause-scale : goal.level_curve-requires-clause-scale
-level_curve-requires-clause-scale c =
+pub new-requires-clause-scale : goal.new-requires-clause-scale
+new-requires-clause-scale c =
     let basis = c.args.found.now.basis in
     let small : unsigned_abs c.in-Some.level ≤ 10000000000 = c.requires.mark c.in-Some.level c.in-Some.is in
     let times : FitsSigned w64 basis.high.times = search rules in
