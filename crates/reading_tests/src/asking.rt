@@ -288,10 +288,9 @@ fn questions_have_their_values(rt: HostRuntime) -> Result<(), Fail> {
 }
 
 #[test]
-fn values_are_read(rt: HostRuntime) -> Result<(), Fail> {
-    let alloc = rt.alloc();
+fn a_question_about_a_span_is_read(rt: HostRuntime) -> Result<(), Fail> {
     let full = line(
-        alloc,
+        rt.alloc(),
         "predict|end=2000-01-11T00:00Z|begin=2000-01-10T00:00Z|station=Pier|file=a=b|mark=-0.5|zone=-05:30|layout=csv|offsets=o.csv",
     )?;
     assert!(rt; matches!(&full.file, Some(name) if name.as_str() == "a=b"));
@@ -299,8 +298,19 @@ fn values_are_read(rt: HostRuntime) -> Result<(), Fail> {
     assert_eq!(rt; full.mark, Some(-500_000));
     assert!(rt; matches!(&full.zone, ZoneWord::Fixed(-330)));
     assert_eq!(rt; full.layout, Layout::Csv);
-    let check = line(alloc, "check|file=f|certificate=c|zone=@rome")?;
+    Ok(())
+}
+
+#[test]
+fn names_of_files_are_read(rt: HostRuntime) -> Result<(), Fail> {
+    let check = line(rt.alloc(), "check|file=f|certificate=c|zone=@rome")?;
     assert!(rt; matches!(&check.zone, ZoneWord::Named(name) if name.as_str() == "rome"));
+    Ok(())
+}
+
+#[test]
+fn values_of_single_commands_are_read(rt: HostRuntime) -> Result<(), Fail> {
+    let alloc = rt.alloc();
     let report = line(
         alloc,
         "report|file=f|station=s|begin=2000-01-10T00:00Z|end=2000-01-11T00:00Z|sheets=first,tally,range",
