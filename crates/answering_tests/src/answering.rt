@@ -18,9 +18,10 @@ use std::alloc::{AllocError, Global};
 use std::test::Fail;
 use tide_answer::{
     Fault, Given, accepted_is_true, answer, answer_alone, answer_into, certified_is_accepted,
-    fault_line, fault_status, prepare, worked_levels, worked_lines, worked_rows, worked_spans,
+    fault_line, fault_status, prepare, worked_levels, worked_rows, worked_spans,
 };
 use tide_edge::MemorySink;
+use tide_fault::worked_lines;
 use zone_time::Zone;
 
 const PIER: &[u8] =

@@ -38,12 +38,12 @@ use Rattle.station_table.specs.declared.offsets.Offsets.{Offsets}
 use Rattle.zone_time.specs.declared.zone.Zone.{Zone}
 use Rattle.tide_answer.specs.declared.asked.Asked.{Asked}
 use Rattle.tide_answer.specs.declared.reach.Reach.TheVariants.{Events}
-use Rattle.tide_answer.specs.declared.refusal.Refusal.{Refusal}
+use Rattle.tide_fault.specs.declared.refusal.Refusal.{Refusal}
 use Rattle.tide_answer.specs.declared.rejection.Rejection.{Rejection}
 use Rattle.tide_answer.specs.declared.station.Found.{Found}
 use Rattle.tide_answer.specs.Answers.{checked, judged, version_of}
 use Rattle.tide_answer.specs.Asking.{asked_in}
-use Rattle.tide_answer.specs.Faults.{refusal_of_cert, wants_memory_of_refusal}
+use Rattle.tide_fault.specs.Faults.{refusal_of_cert, wants_memory_of_refusal}
 use Rattle.tide_answer.specs.Following.{asks_slack, slack_times, slack_plus, if_asked, followed_by, events_of}
 use Rattle.tide_answer.specs.Rejections.{slack_fault, fault_from, track_fault, rejection_of}
 use Rattle.tide_answer.specs.Sites.{Site, site_in}

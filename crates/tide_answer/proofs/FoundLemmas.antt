@@ -11,10 +11,10 @@ use Rattle.station_table.specs.declared.offsets.Offsets.{Offsets}
 use Rattle.station_table.specs.Bases.{basis_of}
 use Rattle.tide_answer.specs.declared.asked.Asked.{Asked}
 use Rattle.tide_answer.specs.declared.reach.Reach.{Reach}
-use Rattle.tide_answer.specs.declared.refusal.Refusal.{Refusal}
-use Rattle.tide_answer.specs.declared.refusal.Refusal.TheVariants.{NoReference, OutOfYears}
+use Rattle.tide_fault.specs.declared.refusal.Refusal.{Refusal}
+use Rattle.tide_fault.specs.declared.refusal.Refusal.TheVariants.{NoReference, OutOfYears}
 use Rattle.tide_answer.specs.declared.station.Found.{Found}
-use Rattle.tide_answer.specs.Faults.{IsToldRefusal}
+use Rattle.tide_fault.specs.Faults.{IsToldRefusal}
 use Rattle.tide_answer.specs.Sites.{Site, basis_from, level_unit, span_in, tide_from, length_in, mark_in, site_at, site_in}
 use Rattle.tide_answer.specs.Workings.Spans.{FindsIn}
 

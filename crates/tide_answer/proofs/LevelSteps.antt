@@ -11,7 +11,7 @@ use Rattle.tide_answer.specs.declared.asked.Asked.{Asked}
 use Rattle.tide_answer.specs.declared.following.Listed.{Listed}
 use Rattle.tide_answer.specs.declared.reach.Reach.{Reach}
 use Rattle.tide_answer.specs.declared.reach.Reach.TheVariants.{Events, Levels}
-use Rattle.tide_answer.specs.declared.refusal.Refusal.{Refusal}
+use Rattle.tide_fault.specs.declared.refusal.Refusal.{Refusal}
 use Rattle.tide_answer.specs.declared.station.Found.{Found}
 use Rattle.tide_answer.specs.Answers.{heights, heights_text, level_in, on_clock, rows_in, text_alone}
 use Rattle.tide_answer.specs.Asking.{asked_from}

@@ -22,7 +22,7 @@ use Rattle.station_table.specs.Bases.{basis_of, basis_in, station_at, row_at, re
 use Rattle.station_table.specs.Offsets.{IsTable, IsOffsets, IsTableName}
 use Rattle.tide_answer.specs.declared.asked.Asked.{Asked}
 use Rattle.tide_answer.specs.declared.reach.Reach.{Reach}
-use Rattle.tide_answer.specs.declared.refusal.Refusal.{Refusal}
+use Rattle.tide_fault.specs.declared.refusal.Refusal.{Refusal}
 use Rattle.tide_answer.specs.Sites.{Site, basis_from, site_in}
 
 -- ---- the names of a book and of a table

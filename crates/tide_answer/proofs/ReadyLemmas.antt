@@ -14,7 +14,7 @@ use Rattle.zone_time.specs.declared.zone.Zone.{Zone}
 use Rattle.tide_answer.specs.declared.asked.Asked.{Asked}
 use Rattle.tide_answer.specs.declared.given.Given.{Given}
 use Rattle.tide_answer.specs.declared.reach.Reach.TheVariants.{Events}
-use Rattle.tide_answer.specs.declared.refusal.Refusal.{Refusal}
+use Rattle.tide_fault.specs.declared.refusal.Refusal.{Refusal}
 use Rattle.tide_answer.specs.declared.station.Found.{Found}
 use Rattle.tide_answer.specs.Answers.{answered, built, asks_span, named_by, predicted, certified}
 use Rattle.tide_answer.specs.Asking.{asked_by}

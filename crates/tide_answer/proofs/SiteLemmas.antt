@@ -30,7 +30,7 @@ use Rattle.station_table.specs.Offsets.{IsTable, IsOffset, IsOffsets, IsSlack}
 use Rattle.tide_answer.specs.declared.asked.Asked.{Asked}
 use Rattle.tide_answer.specs.declared.reach.Reach.{Reach}
 use Rattle.tide_answer.specs.declared.reach.Reach.TheVariants.{Events}
-use Rattle.tide_answer.specs.declared.refusal.Refusal.TheVariants.{NoStation}
+use Rattle.tide_fault.specs.declared.refusal.Refusal.TheVariants.{NoStation}
 use Rattle.tide_answer.specs.declared.station.Found.{Found}
 use Rattle.tide_answer.specs.Sites.{Site, basis_from, level_unit, reached, has_span, span_in, tide_from, length_in, mark_in, span_limit, site_at, site_in}
 use Rattle.tide_answer.specs.Workings.Spans.{HasLevels, IsBeside, IsFound, IsNear, IsNearSpan, IsReached}

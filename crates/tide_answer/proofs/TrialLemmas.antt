@@ -14,7 +14,7 @@ use Rattle.harmonics_text.specs.declared.book.Station.{Station}
 use Rattle.rate_bound.specs.declared.version.Version.TheVariants.{Second}
 use Rattle.tide_answer.specs.declared.asked.Asked.{Asked}
 use Rattle.tide_answer.specs.declared.reach.Reach.TheVariants.{Events}
-use Rattle.tide_answer.specs.declared.refusal.Refusal.{Refusal}
+use Rattle.tide_fault.specs.declared.refusal.Refusal.{Refusal}
 use Rattle.tide_answer.specs.declared.rejection.Rejection.{Rejection}
 use Rattle.tide_answer.specs.declared.station.Found.{Found}
 use Rattle.tide_answer.specs.declared.tally.Tally.{Tally}

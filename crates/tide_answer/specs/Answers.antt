@@ -32,12 +32,12 @@ use Rattle.zone_time.specs.declared.zone.Zone.{Zone}
 use Rattle.tide_answer.specs.declared.asked.Asked.{Asked}
 use Rattle.tide_answer.specs.declared.given.Given.{Given}
 use Rattle.tide_answer.specs.declared.reach.Reach.TheVariants.{Events, Levels}
-use Rattle.tide_answer.specs.declared.refusal.Refusal.{Refusal}
-use Rattle.tide_answer.specs.declared.refusal.Refusal.TheVariants.{NotBuilt, NoStation, LevelNotHere, TooManyRows}
+use Rattle.tide_fault.specs.declared.refusal.Refusal.{Refusal}
+use Rattle.tide_fault.specs.declared.refusal.Refusal.TheVariants.{NotBuilt, NoStation, LevelNotHere, TooManyRows}
 use Rattle.tide_answer.specs.declared.rejection.Rejection.{Rejection}
 use Rattle.tide_answer.specs.declared.text.Answer.{Answer}
 use Rattle.tide_answer.specs.Asking.{asked_by, asked_from, asked_in, is_built}
-use Rattle.tide_answer.specs.Faults.{refusal_of_cert}
+use Rattle.tide_fault.specs.Faults.{refusal_of_cert}
 use Rattle.tide_answer.specs.Following.{followed_by, events_of, tracks_of, cells_of}
 use Rattle.tide_answer.specs.Rejections.{rejection_of, rejection_line}
 use Rattle.tide_answer.specs.Sites.{Site, site_in}

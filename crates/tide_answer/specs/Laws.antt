@@ -20,7 +20,7 @@ use Rattle.zone_time.specs.declared.zone.Zone.{Zone}
 use Rattle.zone_time.specs.Moments.{IsMoment}
 use Rattle.tide_answer.specs.declared.asked.Asked.{Asked}
 use Rattle.tide_answer.specs.declared.reach.Reach.TheVariants.{Events}
-use Rattle.tide_answer.specs.declared.refusal.Refusal.{Refusal}
+use Rattle.tide_fault.specs.declared.refusal.Refusal.{Refusal}
 use Rattle.tide_answer.specs.declared.text.Answer.{Answer}
 use Rattle.tide_answer.specs.Answers.{text_alone, predicted, certified, checked}
 use Rattle.tide_answer.specs.Asking.{asked_in}

@@ -19,9 +19,9 @@ use Rattle.year_blend.specs.Years.{year_start_of}
 use Rattle.tide_answer.specs.declared.asked.Asked.{Asked}
 use Rattle.tide_answer.specs.declared.reach.Reach.{Reach}
 use Rattle.tide_answer.specs.declared.reach.Reach.TheVariants.{Events, Levels}
-use Rattle.tide_answer.specs.declared.refusal.Refusal.{Refusal}
-use Rattle.tide_answer.specs.declared.refusal.Refusal.TheVariants.{NoStation, Hydraulic, BackwardSpan, OutOfYears, SpanTooLong, MarkNotHere}
-use Rattle.tide_answer.specs.Faults.{refusal_of_curve, refusal_of_find}
+use Rattle.tide_fault.specs.declared.refusal.Refusal.{Refusal}
+use Rattle.tide_fault.specs.declared.refusal.Refusal.TheVariants.{NoStation, Hydraulic, BackwardSpan, OutOfYears, SpanTooLong, MarkNotHere}
+use Rattle.tide_fault.specs.Faults.{refusal_of_curve, refusal_of_find}
 
 -- a station of a book, and the offsets from it
 pub record Site : Type 0 where

@@ -16,7 +16,7 @@ use Rattle.zone_time.specs.declared.zone.Zone.TheVariants as zones
 use Rattle.tide_answer.specs.declared.given.Given.{Given}
 use Rattle.tide_answer.specs.declared.reach.Reach.TheVariants.{Events}
 use Rattle.tide_answer.specs.declared.ready.Ready.{Ready}
-use Rattle.tide_answer.specs.declared.refusal.Refusal.{Refusal}
+use Rattle.tide_fault.specs.declared.refusal.Refusal.{Refusal}
 use Rattle.tide_answer.specs.declared.text.Answer.{Answer}
 use Rattle.tide_answer.specs.Answers.{answered, named_by}
 use Rattle.tide_answer.specs.Asking.{asked_by}

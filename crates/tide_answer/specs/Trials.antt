@@ -14,8 +14,8 @@ use Rattle.harmonics_text.specs.Reading.{At, book_of}
 use Rattle.sample_tides.specs.File.{sample_of}
 use Rattle.tide_answer.specs.declared.asked.Asked.{Asked}
 use Rattle.tide_answer.specs.declared.reach.Reach.TheVariants.{Events}
-use Rattle.tide_answer.specs.declared.refusal.Refusal.{Refusal}
-use Rattle.tide_answer.specs.declared.refusal.Refusal.TheVariants.{BadSample}
+use Rattle.tide_fault.specs.declared.refusal.Refusal.{Refusal}
+use Rattle.tide_fault.specs.declared.refusal.Refusal.TheVariants.{BadSample}
 use Rattle.tide_answer.specs.declared.rejection.Rejection.{Rejection}
 use Rattle.tide_answer.specs.declared.tally.Tally.{Tally}
 use Rattle.tide_answer.specs.Following.{followed, events_of, tracks_of}

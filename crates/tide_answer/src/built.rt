@@ -4,10 +4,10 @@ ghost use Rattle.std.specs.Prelude.{◌≡◌, [], IfErr};
 ghost use Rattle.decimal_text.specs.Expected.{Gives};
 ghost use Rattle.tide_answer.specs.Answers.{built};
 ghost use Rattle.tide_answer.specs.Asking.{is_built_command};
-ghost use Rattle.tide_answer.specs.Faults.{wants_memory_of_refusal, IsToldRefusal};
+ghost use Rattle.tide_fault.specs.Faults.{wants_memory_of_refusal, IsToldRefusal};
 
-use crate::refusal::Refusal;
 use question::{Command, Question};
+use tide_fault::Refusal;
 
 /// Whether the question can be answered as yet.
 ///

@@ -8,7 +8,7 @@ ghost use Rattle.listing.specs.Listings.{plain_events_of};
 ghost use Rattle.station_table.specs.Offsets.{IsTable};
 ghost use Rattle.tide_answer.specs.Answers.{checked};
 ghost use Rattle.tide_answer.specs.Asking.{asked_in};
-ghost use Rattle.tide_answer.specs.Faults.{wants_memory_of_refusal, IsToldRefusal};
+ghost use Rattle.tide_fault.specs.Faults.{wants_memory_of_refusal, IsToldRefusal};
 ghost use Rattle.tide_answer.specs.Workings.Certifying.{accepted, rejected, judged_in, tide_rejection, HasFewCells};
 ghost use Rattle.tide_answer.specs.Workings.Curves.{tide_events, IsReady};
 ghost use Rattle.tide_answer.specs.Workings.Spans.{IsNear};
@@ -17,7 +17,6 @@ ghost use Rattle.zone_time.specs.Zones.{IsZone};
 use crate::asked::Asked;
 use crate::judging::find_rejection;
 use crate::reach::Reach;
-use crate::refusal::Refusal;
 use crate::rejection::{Rejection, rejection_line};
 use crate::station::{Found, find_station, reached};
 use crate::text::Answer;
@@ -29,6 +28,7 @@ use harmonics_text::Book;
 use listing::plain_events;
 use station_table::OffsetTable;
 use std::alloc::{AllocError, Global};
+use tide_fault::Refusal;
 use zone_time::Zone;
 
 /// Whether a certificate is valid: `Accepted` and the events of its own question in the zone's local

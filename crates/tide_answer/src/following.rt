@@ -9,7 +9,7 @@ ghost use Rattle.rate_bound.specs.declared.version.Version.{Version};
 ghost use Rattle.rate_bound.specs.Meanings.{turn_meaning};
 ghost use Rattle.harmonics_text.specs.Books.{IsBook};
 ghost use Rattle.station_table.specs.Offsets.{IsTable};
-ghost use Rattle.tide_answer.specs.Faults.{IsToldRefusal};
+ghost use Rattle.tide_fault.specs.Faults.{IsToldRefusal};
 ghost use Rattle.tide_answer.specs.Sites.{site_in};
 ghost use Rattle.tide_answer.specs.Workings.Spans.{IsNear};
 ghost use Rattle.tide_answer.specs.Workings.Curves.{tide_cells, tide_events, AreMerged, HasMinutes, IsReady, IsTideList, Lists};
@@ -18,7 +18,6 @@ ghost use Rattle.tide_answer.specs.Workings.Telling.{Tells, tide_mark, tide_slac
 use crate::asked::Asked;
 use crate::curves::{mark_curve, slack_curve, turn_curve};
 use crate::reach::Reach;
-use crate::refusal::Refusal;
 use crate::station::{Found, find_station, reached};
 use curve_law::{Curve, Events};
 use decimal_text::Text;
@@ -28,6 +27,7 @@ use interval_search::Search;
 use rate_bound::{MarkCurve, TurnCurve, Version};
 use station_table::OffsetTable;
 use std::alloc::{AllocError, Global};
+use tide_fault::Refusal;
 
 /// The events of a station over a span, in its reference's unit, and how many cells its curves were cut
 /// into to find them.

@@ -5,7 +5,7 @@ ghost use Rattle.decimal_text.specs.Expected.{Gives};
 ghost use Rattle.harmonics_text.specs.Books.{IsBook};
 ghost use Rattle.station_table.specs.Offsets.{IsTable};
 ghost use Rattle.tide_answer.specs.Answers.{heights, heights_text, row_count, row_limit, rows_in};
-ghost use Rattle.tide_answer.specs.Faults.{wants_memory_of_refusal, IsToldRefusal};
+ghost use Rattle.tide_fault.specs.Faults.{wants_memory_of_refusal, IsToldRefusal};
 ghost use Rattle.tide_answer.specs.Workings.Levels.{HasLevel, HasLevelsIn, IsStep, tide_row, tide_rows};
 ghost use Rattle.tide_answer.specs.Workings.Spans.{IsNear};
 ghost use Rattle.zone_time.specs.Zones.{IsZone, InZoneYears};
@@ -13,7 +13,6 @@ ghost use Rattle.zone_time.specs.Zones.{IsZone, InZoneYears};
 use crate::asked::Asked;
 use crate::levels::{check_level, level_at};
 use crate::reach::Reach;
-use crate::refusal::Refusal;
 use crate::station::{Found, find_station};
 use crate::text::Answer;
 use decimal_text::{Bytes, Text};
@@ -22,6 +21,7 @@ use listing::{Row, Rows, csv_heights, plain_heights};
 use question::Layout;
 use station_table::OffsetTable;
 use std::alloc::{AllocError, Global};
+use tide_fault::Refusal;
 use zone_time::Zone;
 
 /// The most rows of a list.

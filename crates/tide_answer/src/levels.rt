@@ -6,13 +6,13 @@ ghost use Rattle.event_list.specs.Shifts.{scaled};
 ghost use Rattle.event_list.specs.Worked.{dock};
 ghost use Rattle.station_table.specs.Bases.{is_equal};
 ghost use Rattle.tide_answer.specs.Answers.{level_in};
-ghost use Rattle.tide_answer.specs.Faults.{wants_memory_of_refusal, IsToldRefusal};
+ghost use Rattle.tide_fault.specs.Faults.{wants_memory_of_refusal, IsToldRefusal};
 ghost use Rattle.tide_answer.specs.Workings.Levels.{HasLevel, source_of, tide_level, is_tide_rising};
 
-use crate::refusal::Refusal;
 use crate::station::{Found, earlier};
 use event_list::scaled;
 use station_table::Basis;
+use tide_fault::Refusal;
 
 /// A station whose highs and lows have different offsets has no level between them.
 #[tactic(auto, unfolding(crate::specs::Answers::level_in))]

@@ -9,7 +9,7 @@ ghost use Rattle.station_curve.specs.Curves.{curve_of, Predicts};
 ghost use Rattle.station_curve.specs.Limits.{IsGentle};
 ghost use Rattle.station_table.specs.Bases.{IsBasis, basis_of, is_equal};
 ghost use Rattle.station_table.specs.Offsets.{IsTable};
-ghost use Rattle.tide_answer.specs.Faults.{wants_memory_of_refusal, IsToldRefusal};
+ghost use Rattle.tide_fault.specs.Faults.{wants_memory_of_refusal, IsToldRefusal};
 ghost use Rattle.tide_answer.specs.Sites.{basis_from, site_in, site_at, level_unit, reached, has_minute, has_span, span_in, length_in, mark_in, span_limit, tide_from};
 ghost use Rattle.tide_answer.specs.Workings.Spans.{IsBeside, IsNear, IsNearSpan, HasLevels, IsReached, FindsIn};
 ghost use Rattle.year_blend.specs.Places.{InDomain};
@@ -18,13 +18,13 @@ ghost use Rattle.zone_time.specs.Moments.{IsMoment};
 
 use crate::asked::Asked;
 use crate::reach::Reach;
-use crate::refusal::Refusal;
 use decimal_text::Text;
 use event_list::{Span, widened};
 use harmonics_text::{Book, Station, Units};
 use station_curve::StationCurve;
 use station_table::{Basis, OffsetTable, find};
 use std::alloc::Global;
+use tide_fault::Refusal;
 use year_blend::year_start;
 
 /// The most minutes of a span.

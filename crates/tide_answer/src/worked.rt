@@ -1,29 +1,11 @@
-//! Answers and lines that were worked out by hand.
+//! Spans that were worked out by hand.
 
-ghost use Rattle.std.specs.Prelude.{◌≡◌, [], ◌∷◌, codes, pos, Ok, Err};
-ghost use Rattle.question.specs.declared.fault.AskFault.{AskFault};
-ghost use Rattle.question.specs.declared.key.Key.{Key};
-ghost use Rattle.tide_answer.specs.declared.fault.Fault.{Fault};
-ghost use Rattle.tide_answer.specs.declared.refusal.Refusal.{Refusal};
-ghost use Rattle.tide_answer.specs.declared.slot.Slot.{Slot};
+ghost use Rattle.std.specs.Prelude.{◌≡◌, pos, Ok, Err};
+ghost use Rattle.tide_fault.specs.declared.refusal.Refusal.{Refusal};
 ghost use Rattle.tide_answer.specs.declared.reach.Reach.{Reach};
 ghost use Rattle.tide_answer.specs.Sites.{span_in, length_in};
 ghost use Rattle.station_table.specs.Bases.{reference_basis};
-ghost use Rattle.tide_answer.specs.Faults.{line_of, status_of};
-ghost use Rattle.tide_answer.specs.declared.status.Status.{Status};
 ghost use Rattle.station_curve.specs.Worked.{pier_book};
-
-/// Lines without a number.
-#[tactic(auto, unfolding(crate::specs::Faults::line_of, crate::specs::Faults::ask_line, crate::specs::Faults::refusal_line))]
-pub fn worked_lines()
-    ensures no_command { line_of [] (Fault.Ask AskFault.NoCommand) ≡ codes "words: no command\n" }
-    ensures missing { line_of [] (Fault.Ask (AskFault.MissingKey Key.Station)) ≡ codes "words: station is missing\n" }
-    ensures long { line_of [] (Fault.TooLong Slot.Certificate) ≡ codes "certificate: too long\n" }
-    ensures not_built { line_of [] (Fault.Refused Refusal.NotBuilt) ≡ codes "refused: not built\n" }
-    ensures words { status_of (Fault.Ask (AskFault.RepeatedKey 2)) ≡ Status.Words }
-    ensures file { status_of (Fault.TooLong Slot.Offsets) ≡ Status.FileRefused }
-    ensures memory { status_of (Fault.Refused Refusal.NoMemory) ≡ Status.NoMemory }
-{}
 
 /// Spans of a book that has the years 1999 to 2001.
 #[tactic(auto, unfolding(crate::specs::Sites::span_in, crate::specs::Sites::length_in, year_blend::specs::Years::year_start_of, jiff_core::specs::Calendar::days_from_civil, jiff_core::specs::Calendar::day_count, jiff_core::specs::Calendar::days_of_years, jiff_core::specs::Calendar::days_of_months))]

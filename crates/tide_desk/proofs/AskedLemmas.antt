@@ -22,7 +22,7 @@ use Rattle.question.specs.Words.{pairs_of}
 use Rattle.question.proofs.FormLemmas.{moment_of-range, mark_of-range}
 use Rattle.zone_time.specs.Moments.{IsMoment, moment_of}
 use Rattle.tide_answer.specs.declared.asked.Asked.{Asked}
-use Rattle.tide_answer.specs.declared.refusal.Refusal.{Refusal}
+use Rattle.tide_fault.specs.declared.refusal.Refusal.{Refusal}
 use Rattle.tide_answer.specs.declared.text.Answer.{Answer}
 use Rattle.tide_answer.specs.Answers.{asks_span, built, named_by}
 use Rattle.tide_answer.specs.Asking.{asked_by}

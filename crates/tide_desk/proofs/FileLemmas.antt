@@ -11,10 +11,10 @@ use Rattle.station_table.specs.declared.fault.OffsetFault.{OffsetFault}
 use Rattle.station_table.specs.declared.offsets.Offsets.{Offsets as Row}
 use Rattle.station_table.specs.Offsets.{IsOffsets, IsTable}
 use Rattle.station_table.specs.Table.{table_of}
-use Rattle.tide_answer.specs.declared.refusal.Refusal.{Refusal}
-use Rattle.tide_answer.specs.declared.refusal.Refusal.TheVariants.{NotBuilt}
-use Rattle.tide_answer.specs.declared.slot.Slot.{Slot}
-use Rattle.tide_answer.specs.declared.slot.Slot.TheVariants as slots
+use Rattle.tide_fault.specs.declared.refusal.Refusal.{Refusal}
+use Rattle.tide_fault.specs.declared.refusal.Refusal.TheVariants.{NotBuilt}
+use Rattle.tide_fault.specs.declared.slot.Slot.{Slot}
+use Rattle.tide_fault.specs.declared.slot.Slot.TheVariants as slots
 use Rattle.tide_answer.specs.declared.text.Answer.{Answer}
 use Rattle.tide_answer.specs.Answers.{answered, answered_alone, built, text_by, text_from}
 use Rattle.tide_answer.proofs.SiteLemmas.{then_ok}

@@ -12,7 +12,7 @@ use Rattle.tide_answer.specs.declared.asked.Asked.{Asked}
 use Rattle.tide_answer.specs.declared.given.Given.{Given}
 use Rattle.tide_answer.specs.declared.reach.Reach.TheVariants.{Events}
 use Rattle.tide_answer.specs.declared.ready.Ready.{Ready}
-use Rattle.tide_answer.specs.declared.refusal.Refusal.{Refusal}
+use Rattle.tide_fault.specs.declared.refusal.Refusal.{Refusal}
 use Rattle.tide_answer.specs.declared.text.Answer.{Answer}
 use Rattle.tide_answer.specs.Answers.{answered, asks_span, built, certified, events_text, named_by, predicted, text_alone, text_by, text_of_events}
 use Rattle.tide_answer.specs.Asking.{asked_by}

@@ -13,7 +13,7 @@ use Rattle.station_table.specs.declared.offsets.Offsets.{Offsets}
 use Rattle.zone_time.specs.declared.zone.Zone.{Zone}
 use Rattle.tide_answer.specs.declared.asked.Asked.{Asked}
 use Rattle.tide_answer.specs.declared.reach.Reach.TheVariants.{Events}
-use Rattle.tide_answer.specs.declared.refusal.Refusal.{Refusal}
+use Rattle.tide_fault.specs.declared.refusal.Refusal.{Refusal}
 use Rattle.tide_answer.specs.declared.rejection.Rejection.{Rejection}
 use Rattle.tide_answer.specs.declared.station.Found.{Found}
 use Rattle.tide_answer.specs.declared.text.Answer.{Answer}

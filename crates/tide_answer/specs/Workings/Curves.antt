@@ -17,9 +17,9 @@ use Rattle.year_blend.specs.Places.{AreYears, InDomain}
 use Rattle.zone_time.specs.Zones.{InZoneYears}
 use Rattle.tide_answer.specs.declared.asked.Asked.{Asked}
 use Rattle.tide_answer.specs.declared.following.Listed.{Listed}
-use Rattle.tide_answer.specs.declared.refusal.Refusal.{Refusal}
+use Rattle.tide_fault.specs.declared.refusal.Refusal.{Refusal}
 use Rattle.tide_answer.specs.declared.station.Found.{Found}
-use Rattle.tide_answer.specs.Faults.{wants_memory_of_refusal}
+use Rattle.tide_fault.specs.Faults.{wants_memory_of_refusal}
 use Rattle.tide_answer.specs.Following.{events_of, cells_of}
 use Rattle.tide_answer.specs.Sites.{Site, span_limit}
 use Rattle.tide_answer.specs.Workings.Spans.{HasLevels, IsBeside, IsNearSpan}

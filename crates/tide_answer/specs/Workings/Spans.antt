@@ -14,9 +14,9 @@ use Rattle.year_blend.specs.Places.{AreYears, InDomain}
 use Rattle.zone_time.specs.Moments.{IsMoment}
 use Rattle.tide_answer.specs.declared.asked.Asked.{Asked}
 use Rattle.tide_answer.specs.declared.reach.Reach.{Reach}
-use Rattle.tide_answer.specs.declared.refusal.Refusal.{Refusal}
+use Rattle.tide_fault.specs.declared.refusal.Refusal.{Refusal}
 use Rattle.tide_answer.specs.declared.station.Found.{Found}
-use Rattle.tide_answer.specs.Faults.{wants_memory_of_refusal}
+use Rattle.tide_fault.specs.Faults.{wants_memory_of_refusal}
 use Rattle.tide_answer.specs.Sites.{Site, reached, span_limit}
 
 -- a span that a question, a certificate or a clock can name

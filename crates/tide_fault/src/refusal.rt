@@ -42,7 +42,7 @@ pub enum Refusal {
 
 impl From<AllocError> for Refusal {
     ghost use Rattle.std.specs.Prelude.{◌≡◌};
-    ghost use Rattle.tide_answer.specs.declared.refusal.Refusal.TheVariants.{NoMemory};
+    ghost use Rattle.tide_fault.specs.declared.refusal.Refusal.TheVariants.{NoMemory};
 
     ghost from_gives = { λ _ refusal. refusal ≡ NoMemory };
 
@@ -53,7 +53,7 @@ impl From<AllocError> for Refusal {
 
 impl From<CertFault> for Refusal {
     ghost use Rattle.std.specs.Prelude.{◌≡◌};
-    ghost use Rattle.tide_answer.specs.Faults.{refusal_of_cert};
+    ghost use Rattle.tide_fault.specs.Faults.{refusal_of_cert};
 
     ghost from_gives = { λ cert refusal. refusal ≡ refusal_of_cert cert };
 
@@ -67,7 +67,7 @@ impl From<CertFault> for Refusal {
 
 impl From<FindFault> for Refusal {
     ghost use Rattle.std.specs.Prelude.{◌≡◌};
-    ghost use Rattle.tide_answer.specs.Faults.{refusal_of_find};
+    ghost use Rattle.tide_fault.specs.Faults.{refusal_of_find};
 
     ghost from_gives = { λ find refusal. refusal ≡ refusal_of_find find };
 
@@ -81,7 +81,7 @@ impl From<FindFault> for Refusal {
 
 impl From<CurveFault> for Refusal {
     ghost use Rattle.std.specs.Prelude.{◌≡◌};
-    ghost use Rattle.tide_answer.specs.Faults.{refusal_of_curve};
+    ghost use Rattle.tide_fault.specs.Faults.{refusal_of_curve};
 
     ghost from_gives = { λ curve refusal. refusal ≡ refusal_of_curve curve };
 

@@ -21,14 +21,14 @@ use Rattle.station_table.specs.Reasons.{number_of as number_of_row, text_of as t
 use Rattle.station_curve.specs.declared.fault.CurveFault.{CurveFault}
 use Rattle.station_curve.specs.declared.fault.CurveFault.TheVariants as curve
 use Rattle.zone_time.specs.Moments.{IsMoment, moment_text}
-use Rattle.tide_answer.specs.declared.fault.Fault.{Fault}
-use Rattle.tide_answer.specs.declared.fault.Fault.TheVariants.{Ask, TooLong, Book, Offsets, BadZone, Refused}
-use Rattle.tide_answer.specs.declared.refusal.Refusal.{Refusal}
-use Rattle.tide_answer.specs.declared.refusal.Refusal.TheVariants.{NoMemory, NotBuilt, NotACertificate, BadSample, NoStation, NoReference, Hydraulic, BackwardSpan, OutOfYears, TooLarge, TooSteep, SpanTooLong, MarkNotHere, LevelNotHere, TooManyRows}
-use Rattle.tide_answer.specs.declared.slot.Slot.{Slot}
-use Rattle.tide_answer.specs.declared.slot.Slot.TheVariants as slots
-use Rattle.tide_answer.specs.declared.status.Status.{Status}
-use Rattle.tide_answer.specs.declared.status.Status.TheVariants as status
+use Rattle.tide_fault.specs.declared.fault.Fault.{Fault}
+use Rattle.tide_fault.specs.declared.fault.Fault.TheVariants.{Ask, TooLong, Book, Offsets, BadZone, Refused}
+use Rattle.tide_fault.specs.declared.refusal.Refusal.{Refusal}
+use Rattle.tide_fault.specs.declared.refusal.Refusal.TheVariants.{NoMemory, NotBuilt, NotACertificate, BadSample, NoStation, NoReference, Hydraulic, BackwardSpan, OutOfYears, TooLarge, TooSteep, SpanTooLong, MarkNotHere, LevelNotHere, TooManyRows}
+use Rattle.tide_fault.specs.declared.slot.Slot.{Slot}
+use Rattle.tide_fault.specs.declared.slot.Slot.TheVariants as slots
+use Rattle.tide_fault.specs.declared.status.Status.{Status}
+use Rattle.tide_fault.specs.declared.status.Status.TheVariants as status
 
 -- ---- statuses
 

@@ -15,7 +15,7 @@ pub enum Slot {
 }
 
 impl Slot {
-    ghost use Rattle.tide_answer.specs.Faults.{slot_name};
+    ghost use Rattle.tide_fault.specs.Faults.{slot_name};
 
     /// Its name in the lines that tell of faults.
     pub fn text(self) -> &'static str

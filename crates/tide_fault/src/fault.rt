@@ -1,7 +1,7 @@
 //! Why a question, or a file that it names, can't be answered.
 
 ghost use Rattle.std.specs.Prelude.{◌≡◌};
-ghost use Rattle.tide_answer.specs.Faults.{status_of, status_of_ask, status_of_form, status_of_table, status_of_refusal};
+ghost use Rattle.tide_fault.specs.Faults.{status_of, status_of_ask, status_of_form, status_of_table, status_of_refusal};
 
 use crate::refusal::Refusal;
 use crate::slot::Slot;
@@ -91,7 +91,7 @@ fn refusal_status(refusal: Refusal) -> Status
 
 impl From<AskFault> for Fault {
     ghost use Rattle.std.specs.Prelude.{◌≡◌};
-    ghost use Rattle.tide_answer.specs.declared.fault.Fault.TheVariants.{Ask};
+    ghost use Rattle.tide_fault.specs.declared.fault.Fault.TheVariants.{Ask};
 
     ghost from_gives = { λ ask fault. fault ≡ Ask ask };
 
@@ -102,7 +102,7 @@ impl From<AskFault> for Fault {
 
 impl From<BookFault> for Fault {
     ghost use Rattle.std.specs.Prelude.{◌≡◌};
-    ghost use Rattle.tide_answer.specs.declared.fault.Fault.TheVariants.{Book};
+    ghost use Rattle.tide_fault.specs.declared.fault.Fault.TheVariants.{Book};
 
     ghost from_gives = { λ form fault. fault ≡ Book form };
 
@@ -113,7 +113,7 @@ impl From<BookFault> for Fault {
 
 impl From<Refusal> for Fault {
     ghost use Rattle.std.specs.Prelude.{◌≡◌};
-    ghost use Rattle.tide_answer.specs.declared.fault.Fault.TheVariants.{Refused};
+    ghost use Rattle.tide_fault.specs.declared.fault.Fault.TheVariants.{Refused};
 
     ghost from_gives = { λ refusal fault. fault ≡ Refused refusal };
 

@@ -1,7 +1,7 @@
 //! The line that tells of a fault. Every such line is made here.
 
 ghost use Rattle.std.specs.Prelude.{◌≡◌, ◌++◌, ◌<◌, codes, length, IfOk, string_bytes};
-ghost use Rattle.tide_answer.specs.Faults.{line_of, slot_name, ask_line, form_line, file_line, table_line, row_line, reference_at, reference_line, refusal_line, years_line, IsTold, IsToldRefusal};
+ghost use Rattle.tide_fault.specs.Faults.{line_of, slot_name, ask_line, form_line, file_line, table_line, row_line, reference_at, reference_line, refusal_line, years_line, IsTold, IsToldRefusal};
 ghost use Rattle.zone_time.specs.Moments.{IsMoment};
 
 use crate::fault::Fault;

@@ -26,7 +26,7 @@ pub enum Status {
 }
 
 impl Status {
-    ghost use Rattle.tide_answer.specs.Statuses.{number_of};
+    ghost use Rattle.tide_fault.specs.Statuses.{number_of};
 
     /// From 0 to 8.
     pub fn number(&self) -> u8
