@@ -1,10 +1,11 @@
 ghost use Rattle.std.specs.Prelude.{All, IfOk, IsTrue};
-ghost use Rattle.listing.specs.Listings.{IsListed};
+ghost use Rattle.event_text.specs.Lines.{IsListed};
 ghost use Rattle.zone_time.specs.Zones.{IsZone, InZoneYears};
 
 use arrayvec::ArrayString;
 use curve_law::{Event, Events, Kind};
 use decimal_text::Text;
+use event_text::{worked_levels, worked_lines};
 use harmonics_text::{Units, read_book};
 use listing::*;
 use station_table::read_offsets;

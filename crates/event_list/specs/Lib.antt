@@ -1,4 +1,3 @@
-pub mod Words
 pub mod Order
 pub mod Shifts
 pub mod Events

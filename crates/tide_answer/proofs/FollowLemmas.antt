@@ -13,11 +13,11 @@ use Rattle.event_list.specs.Shifts.{HasOffsets, IsMovable, shifted_of, widened_o
 use Rattle.event_list.proofs.EventLemmas.{count-agrees, count-few, covers-accepted, events-agree, shifted-events}
 use Rattle.event_list.proofs.NameLemmas.{events-lie, events-named}
 use Rattle.event_list.proofs.PlainLemmas.{plain-span, plain-merged}
-use Rattle.event_list.specs.Words.{has_word}
+use Rattle.event_text.specs.Words.{has_word}
 use Rattle.harmonics_text.specs.declared.book.Book.{Book}
 use Rattle.harmonics_text.specs.declared.book.Units.{Units}
 use Rattle.harmonics_text.specs.declared.book.Units.TheVariants.{Feet, Meters, Knots, KnotsSquared}
-use Rattle.listing.specs.Listings.{IsListed}
+use Rattle.event_text.specs.Lines.{IsListed}
 use Rattle.rate_bound.specs.declared.version.Version.{Version}
 use Rattle.rate_bound.specs.declared.version.Version.TheVariants.{Second}
 use Rattle.rate_bound.specs.Meanings.{turn_meaning, mark_meaning, predicted_mark}

@@ -2,7 +2,8 @@
 
 ghost use Rattle.std.specs.Prelude.{◌≡◌, ◌+◌, ◌*◌, ◌<◌, ◌≤◌, ◌^◌, ◌++◌, length, codes, All, IfOk, OnOk, is_err};
 ghost use Rattle.std.specs.List.{flat_map};
-ghost use Rattle.listing.specs.Listings.{IsListed, event_line_in, plain_events_of};
+ghost use Rattle.event_text.specs.Lines.{IsListed, event_line_in};
+ghost use Rattle.listing.specs.Listings.{plain_events_of};
 ghost use Rattle.tide_answer.specs.Workings.Sending.{Sends};
 ghost use Rattle.tide_edge.specs.Faults.{faults_after};
 ghost use Rattle.zone_time.specs.Zones.{IsZone};

@@ -7,7 +7,7 @@ use Rattle.event_list.specs.declared.span.Span.{Span}
 use Rattle.event_list.specs.Events.{Followed, station_events, cell_count, covers_of, merged_of}
 use Rattle.event_list.specs.Shifts.{HasOffsets, widened_of}
 use Rattle.harmonics_text.specs.declared.book.Book.{Book}
-use Rattle.listing.specs.Listings.{IsListed}
+use Rattle.event_text.specs.Lines.{IsListed}
 use Rattle.rate_bound.specs.declared.version.Version.{Version}
 use Rattle.rate_bound.specs.declared.version.Version.TheVariants.{Second}
 use Rattle.rate_bound.specs.Meanings.{turn_meaning}

@@ -1,6 +1,6 @@
 use Rattle.std.proofs.Common.{◌≡◌, ℕ, ◌+◌, ◌*◌, ◌<◌, ◌^◌, List, ◌++◌, length, All, Ok}
 use Rattle.std.specs.List.{flat_map}
-use Rattle.listing.specs.Listings.{IsListed, event_line_in}
+use Rattle.event_text.specs.Lines.{IsListed, event_line_in}
 use Rattle.tide_answer.specs.Workings.Sending.{Sends}
 use Rattle.tide_answer.proofs.sending.send_events.Given as goal
 

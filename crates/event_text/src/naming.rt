@@ -1,7 +1,7 @@
 //! Which name an event has.
 
 ghost use Rattle.std.specs.Prelude.{◌≡◌, IsTrue};
-ghost use Rattle.event_list.specs.Words.{has_word, word_of};
+ghost use Rattle.event_text.specs.Words.{has_word, word_of};
 
 use crate::event_word::EventWord;
 use curve_law::Kind;

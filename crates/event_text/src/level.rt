@@ -3,7 +3,7 @@
 ghost use Rattle.std.specs.Prelude.{◌≡◌, ◌+◌, ◌≤◌, [], ◌++◌, length, replicate};
 ghost use Rattle.arrayvec.specs.ArrayString.{array_string_len};
 ghost use Rattle.decimal_text.specs.Rounding.{rounded_of};
-ghost use Rattle.listing.specs.Lines.{level_text, padded};
+ghost use Rattle.event_text.specs.Lines.{level_text, padded};
 
 use arrayvec::ArrayString;
 use decimal_text::{rounded, write};

@@ -17,7 +17,7 @@ pub enum EventWord {
 
 impl EventWord {
     ghost use Rattle.std.specs.Prelude.{◌≡◌, ◌≤◌, length};
-    ghost use Rattle.event_list.specs.Words.{word_text};
+    ghost use Rattle.event_text.specs.Words.{word_text};
 
     /// The name as it is printed, in ASCII and at most 18 bytes.
     pub fn text(self) -> &'static str

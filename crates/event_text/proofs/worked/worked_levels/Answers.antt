@@ -2,8 +2,8 @@ use Rattle.std.proofs.Common.{lit<}
 use Rattle.std.proofs.lemmas.Fmt.{decimal_digit, decimal-digits_of}
 use Rattle.decimal_text.specs.Rounding.{rounded_of}
 use Rattle.decimal_text.specs.Writing.{write_of, last_digits}
-use Rattle.listing.specs.Lines.{padded}
-use Rattle.listing.proofs.worked.worked_levels.Goals as goal
+use Rattle.event_text.specs.Lines.{padded}
+use Rattle.event_text.proofs.worked.worked_levels.Goals as goal
 
 pub returns-clause-half : goal.returns-clause-half
 unfolding padded rounded_of write_of last_digits

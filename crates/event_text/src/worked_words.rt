@@ -3,11 +3,11 @@
 ghost use Rattle.std.specs.Prelude.{◌≡◌, pos, negsuc, false, true, codes};
 ghost use Rattle.harmonics_text.specs.declared.book.Units.{Units};
 ghost use Rattle.curve_law.specs.declared.kind.Kind.{Kind};
-ghost use Rattle.event_list.specs.declared.event_word.EventWord.{EventWord};
-ghost use Rattle.event_list.specs.Words.{has_word, word_of, word_text};
+ghost use Rattle.event_text.specs.declared.event_word.EventWord.{EventWord};
+ghost use Rattle.event_text.specs.Words.{has_word, word_of, word_text};
 
 /// Names at levels on each side of 0 and at 0 itself, where a current counts as ebb.
-pub fn worked_rows()
+pub fn worked_words()
     ensures flood { word_text (word_of Units.Knots Kind.High (pos 1)) ≡ codes "Max Flood" }
     ensures still { word_text (word_of Units.Knots Kind.High (pos 0)) ≡ codes "Min Ebb" }
     ensures ebb { word_text (word_of Units.Knots Kind.Low (negsuc 0)) ≡ codes "Max Ebb" }

@@ -1,5 +1,5 @@
 use Rattle.std.proofs.Common.{◌≡◌, ◌+◌, ◌++◌, length, replicate}
-use Rattle.listing.proofs.level.push_spaces.Given as goal
+use Rattle.event_text.proofs.level.push_spaces.Given as goal
 
 abbrev pub invariant-loop-place : goal.invariant-loop-place
 invariant-loop-place l =

@@ -1,16 +1,16 @@
-//! A line of a listing.
+//! A line of a listing, of an event or of a level.
 
 ghost use Rattle.std.specs.Prelude.{◌≡◌, ◌≤◌, [], IsTrue};
 ghost use Rattle.arrayvec.specs.ArrayString.{array_string_len};
-ghost use Rattle.event_list.specs.Words.{has_word};
+ghost use Rattle.event_text.specs.Words.{has_word};
 ghost use Rattle.zone_time.specs.Locals.{IsLocal};
-ghost use Rattle.listing.specs.Lines.{height_line_of, event_line_of};
+ghost use Rattle.event_text.specs.Lines.{height_line_of, event_line_of};
 
 use crate::level::push_level;
+use crate::naming::word;
 use crate::unit::unit_text;
 use arrayvec::ArrayString;
 use curve_law::Event;
-use event_list::word;
 use harmonics_text::Units;
 use zone_time::{Local, write_local};
 

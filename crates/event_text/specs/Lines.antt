@@ -1,11 +1,13 @@
--- The lines of a listing (the layout of XTide's plain listings; this project).
-use Rattle.std.specs.Prelude.{ℕ, ◌-◌, ℤ, List, ◌++◌, length, replicate, codes}
+-- The lines of events and levels (the layout of XTide's plain listings; this project).
+use Rattle.std.specs.Prelude.{ℕ, ◌-◌, ℤ, IsTrue, List, ◌++◌, length, replicate, codes}
 use Rattle.harmonics_text.specs.declared.book.Units.{Units}
 use Rattle.harmonics_text.specs.declared.book.Units.TheVariants.{Feet, Meters, Knots, KnotsSquared}
 use Rattle.curve_law.specs.declared.event.Event.{Event}
-use Rattle.event_list.specs.Words.{word_of, word_text}
+use Rattle.event_text.specs.Words.{has_word, word_of, word_text}
 use Rattle.zone_time.specs.declared.local.Local.{Local}
+use Rattle.zone_time.specs.declared.zone.Zone.{Zone}
 use Rattle.zone_time.specs.Locals.{local_text}
+use Rattle.zone_time.specs.Zones.{InZoneYears, local_in}
 use Rattle.decimal_text.specs.Rounding.{rounded_of}
 use Rattle.decimal_text.specs.Writing.{write_of}
 
@@ -33,3 +35,12 @@ unfoldable pub event_line_of : Local → Event → Units → List ℕ
 event_line_of local event units =
     height_line_of local event.level units ++ codes "  "
     ++ word_text (word_of units event.kind event.level) ++ codes "\n"
+
+-- an event that has a line by the clock of each zone
+pub record IsListed (units : Units) (event : Event) : Type 0 where
+  pub minute : InZoneYears event.minute
+  pub named : IsTrue (has_word units event.kind)
+
+-- an event's line by the clock of a zone
+abbrev pub event_line_in : Zone → Units → Event → List ℕ
+event_line_in zone units event = event_line_of (local_in zone event.minute) event units

@@ -1,7 +1,7 @@
 //! The names of units.
 
 ghost use Rattle.std.specs.Prelude.{◌≡◌, ◌≤◌, length};
-ghost use Rattle.listing.specs.Lines.{text_of_unit};
+ghost use Rattle.event_text.specs.Lines.{text_of_unit};
 
 use harmonics_text::Units;
 
