@@ -13,12 +13,13 @@ use decimal_text::Bytes;
 use harmonics_text::{Book, BookFault, read_book};
 use question::{AskFault, Command, Question, pairs_of_words, read_question};
 use rows::{ANSWERS, FAULTS, STREAMS, VERDICTS};
+use station_span::{worked_levels, worked_spans};
 use station_table::{OffsetFault, OffsetTable, read_offsets};
 use std::alloc::{AllocError, Global};
 use std::test::Fail;
 use tide_answer::{
     Fault, Given, accepted_is_true, answer, answer_alone, answer_into, certified_is_accepted,
-    fault_line, fault_status, prepare, worked_levels, worked_rows, worked_spans,
+    fault_line, fault_status, prepare, worked_rows,
 };
 use tide_edge::MemorySink;
 use tide_fault::worked_lines;

@@ -1,10 +1,7 @@
 pub mod Answers
 pub mod Asking
-pub mod Following
 pub mod Givens
 pub mod Laws
-pub mod Rejections
-pub mod Sites
 pub mod Streams
 pub mod Trials
 pub mod Workings

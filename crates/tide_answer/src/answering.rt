@@ -11,6 +11,7 @@ ghost use Rattle.tide_fault.specs.Faults.{wants_memory_of_refusal, IsToldRefusal
 ghost use Rattle.tide_answer.specs.Givens.{IsGiven};
 ghost use Rattle.zone_time.specs.Zones.{IsZone};
 
+use crate::alone::answer_alone;
 use crate::asking::{span_named, station_named};
 use crate::built::check_built;
 use crate::calendar::list_days;
@@ -78,6 +79,7 @@ fn answer_command(
         Command::Calendar => answer_calendar(alloc, book, table, question, zone),
         Command::Clock => answer_clock(alloc, book, table, question, given),
         Command::Stations => answer_stations(alloc, book, table),
+        Command::Sample | Command::Trial => answer_alone(alloc, question),
         _ => Err(Refusal::NotBuilt),
     }
 }

@@ -15,11 +15,10 @@ ghost use Rattle.tide_edge.specs.Faults.{faults_after};
 use crate::asking::{span_named, station_named};
 use crate::form::Form;
 use crate::given::Given;
-use crate::reach::Reach;
-use crate::station::find_station;
 use crate::streaming::Stream;
 use harmonics_text::Book;
 use question::{Command, Layout, Question};
+use station_span::{Reach, find_station};
 use station_table::{Basis, OffsetTable};
 use std::alloc::Global;
 use tide_edge::{Sink, WriteFailed};
@@ -90,6 +89,14 @@ pub fn answer_into<S: Sink>(ready: &Ready, out: &mut S) -> Result<u64, WriteFail
         Some(stream) => stream.write(out),
         None => unreachable!(),
     }
+}
+
+/// Whether the answers of a command can be written as they are found. Which of them are,
+/// [`Ready::streams`] says.
+pub fn can_stream(command: Command) -> bool
+    ensures { result ≡ can_stream command }
+{
+    matches!(command, Command::Predict | Command::Certify)
 }
 
 fn form_of(command: Command) -> Form
