@@ -11,7 +11,7 @@ mod lines;
 mod naming;
 mod unit;
 mod worked;
-mod worked_words;
+mod worked_names;
 
 pub use event_word::EventWord;
 pub use level::write_level;
@@ -19,4 +19,4 @@ pub use lines::{event_line, height_line};
 pub use naming::word;
 pub use unit::unit_text;
 pub use worked::{worked_levels, worked_lines};
-pub use worked_words::worked_words;
+pub use worked_names::worked_words;
