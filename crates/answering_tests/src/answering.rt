@@ -1,6 +1,7 @@
 //! Answers, streamed answers and refusals, over a pier and a stream.
 
 mod rows;
+mod sizes;
 
 ghost use Rattle.std.specs.Prelude.{IfOk};
 ghost use Rattle.harmonics_text.specs.Books.{IsBook};
@@ -154,6 +155,12 @@ fn seeds_have_their_trials(rt: HostRuntime) -> Result<(), Fail> {
         Ok(answer) => assert_eq!(rt; answer.text.as_slice(), TRIAL),
         Err(_) => return Err(Fail::from(AllocError)),
     }
+    assert_eq!(rt; told(alloc, "trial|seed=0", "")?.as_slice(), TRIAL);
+    let sample = told(alloc, "sample|seed=0", "")?;
+    assert_eq!(rt;
+        sample.as_slice().iter().filter(|b| **b == b'\n').count(),
+        8192
+    );
     Ok(())
 }
 

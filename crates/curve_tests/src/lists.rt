@@ -39,7 +39,11 @@ fn is_listed(units: Units, event: &Event) -> bool
 }
 
 // Minutes, kinds and levels as events, where they can be listed.
-fn events_of(alloc: Global, units: Units, items: &[(i64, Kind, i64)]) -> Result<Events, AllocError>
+pub fn events_of(
+    alloc: Global,
+    units: Units,
+    items: &[(i64, Kind, i64)],
+) -> Result<Events, AllocError>
     ensures { IfOk result (All (IsListed units)) }
 {
     let mut events = Vec::new(alloc);
@@ -56,7 +60,7 @@ fn events_of(alloc: Global, units: Units, items: &[(i64, Kind, i64)]) -> Result<
     Ok(Events::from_vec(events))
 }
 
-fn rows_of(alloc: Global, items: &[(i64, i64)]) -> Result<Rows, AllocError>
+pub fn rows_of(alloc: Global, items: &[(i64, i64)]) -> Result<Rows, AllocError>
     ensures { IfOk result (All (λ row. InZoneYears row.minute)) }
 {
     let mut rows = Vec::new(alloc);
