@@ -7,6 +7,7 @@ ghost use Rattle.event_list.specs.Shifts.{HasOffsets, IsMovable};
 use curve_law::samples::{Line, Ripple};
 use curve_law::{Cell, Cells, Curve, Event, Kind, Tracks};
 use event_list::*;
+use event_text::worked_words;
 use harmonics_text::Units;
 use interval_search::Search;
 use station_table::{Basis, Offset, Slack};
@@ -48,7 +49,7 @@ fn laws_and_rows_stand(_rt: HostRuntime) {
     accepted_events_can_be_moved();
     events_are_named();
     agreeing_curves_have_one_list();
-    worked_rows();
+    worked_words();
     worked_shifts();
     worked_orders();
     worked_stations();

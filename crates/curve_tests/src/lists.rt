@@ -1,10 +1,11 @@
 ghost use Rattle.std.specs.Prelude.{All, IfOk, IsTrue};
-ghost use Rattle.listing.specs.Listings.{IsListed};
+ghost use Rattle.event_text.specs.Lines.{IsListed};
 ghost use Rattle.zone_time.specs.Zones.{IsZone, InZoneYears};
 
 use arrayvec::ArrayString;
 use curve_law::{Event, Events, Kind};
 use decimal_text::Text;
+use event_text::{worked_levels, worked_lines};
 use harmonics_text::{Units, read_book};
 use listing::*;
 use station_table::read_offsets;
@@ -38,7 +39,11 @@ fn is_listed(units: Units, event: &Event) -> bool
 }
 
 // Minutes, kinds and levels as events, where they can be listed.
-fn events_of(alloc: Global, units: Units, items: &[(i64, Kind, i64)]) -> Result<Events, AllocError>
+pub fn events_of(
+    alloc: Global,
+    units: Units,
+    items: &[(i64, Kind, i64)],
+) -> Result<Events, AllocError>
     ensures { IfOk result (All (IsListed units)) }
 {
     let mut events = Vec::new(alloc);
@@ -55,7 +60,7 @@ fn events_of(alloc: Global, units: Units, items: &[(i64, Kind, i64)]) -> Result<
     Ok(Events::from_vec(events))
 }
 
-fn rows_of(alloc: Global, items: &[(i64, i64)]) -> Result<Rows, AllocError>
+pub fn rows_of(alloc: Global, items: &[(i64, i64)]) -> Result<Rows, AllocError>
     ensures { IfOk result (All (λ row. InZoneYears row.minute)) }
 {
     let mut rows = Vec::new(alloc);

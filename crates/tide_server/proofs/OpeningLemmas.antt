@@ -5,10 +5,10 @@ use Rattle.std.specs.Prelude.{codes}
 use Rattle.question.specs.declared.fault.AskFault.TheVariants.{MissingKey}
 use Rattle.question.specs.declared.key.Key.TheVariants as keys
 use Rattle.question.specs.declared.question.Question.{Question}
-use Rattle.tide_answer.specs.declared.fault.Fault.TheVariants.{Ask, Refused}
-use Rattle.tide_answer.specs.declared.refusal.Refusal.TheVariants as refusals
-use Rattle.tide_answer.specs.declared.status.Status.{Status}
-use Rattle.tide_answer.specs.declared.status.Status.TheVariants.{NoMemory}
+use Rattle.tide_fault.specs.declared.fault.Fault.TheVariants.{Ask, Refused}
+use Rattle.tide_fault.specs.declared.refusal.Refusal.TheVariants as refusals
+use Rattle.tide_fault.specs.declared.status.Status.{Status}
+use Rattle.tide_fault.specs.declared.status.Status.TheVariants.{NoMemory}
 use Rattle.tide_edge.specs.Doors.{Doorway}
 use Rattle.tide_edge.specs.Excuses.{Source, memory, outside, given, Excuses}
 use Rattle.tide_edge.specs.Faults.{faults_after}

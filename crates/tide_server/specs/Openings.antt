@@ -10,11 +10,11 @@ use Rattle.question.specs.declared.pairs.Pairs.{Pairs}
 use Rattle.question.specs.declared.question.Question.{Question}
 use Rattle.question.specs.Questions.{question_of}
 use Rattle.question.specs.Words.{pairs_of}
-use Rattle.tide_answer.specs.declared.fault.Fault.{Fault}
-use Rattle.tide_answer.specs.declared.fault.Fault.TheVariants.{Ask}
-use Rattle.tide_answer.specs.declared.slot.Slot.TheVariants as slots
-use Rattle.tide_answer.specs.declared.status.Status.{Status}
-use Rattle.tide_answer.specs.declared.status.Status.TheVariants.{Done, ReadFault, NoMemory}
+use Rattle.tide_fault.specs.declared.fault.Fault.{Fault}
+use Rattle.tide_fault.specs.declared.fault.Fault.TheVariants.{Ask}
+use Rattle.tide_fault.specs.declared.slot.Slot.TheVariants as slots
+use Rattle.tide_fault.specs.declared.status.Status.{Status}
+use Rattle.tide_fault.specs.declared.status.Status.TheVariants.{Done, ReadFault, NoMemory}
 use Rattle.tide_edge.specs.Doors.{Doorway}
 use Rattle.tide_edge.specs.Excuses.{Excuses}
 use Rattle.tide_edge.specs.Faults.{faults_after}

@@ -4,7 +4,7 @@ ghost use Rattle.std.specs.Prelude.{◌≡◌, ◌+◌, ◌≤◌, [], Some, IsO
 ghost use Rattle.decimal_text.specs.Expected.{Gives};
 ghost use Rattle.question.specs.Questions.{wants_memory as ask_wants_memory};
 ghost use Rattle.question.specs.Words.{pairs_of};
-ghost use Rattle.tide_answer.specs.Faults.{wants_memory, IsTold as IsToldFault};
+ghost use Rattle.tide_fault.specs.Faults.{wants_memory, IsTold as IsToldFault};
 ghost use Rattle.tide_edge.specs.Faults.{faults_after};
 ghost use Rattle.tide_desk.specs.NoAnswers.{IsTold, reading_failed, source_of};
 ghost use Rattle.tide_desk.specs.Readings.{Folders, StopsAtLimit, file_named, files_named};

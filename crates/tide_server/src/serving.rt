@@ -2,9 +2,9 @@
 
 ghost use Rattle.std.specs.Prelude.{◌≡◌, ◌++◌, ◌≤◌, ◌+◌, ℕ, Bool, true, false, [], IsOk, IfOk, Some, None, Err, decimal, is_err};
 ghost use Rattle.arrayvec.specs.ArrayString.{array_string_len};
-ghost use Rattle.tide_answer.specs.declared.fault.Fault.{Fault};
-ghost use Rattle.tide_answer.specs.declared.slot.Slot.{Slot};
-ghost use Rattle.tide_answer.specs.declared.status.Status.{Status};
+ghost use Rattle.tide_fault.specs.declared.fault.Fault.{Fault};
+ghost use Rattle.tide_fault.specs.declared.slot.Slot.{Slot};
+ghost use Rattle.tide_fault.specs.declared.status.Status.{Status};
 ghost use Rattle.tide_edge.specs.Doors.{asked};
 ghost use Rattle.tide_desk.specs.Outcomes.{Wrote, is_read_fault};
 ghost use Rattle.tide_desk.specs.declared.no_answer.NoAnswer.{NoAnswer};
