@@ -13,4 +13,6 @@ mod lists;
 #[cfg(test)]
 mod rates;
 #[cfg(test)]
+mod sizes;
+#[cfg(test)]
 mod stations;
