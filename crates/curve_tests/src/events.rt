@@ -55,7 +55,7 @@ fn laws_and_rows_stand(_rt: HostRuntime) {
     worked_stations();
 }
 
-fn event(minute: i64, kind: Kind, level: i64) -> Event {
+pub fn event(minute: i64, kind: Kind, level: i64) -> Event {
     Event {
         minute,
         kind,
@@ -64,7 +64,7 @@ fn event(minute: i64, kind: Kind, level: i64) -> Event {
 }
 
 // Highs 30 minutes later at 1.1 times the level and 0.1 more, lows 10 minutes earlier at 0.9 times.
-fn dock(slack: Option<Slack>) -> Basis
+pub fn dock(slack: Option<Slack>) -> Basis
     requires { ForSome slack IsSlack }
     ensures { HasOffsets result }
 {
@@ -86,7 +86,7 @@ fn dock(slack: Option<Slack>) -> Basis
 }
 
 // Whether the events can be moved.
-fn are_movable(events: &[Event]) -> bool
+pub fn are_movable(events: &[Event]) -> bool
     ensures { IsTrue result → All IsMovable events.now }
 {
     events.iter().all(|event| is_movable(event))
@@ -190,8 +190,24 @@ fn events_come_one_at_a_time(rt: HostRuntime) -> Result<(), Fail> {
     Ok(())
 }
 
+// How many cells the searches have given after each event.
+#[test]
+fn cells_are_counted_as_they_are_given(rt: HostRuntime) {
+    let mut merge = Merge::new(
+        Search::new(Line::new(-2, false, 1), 0, 3),
+        Some(Search::new(Ripple::new(), 0, 3)),
+        None,
+    );
+    assert_eq!(rt; merge.cells(), 0);
+    for (minute, cells) in [(0, 4), (1, 5), (2, 6), (2, 6)] {
+        let given = merge.next().map(|event| event.minute);
+        assert_eq!(rt; given, Some(minute));
+        assert_eq!(rt; merge.cells(), cells);
+    }
+}
+
 // The events that are left.
-fn taken<A: Curve, B: Curve>(
+pub fn taken<A: Curve, B: Curve>(
     alloc: Global,
     merge: &mut Merge<A, B>,
 ) -> Result<Vec<Event>, AllocError>

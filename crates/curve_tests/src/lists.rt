@@ -74,7 +74,7 @@ pub fn rows_of(alloc: Global, items: &[(i64, i64)]) -> Result<Rows, AllocError>
 }
 
 // The zone that is so many minutes ahead of universal time, which it is where that is 0.
-fn zone_of(ahead: i32) -> Zone
+pub fn zone_of(ahead: i32) -> Zone
     ensures { IsZone result }
 {
     if ahead == 0 || !(-1560..=1560).contains(&ahead) {
@@ -245,12 +245,13 @@ fn clocks_are_told(rt: HostRuntime) -> Result<(), Fail> {
     Ok(())
 }
 
-const BOOK: &[u8] = b"1\nS2 30\n1999\n1\nS2\n0\n*END*\n1\nS2\n1\n*END*\n\
+pub const BOOK: &[u8] = b"1\nS2 30\n1999\n1\nS2\n0\n*END*\n1\nS2\n1\n*END*\n\
     Pier\n0:00 :UTC\n0 feet\nS2 1 0\n\
     Gate\n0:00 :UTC\n0 knots^2\nS2 1 0\n\
     Pier\n0:00 :UTC\n0 meters\nS2 1 0\n";
 
-const TABLE: &[u8] = b"name,reference,high_add,low_add,high_times,low_times,high_plus,low_plus\n\
+pub const TABLE: &[u8] =
+    b"name,reference,high_add,low_add,high_times,low_times,high_plus,low_plus\n\
     Dock,Pier,0:30,-0:10,1.1,0.9,0.1,0\n\
     \"Outer, east\",Gate,,,,,,\n\
     Lost,Nowhere,,,,,,\n\

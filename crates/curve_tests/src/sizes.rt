@@ -1,109 +1,228 @@
-//! Lists of the sizes that users have: a year of events and levels, a long name, many stations.
+//! The events of a year, and lists of the sizes that users have.
 
-ghost use Rattle.std.specs.Prelude.{All, IfOk};
-ghost use Rattle.event_text.specs.Lines.{IsListed};
-ghost use Rattle.zone_time.specs.Zones.{InZoneYears};
+ghost use Rattle.std.specs.Prelude.{◌≤◌, IfOk};
+ghost use Rattle.std.specs.Option.{ForSome};
+ghost use Rattle.curve_law.specs.Cells.{all_minutes};
 
-use crate::lists::{events_of, rows_of};
-use calendar_sheet::calendar_text;
-use curve_law::{Events, Kind};
+use crate::events::{are_movable, dock, event, taken};
+use crate::lists::{BOOK, TABLE, events_of, rows_of, zone_of};
+use crate::rates::pier;
+use curve_law::{Cells, Curve, Event, Kind, Tracks};
 use decimal_text::Text;
+use event_list::{Merge, merged, shifted, track_events};
 use harmonics_text::{Units, read_book};
-use listing::{
-    Rows, clock_text, csv_events, csv_heights, plain_events, plain_heights, stations_text,
-};
-use station_table::OffsetTable;
+use interval_search::{Search, search};
+use listing::{clock_text, csv_events, csv_heights, plain_events, plain_heights, stations_text};
+use rate_bound::{MarkCurve, TurnCurve};
+use station_curve::StationCurve;
+use station_table::read_offsets;
 use std::alloc::{AllocError, Global};
 use std::test::Fail;
-use zone_time::Zone;
 
-// From 2000-01-01T00:00Z to 2001-01-01T00:00Z.
+/// The first minute of 2000, and of 2001.
 const BEGIN: i64 = 15_778_080;
 
 const END: i64 = 16_305_120;
 
-// 400 bytes.
-const NAME: &str =
-    "0123456789abcdefghijklmnopqrstuvwxyz0123456789abcdefghijklmnopqrstuvwxyz01234567\
-    0123456789abcdefghijklmnopqrstuvwxyz0123456789abcdefghijklmnopqrstuvwxyz01234567\
-    0123456789abcdefghijklmnopqrstuvwxyz0123456789abcdefghijklmnopqrstuvwxyz01234567\
-    0123456789abcdefghijklmnopqrstuvwxyz0123456789abcdefghijklmnopqrstuvwxyz01234567\
-    0123456789abcdefghijklmnopqrstuvwxyz0123456789abcdefghijklmnopqrstuvwxyz01234567";
-
-// A low and a high water after the other, 1,412 of them, one foot below and above 0.
-fn events_of_year(alloc: Global) -> Result<Events, AllocError>
-    ensures { IfOk result (All (IsListed Units.Feet)) }
+/// The cells of a curve from one minute to another; none where it doesn't tell them.
+fn cells_of<C: Curve>(
+    alloc: Global,
+    curve: &mut C,
+    begin: i64,
+    end: i64,
+) -> Result<Option<Cells>, AllocError>
+    ensures { IfOk result (λ cells. ForSome cells (λ cells. all_minutes cells ≤ 6000000)) }
 {
-    let mut items = Vec::new(alloc);
-    for place in 0..1412_u16 {
-        let minute = BEGIN + i64::from(place) * 373;
-        if place % 2 == 0 {
-            items.push((minute, Kind::Low, -1_000_000))?;
-        } else {
-            items.push((minute, Kind::High, 1_000_000))?;
-        }
+    let first = curve.first();
+    let last = curve.last();
+    if begin < first || last < end || end < begin || curve.evaluations() > 0 {
+        return Ok(None);
     }
-    events_of(alloc, Units::Feet, items.as_slice())
+    if begin < -10_000_000_000 || 10_000_000_000 < end || 6_000_000 < end - begin {
+        return Ok(None);
+    }
+    Ok(Some(search(alloc, curve, begin, end)?))
 }
 
-// The same levels from hour to hour, 8,784 of them.
-fn rows_of_year(alloc: Global) -> Result<Rows, AllocError>
-    ensures { IfOk result (All (λ row. InZoneYears row.minute)) }
-{
-    let mut items = Vec::new(alloc);
-    for place in 0..8784_u16 {
-        let level = if place % 2 == 0 {
-            -1_000_000
-        } else {
-            1_000_000
-        };
-        items.push((BEGIN + i64::from(place) * 60, level))?;
-    }
-    rows_of(alloc, items.as_slice())
+// Twice a day a tide of half a day is low at 6 and 18 o'clock, and high before noon and midnight.
+fn is_a_year(events: &[Event]) -> bool {
+    events.len() == 1_464
+        && events.first() == Some(&event(BEGIN + 360, Kind::Low, -1_000_000))
+        && events.last() == Some(&event(END - 1, Kind::High, 999_962))
 }
 
 #[test]
-fn years_are_listed_below_a_long_name(rt: HostRuntime) -> Result<(), Fail> {
+fn a_year_has_its_events(rt: HostRuntime) -> Result<(), Fail> {
     let alloc = rt.alloc();
-    let name = Text::from_str(alloc, NAME)?;
-    let events = events_of_year(alloc)?;
-    let rows = rows_of_year(alloc)?;
-    let plain = plain_events(alloc, &name, Units::Feet, &events, &Zone::Utc)?;
-    assert_eq!(rt; plain.as_slice().len(), 67_471);
-    let csv = csv_events(alloc, &name, Units::Feet, &events, &Zone::Utc)?;
-    assert_eq!(rt; csv.as_slice().len(), 649_559);
-    let heights = plain_heights(alloc, &name, Units::Feet, &rows, &Zone::Utc)?;
-    assert_eq!(rt; heights.as_slice().len(), 325_409);
-    let records = csv_heights(alloc, &name, Units::Feet, &rows, &Zone::Utc)?;
-    assert_eq!(rt; records.as_slice().len(), 3_957_225);
-    let clock = clock_text(
-        alloc,
-        &name,
-        Units::Feet,
-        BEGIN,
-        0,
-        false,
-        &events,
-        &Zone::Utc,
-    )?;
-    assert_eq!(rt; clock.as_slice().len(), 67_521);
-    let calendar = calendar_text(alloc, &name, Units::Feet, &events, &Zone::Utc, BEGIN, END)?;
-    assert_eq!(rt; calendar.as_slice().len(), 35_491);
+    let book = pier(alloc, "0")?;
+    assert_eq!(rt; book.stations.as_slice().len(), 1);
+    let station = StationCurve::new(alloc, &book, 0)?;
+    let mut curve = TurnCurve::blended(&station);
+    let cells = cells_of(alloc, &mut curve, BEGIN, END)?.ok_or("the year is told")?;
+    assert_eq!(rt; cells.as_slice().len(), 20_553);
+    assert!(rt; curve.evaluations() <= 20_554);
+    let turns = track_events(alloc, &cells, BEGIN)?;
+    assert!(rt; is_a_year(turns.as_slice()));
+    let tracks = Tracks {
+        turn: cells,
+        slack: None,
+        mark: None,
+    };
+    let events = merged(alloc, &tracks, BEGIN)?;
+    assert!(rt; events.as_slice() == turns.as_slice());
+    assert!(rt; are_movable(events.as_slice()));
+    let moved = shifted(alloc, &events, &dock(None), BEGIN, END)?;
+    assert_eq!(rt; moved.as_slice().len(), 1_463);
+    assert_eq!(rt;
+        moved.as_slice().last(),
+        Some(&event(END - 370, Kind::Low, -900_000))
+    );
     Ok(())
 }
 
-// 2,000 stations.
+/// The events of a curve one at a time, and how many cells they were found in.
+fn merged_one_by_one<C: Curve + Drop>(
+    alloc: Global,
+    curve: C,
+    begin: i64,
+    end: i64,
+) -> Result<Option<(Vec<Event>, u64)>, AllocError> {
+    if end < begin || curve.evaluations() > 0 || begin < curve.first() || curve.last() < end {
+        return Ok(None);
+    }
+    let mut merge: Merge<C, C> = Merge::new(Search::new(curve, begin, end), None, None);
+    let events = taken(alloc, &mut merge)?;
+    Ok(Some((events, merge.cells())))
+}
+
+#[test]
+fn a_year_comes_one_event_at_a_time(rt: HostRuntime) -> Result<(), Fail> {
+    let alloc = rt.alloc();
+    let book = pier(alloc, "0")?;
+    assert_eq!(rt; book.stations.as_slice().len(), 1);
+    let station = StationCurve::new(alloc, &book, 0)?;
+    let turns = merged_one_by_one(alloc, TurnCurve::blended(&station), BEGIN, END)?;
+    let (events, cells) = turns.ok_or("the year is told")?;
+    assert!(rt; is_a_year(events.as_slice()));
+    assert_eq!(rt; cells, 20_553);
+    let mark = MarkCurve::blended(&station, 1_000_000, 0, 500_000, false);
+    let marks = merged_one_by_one(alloc, mark, BEGIN, END)?;
+    let (events, cells) = marks.ok_or("the year is told")?;
+    assert_eq!(rt; events.len(), 1_464);
+    assert_eq!(rt; cells, 19_767);
+    Ok(())
+}
+
+// Minutes, kinds and levels of a year's tide of half a day.
+fn year_of_tide(alloc: Global) -> Result<Vec<(i64, Kind, i64)>, AllocError> {
+    let mut items = Vec::new(alloc);
+    for day in 0..366i64 {
+        let midnight = BEGIN + 1_440 * day;
+        items.push((midnight + 360, Kind::Low, -1_000_000))?;
+        items.push((midnight + 719, Kind::High, 999_962))?;
+        items.push((midnight + 1_080, Kind::Low, -1_000_000))?;
+        items.push((midnight + 1_439, Kind::High, 999_962))?;
+    }
+    Ok(items)
+}
+
+/// Whether a text begins and ends with others, and how many bytes it has.
+fn has_form(text: &[u8], len: usize, begin: &str, end: &str) -> bool {
+    text.len() == len && text.starts_with(begin.as_bytes()) && text.ends_with(end.as_bytes())
+}
+
+#[test]
+fn a_years_events_are_listed(rt: HostRuntime) -> Result<(), Fail> {
+    let alloc = rt.alloc();
+    let name = Text::from_str(alloc, "Pier")?;
+    let items = year_of_tide(alloc)?;
+    let events = events_of(alloc, Units::Feet, items.as_slice())?;
+    let zone = zone_of(0);
+    let plain = plain_events(alloc, &name, Units::Feet, &events, &zone)?;
+    let last = "2000-12-31 23:59 UTC       1.00 feet  High Tide\n";
+    assert!(rt;
+        has_form(
+            plain.as_slice(),
+            69_545,
+            "Pier\n2000-01-01 06:00 UTC      -1.00 feet  Low Tide\n",
+            last
+        )
+    );
+    let told = clock_text(alloc, &name, Units::Feet, BEGIN, 0, true, &events, &zone)?;
+    assert!(rt;
+        has_form(
+            told.as_slice(),
+            69_594,
+            "Pier\nNow 2000-01-01 00:00 UTC       0.00 feet  Rising\n",
+            last
+        )
+    );
+    let csv = csv_events(alloc, &name, Units::Feet, &events, &zone)?;
+    assert!(rt;
+        has_form(
+            csv.as_slice(),
+            93_735,
+            "station,moment,local,event,level,units\nPier,2000-01-01T06:00Z,2000-01-01 06:00,",
+            "Pier,2000-12-31T23:59Z,2000-12-31 23:59,High Tide,0.999962,feet\n"
+        )
+    );
+    Ok(())
+}
+
+#[test]
+fn many_heights_are_listed(rt: HostRuntime) -> Result<(), Fail> {
+    let alloc = rt.alloc();
+    let name = Text::from_str(alloc, "Pier")?;
+    let mut items = Vec::new(alloc);
+    for row in 0..100_000i64 {
+        items.push((BEGIN + row, 1_000_000))?;
+    }
+    let rows = rows_of(alloc, items.as_slice())?;
+    let zone = zone_of(0);
+    let plain = plain_heights(alloc, &name, Units::Feet, &rows, &zone)?;
+    assert!(rt;
+        has_form(
+            plain.as_slice(),
+            3_700_005,
+            "Pier\n2000-01-01 00:00 UTC       1.00 feet\n",
+            "\n2000-03-10 10:39 UTC       1.00 feet\n"
+        )
+    );
+    let csv = csv_heights(alloc, &name, Units::Feet, &rows, &zone)?;
+    assert!(rt;
+        has_form(
+            csv.as_slice(),
+            5_400_033,
+            "station,moment,local,level,units\nPier,2000-01-01T00:00Z,2000-01-01 00:00,1.000000,feet\n",
+            "\nPier,2000-03-10T10:39Z,2000-03-10 10:39,1.000000,feet\n"
+        )
+    );
+    Ok(())
+}
+
 #[test]
 fn many_stations_are_listed(rt: HostRuntime) -> Result<(), Fail> {
     let alloc = rt.alloc();
-    let mut file = String::from_str(alloc, "1\nS2 30\n1999\n1\nS2\n0\n*END*\n1\nS2\n1\n*END*\n")?;
-    for _place in 0..2000 {
-        file.push_str("Pier\n0:00 :UTC\n0 feet\nS2 1 0\n")?;
+    let mut file = Vec::from_slice(alloc, BOOK)?;
+    let mut rows = Vec::from_slice(alloc, TABLE)?;
+    for _ in 0..2_000u32 {
+        file.extend_from_slice(b"Pier\n0:00 :UTC\n0 feet\nS2 1 0\n")?;
+        rows.extend_from_slice(b"Dock,Gate,,,,,,\n")?;
     }
-    if file.len() <= 400_000_000 {
-        let book = read_book(alloc, file.as_bytes())?;
-        let text = stations_text(alloc, &book, &OffsetTable::new(alloc))?;
-        assert_eq!(rt; text.as_slice().len(), 28_000);
-    }
+    assert!(rt; file.len() < 1_000_000);
+    assert!(rt; rows.len() < 1_000_000);
+    let book = read_book(alloc, file.as_slice()).ok().ok_or("a book")?;
+    let table = read_offsets(alloc, rows.as_slice()).ok().ok_or("a table")?;
+    let text = stations_text(alloc, &book, &table)?;
+    assert!(rt;
+        has_form(
+            text.as_slice(),
+            76_138,
+            "Ref feet Pier\nRef knots^2 Gate\nRef meters Pier\nRef feet Pier\n",
+            "Sub - Pier (Dock)\nSub knots^2 Dock (Gate)\n"
+        ),
+        "{}",
+        text.as_slice().len()
+    );
     Ok(())
 }
