@@ -24,4 +24,4 @@ pub returns-clause-streams : goal.returns-clause-streams
 returns-clause-streams g c =
     let whole = plain_is_whole c.args.asked.now c.args.found.now _ c.requires.ready c.merge_of-merge.ensures.left c.requires.plain in
     let sends = rw whole at c.in_ok-send_listing.ensures.sends in
-    (c.cells.ensures ∙ c.in_ok-send_listing.ensures.cells ∙ c.merge_of-merge.ensures.all, sends.2)
+    (c.cells.ensures.value ∙ c.in_ok-send_listing.ensures.cells ∙ c.merge_of-merge.ensures.all, sends.2)
