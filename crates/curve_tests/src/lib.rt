@@ -16,3 +16,5 @@ mod rates;
 mod sizes;
 #[cfg(test)]
 mod stations;
+#[cfg(test)]
+mod year_lists;

@@ -5,14 +5,14 @@ ghost use Rattle.std.specs.Option.{ForSome};
 ghost use Rattle.curve_law.specs.Cells.{all_minutes};
 
 use crate::events::{are_movable, dock, event, taken};
-use crate::lists::{BOOK, TABLE, events_of, rows_of, zone_of};
+use crate::lists::{BOOK, TABLE, rows_of, zone_of};
 use crate::rates::pier;
 use curve_law::{Cells, Curve, Event, Kind, Tracks};
 use decimal_text::Text;
 use event_list::{Merge, merged, shifted, track_events};
 use harmonics_text::{Units, read_book};
 use interval_search::{Search, search};
-use listing::{clock_text, csv_events, csv_heights, plain_events, plain_heights, stations_text};
+use listing::{csv_heights, plain_heights, stations_text};
 use rate_bound::{MarkCurve, TurnCurve};
 use station_curve::StationCurve;
 use station_table::read_offsets;
@@ -113,60 +113,9 @@ fn a_year_comes_one_event_at_a_time(rt: HostRuntime) -> Result<(), Fail> {
     Ok(())
 }
 
-// Minutes, kinds and levels of a year's tide of half a day.
-fn year_of_tide(alloc: Global) -> Result<Vec<(i64, Kind, i64)>, AllocError> {
-    let mut items = Vec::new(alloc);
-    for day in 0..366i64 {
-        let midnight = BEGIN + 1_440 * day;
-        items.push((midnight + 360, Kind::Low, -1_000_000))?;
-        items.push((midnight + 719, Kind::High, 999_962))?;
-        items.push((midnight + 1_080, Kind::Low, -1_000_000))?;
-        items.push((midnight + 1_439, Kind::High, 999_962))?;
-    }
-    Ok(items)
-}
-
 /// Whether a text begins and ends with others, and how many bytes it has.
 fn has_form(text: &[u8], len: usize, begin: &str, end: &str) -> bool {
     text.len() == len && text.starts_with(begin.as_bytes()) && text.ends_with(end.as_bytes())
-}
-
-#[test]
-fn a_years_events_are_listed(rt: HostRuntime) -> Result<(), Fail> {
-    let alloc = rt.alloc();
-    let name = Text::from_str(alloc, "Pier")?;
-    let items = year_of_tide(alloc)?;
-    let events = events_of(alloc, Units::Feet, items.as_slice())?;
-    let zone = zone_of(0);
-    let plain = plain_events(alloc, &name, Units::Feet, &events, &zone)?;
-    let last = "2000-12-31 23:59 UTC       1.00 feet  High Tide\n";
-    assert!(rt;
-        has_form(
-            plain.as_slice(),
-            69_545,
-            "Pier\n2000-01-01 06:00 UTC      -1.00 feet  Low Tide\n",
-            last
-        )
-    );
-    let told = clock_text(alloc, &name, Units::Feet, BEGIN, 0, true, &events, &zone)?;
-    assert!(rt;
-        has_form(
-            told.as_slice(),
-            69_594,
-            "Pier\nNow 2000-01-01 00:00 UTC       0.00 feet  Rising\n",
-            last
-        )
-    );
-    let csv = csv_events(alloc, &name, Units::Feet, &events, &zone)?;
-    assert!(rt;
-        has_form(
-            csv.as_slice(),
-            93_735,
-            "station,moment,local,event,level,units\nPier,2000-01-01T06:00Z,2000-01-01 06:00,",
-            "Pier,2000-12-31T23:59Z,2000-12-31 23:59,High Tide,0.999962,feet\n"
-        )
-    );
-    Ok(())
 }
 
 #[test]
