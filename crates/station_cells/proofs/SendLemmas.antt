@@ -54,8 +54,11 @@ sends_sum before now after sent done text rest n k both sum result first second 
     rw (← sum) (sends_then before now after sent done text rest n k result first second)
 
 -- nothing as yet
+pub same_state : (s : SinkState) → s ≡ put [] s
+same_state s = sym (put_none s)
+
 pub sends_none : (before : SinkState) (sent : Sent) → Sends before before sent [] 0 (Ok sent)
-sends_none before sent = (omega arith, omega arith, sym (put_none before))
+sends_none before sent = (omega arith, omega arith, same_state before)
 
 -- ---- lines on a page
 

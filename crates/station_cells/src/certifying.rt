@@ -16,6 +16,7 @@ use interval_search::Search;
 use tide_edge::{Sink, WriteFailed};
 
 /// Writes a track, if there is a search for it.
+#[tactic(auto, using(crate::proofs::SendLemmas::same_state))]
 pub fn send_if_followed<C: Curve + Drop, S: Sink>(
     out: &mut S,
     sent: Sent,

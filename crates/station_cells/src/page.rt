@@ -23,6 +23,7 @@ impl Page {
     }
 
     /// Puts a line on the page. What is there is written first where the line has no room after it.
+    #[tactic(auto, using(crate::proofs::SendLemmas::same_state))]
     pub fn put<S: Sink>(&mut self, out: &mut S, sent: Sent, line: &str) -> Result<Sent, WriteFailed>
         requires short { length line.now ≤ 4096 }
         requires few { sent.bytes + length self.old.text.bytes < 2 ^ 64 }
