@@ -1,7 +1,7 @@
+pub mod AnsweringLemmas
 pub mod AskedLemmas
 pub mod CertificateLemmas
 pub mod FileLemmas
 pub mod OutcomeLemmas
-pub mod ReadingLemmas
 pub mod ReplyLemmas
 pub mod TableLemmas

@@ -1,7 +1,4 @@
 pub mod Answers
 pub mod Laws
-pub mod NoAnswers
 pub mod Outcomes
-pub mod Readings
-pub mod Worked
 pub mod Workings
