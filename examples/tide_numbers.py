@@ -41,7 +41,7 @@ class Refused(Exception):
 
 def tokens(line):
     """What stands between spaces and tabs."""
-    return re.findall('[^ \\t]+', line)
+    return re.findall('[^ \t]+', line)
 
 
 def decimal(text, places):
