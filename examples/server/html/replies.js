@@ -2,7 +2,6 @@ const WORDS = [
   [/^refused: no station$/, 'There is no station of this name here. Look for a part of it above.'],
   [/^refused: no reference/, 'The station is known by its differences from another, which the file of constants lacks.'],
   [/^refused: hydraulic$/, 'This is a hydraulic current, given as a difference of water levels, which is not predicted.'],
-  [/^refused: backward span$/, 'The time asked ends before it begins.'],
   [/^refused: out of years: file has (.*) to (.*)$/, 'The constants reach from $1 to $2. Choose a date between them.'],
   [/^refused: mark not here$/, 'There is no sill here: this station is known by its high and low waters alone, not by the curve between.'],
   [/^refused: level not here$/, 'There is no curve here: this station is known by its high and low waters alone, whose offsets differ.'],
