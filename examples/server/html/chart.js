@@ -1,4 +1,3 @@
-/* global Dygraph */
 import { isMark, isSlack, isTop } from './events.js';
 import { clockAt, dateText, startOfDay } from './zones.js';
 

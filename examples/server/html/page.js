@@ -44,8 +44,6 @@ function noteOf(error) {
   return element('div', { className: 'note' }, error.message, ...(error.line ? [' ', element('code', {}, error.line)] : []));
 }
 
-// Finding a station
-
 function foundLine({ name, units, isCurrent, reference }) {
   const kind = isCurrent ? 'current' : 'tide';
   return element('li', {}, element('a', { href: addressOf({ station: name, sill: null }) },
@@ -70,8 +68,6 @@ function moveAmongFound(press) {
   stops[stops.indexOf(document.activeElement) + step]?.focus();
   press.preventDefault();
 }
-
-// Asking
 
 /** What is asked, or, where it is refused with a line, something else, and why. */
 async function orElse(asked, line, other) {
@@ -106,8 +102,6 @@ async function askAll(asking) {
   return { ...asking, sill, events, levels, known, units, above, dates, begin, end, notes: [...whyNoSill, ...whyNoCurve] };
 }
 
-// Showing
-
 function aboutLine(answer) {
   const { units, known, zone, sill, view, date } = answer;
   const parts = [`${units.startsWith('knots') ? 'Current' : 'Tide'}, in ${units}`, `clock of ${zone} (${offsetsOf(answer).join(', ')})`];
@@ -121,7 +115,7 @@ function aboutLine(answer) {
 function showCurve(answer) {
   graph?.destroy();
   graph = null;
-  place('chart').hidden = answer.view === 'month' || answer.levels.length === 0;
+  place('chart').hidden = answer.view === 'month' || answer.levels.length === 0 || !window.Dygraph;
   place('told').textContent = '';
   if (place('chart').hidden) return;
   const shown = new Map([...answer.levels, ...answer.events].map(point => [point.moment, point.shown]));
