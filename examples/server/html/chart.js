@@ -1,5 +1,5 @@
 import { isMark, isSlack, isTop } from './events.js';
-import { clockAt, dateText, startOfDay } from './zones.js';
+import { dateText, startOfDay } from './zones.js';
 
 const INK = '#1a2a3a', WATER = '#0b5394', SILL = '#b3541e', NOW = '#a61c3c';
 
@@ -21,7 +21,7 @@ function drawName(context, text, x, y, isAbove) {
   context.restore();
 }
 
-function drawEvent(context, x, y, event, zone) {
+function drawEvent(context, x, y, event) {
   const color = isMark(event) ? SILL : WATER;
   Object.assign(context, { fillStyle: isSlack(event) ? '#fff' : color, strokeStyle: color, lineWidth: 1.5 });
   context.beginPath();
@@ -29,7 +29,7 @@ function drawEvent(context, x, y, event, zone) {
   context.fill();
   context.stroke();
   const name = event.event.replace(/^Max | Tide$| (Flood|Ebb) Begins$/, '');
-  if (!isMark(event)) drawName(context, `${name} ${clockAt(event.moment, zone).time}`, x, y, isTop(event));
+  if (!isMark(event)) drawName(context, `${name} ${event.clock.time}`, x, y, isTop(event));
 }
 
 function drawLine(context, color, from, to, text) {
@@ -80,7 +80,7 @@ export function drawChart(box, { levels, events, dates, zone, sill, tell }) {
       event: {
         strokeWidth: 0, drawPoints: true, pointSize: 4, highlightCircleSize: 0,
         drawPointCallback: (graph, name, context, x, y, color, size, row) =>
-          drawEvent(context, x, y, named.get(graph.getValue(row, 0)), zone),
+          drawEvent(context, x, y, named.get(graph.getValue(row, 0))),
       },
     },
     axes: { x: { ticker: () => ticks, axisLabelWidth: 100 }, y: { axisLabelWidth: 40 } },

@@ -1,7 +1,7 @@
 import { drawChart } from './chart.js';
 import { readPoints, timesAbove } from './events.js';
 import { ask, NoAnswer } from './replies.js';
-import { element, monthSheet, offsetsOf, weekSheet } from './sheets.js';
+import { element, monthSheet, weekSheet } from './sheets.js';
 import { findStations, readStations } from './stations.js';
 import {
   browserZone, clockAt, dateText, daysLater, isDate, isZone, momentText, monthsLater, startOfDay, zoneNames,
@@ -87,7 +87,8 @@ async function askAll(asking) {
   while (dates.at(-1) !== after) dates.push(daysLater(dates.at(-1), 1));
   const [begin, end] = [first, after].map(date => startOfDay(date, asking.zone));
   const span = { station: asking.station, begin: momentText(begin), end: momentText(end), layout: 'csv' };
-  const points = (path, words) => ask(path, { ...span, ...words }).then(readPoints);
+  const points = async (path, words) => readPoints(await ask(path, { ...span, ...words }))
+    .map(point => ({ ...point, clock: clockAt(point.moment, asking.zone) }));
   const unmarked = () => points('predict', {});
   const marked = asking.sill === null ? unmarked() : points('predict', { mark: asking.sill });
   const [events, whyNoSill] = await orElse(marked, 'refused: mark not here', unmarked);
@@ -99,12 +100,13 @@ async function askAll(asking) {
   const above = sill === null ? [] : timesAbove(events, begin, end, levels[0].level > Number(sill));
   const known = stations.find(({ name }) => name === asking.station);
   const units = events[0]?.units ?? known?.units ?? '';
-  return { ...asking, sill, events, levels, known, units, above, dates, begin, end, notes: [...whyNoSill, ...whyNoCurve] };
+  const clocks = [clockAt(begin, asking.zone), ...events.map(({ clock }) => clock), clockAt(end - 60_000, asking.zone)];
+  const offsets = [...new Set(clocks.map(({ offset }) => offset))];
+  return { ...asking, sill, events, levels, known, units, offsets, above, dates, notes: [...whyNoSill, ...whyNoCurve] };
 }
 
-function aboutLine(answer) {
-  const { units, known, zone, sill, view, date } = answer;
-  const parts = [`${units.startsWith('knots') ? 'Current' : 'Tide'}, in ${units}`, `clock of ${zone} (${offsetsOf(answer).join(', ')})`];
+function aboutLine({ units, known, zone, offsets, sill, view, date }) {
+  const parts = [`${units.startsWith('knots') ? 'Current' : 'Tide'}, in ${units}`, `clock of ${zone} (${offsets.join(', ')})`];
   if (known?.reference) parts.push(`by differences from ${known.reference}`);
   if (sill !== null) parts.push(`sill at ${sill} ${units}`);
   const when = view === 'month' ? dateText(date, { month: 'long', year: 'numeric' })
@@ -118,10 +120,10 @@ function showCurve(answer) {
   place('chart').hidden = answer.view === 'month' || answer.levels.length === 0 || !window.Dygraph;
   place('told').textContent = '';
   if (place('chart').hidden) return;
-  const shown = new Map([...answer.levels, ...answer.events].map(point => [point.moment, point.shown]));
+  const points = new Map([...answer.levels, ...answer.events].map(point => [point.moment, point]));
   const tell = moment => {
-    const { date, time, offset } = moment === null ? {} : clockAt(moment, answer.zone);
-    place('told').textContent = moment === null ? '' : `${dateText(date)} ${time} ${offset}: ${shown.get(moment)} ${answer.units}`;
+    const { shown, clock } = points.get(moment) ?? {};
+    place('told').textContent = clock ? `${dateText(clock.date)} ${clock.time} ${clock.offset}: ${shown} ${answer.units}` : '';
   };
   place('chart').setAttribute('aria-label', `The curve of the week in ${answer.units}. The tables below have its events.`);
   graph = drawChart(place('curve'), { ...answer, sill: answer.sill === null ? null : Number(answer.sill), tell });

@@ -16,31 +16,26 @@ export function element(name, traits = {}, ...children) {
 const cell = (text, className = '') => element('td', { className }, text);
 const head = (text, traits = {}) => element('th', { scope: 'col', ...traits }, text);
 
-/** How far a zone's clock is ahead of UTC in a span, in the order in which it comes. */
-export const offsetsOf = ({ begin, end, events, zone }) =>
-  [...new Set([begin, ...events.map(({ moment }) => moment), end - 60_000].map(moment => clockAt(moment, zone).offset))];
-
-const eventsOn = (date, { events, zone }) => events.filter(({ moment }) => clockAt(moment, zone).date === date);
-
-/** What the clock shows, with its offset where the span has more than one. */
-function timeText(moment, answer) {
-  const { time, offset } = clockAt(moment, answer.zone);
-  return offsetsOf(answer).length === 1 ? time : `${time} ${offset}`;
-}
-
+const eventsOn = (date, events) => events.filter(({ clock }) => clock.date === date);
 const emphasis = event => (isTop(event) && !isSlack(event) ? 'top' : '');
 
+/** What a clock shows, with its offset where the span has more than one. */
+const clockText = ({ time, offset }, { offsets }) => (offsets.length === 1 ? time : `${time} ${offset}`);
+
 function dayTable(date, answer) {
-  const rows = eventsOn(date, answer).map(event => element('tr', { className: emphasis(event) },
-    cell(timeText(event.moment, answer)), cell(event.shown, 'level'), cell(event.event)));
+  const rows = eventsOn(date, answer.events).map(event => element('tr', { className: emphasis(event) },
+    cell(clockText(event.clock, answer)), cell(event.shown, 'level'), cell(event.event)));
   if (rows.length === 0) rows.push(element('tr', {}, cell('no events', 'quiet')));
   return element('table', {}, element('caption', {}, dateText(date)), ...rows);
 }
 
 function sillTable(answer) {
-  const clock = moment => `${dateText(clockAt(moment, answer.zone).date)} ${timeText(moment, answer)}`;
+  const text = moment => {
+    const clock = clockAt(moment, answer.zone);
+    return `${dateText(clock.date)} ${clockText(clock, answer)}`;
+  };
   const rows = answer.above.map(time => element('tr', {},
-    cell(`${time.openFrom ? 'before ' : ''}${clock(time.from)}`), cell(`${time.openTo ? 'after ' : ''}${clock(time.to)}`),
+    cell(`${time.openFrom ? 'before ' : ''}${text(time.from)}`), cell(`${time.openTo ? 'after ' : ''}${text(time.to)}`),
     cell(`${time.openFrom || time.openTo ? 'over ' : ''}${hoursText(time)}`, 'level')));
   return rows.length === 0 ? element('p', {}, 'At no minute of this week.')
     : element('table', {}, element('tr', {}, head('From'), head('To'), head('Time above')), ...rows);
@@ -56,33 +51,27 @@ export function weekSheet(answer) {
     element('div', { className: 'days' }, ...dates.slice(0, -1).map(date => dayTable(date, answer)))];
 }
 
-function monthRow(date, answer, most) {
-  const { above, zone, sill, begin } = answer;
-  const usual = clockAt(begin, zone).offset;
-  const clock = moment => {
-    const { time, offset } = clockAt(moment, zone);
-    return offset === usual ? time : `${time}*`;
-  };
-  const cells = eventsOn(date, answer).filter(event => !isMark(event)).map(event =>
-    cell(`${SIGNS[event.event]} ${clock(event.moment)}${isSlack(event) ? '' : ` ${event.shown}`}`, emphasis(event)));
+function monthRow(date, { events, above, zone, sill, offsets }, most) {
+  const text = ({ time, offset }) => (offset === offsets[0] ? time : `${time}*`);
+  const cells = eventsOn(date, events).filter(event => !isMark(event)).map(event =>
+    cell(`${SIGNS[event.event]} ${text(event.clock)}${isSlack(event) ? '' : ` ${event.shown}`}`, emphasis(event)));
   while (cells.length < most) cells.push(cell(''));
   const open = above.filter(({ from }) => clockAt(from, zone).date === date).map(({ from, to, openFrom, openTo }) =>
-    `${openFrom ? '..' : clock(from)}–${openTo ? '..' : clock(to)}`).join('\u2003');
+    `${openFrom ? '..' : text(clockAt(from, zone))}–${openTo ? '..' : text(clockAt(to, zone))}`).join('\u2003');
   const day = dateText(date, { day: 'numeric', weekday: 'short' });
   return element('tr', { className: day.startsWith('Sun') ? 'sunday' : '' }, element('th', { scope: 'row' }, day),
     ...cells, ...(sill === null ? [] : [cell(open)]));
 }
 
 export function monthSheet(answer) {
-  const { dates, events, sill } = answer;
+  const { dates, events, sill, offsets: [usual, ...others] } = answer;
   const days = dates.slice(0, -1);
-  const most = Math.max(1, ...days.map(date => eventsOn(date, answer).filter(event => !isMark(event)).length));
+  const most = Math.max(1, ...days.map(date => eventsOn(date, events).filter(event => !isMark(event)).length));
   const first = element('tr', {}, head('Day'), head('Events', { colSpan: most }),
     ...(sill === null ? [] : [head(`Above ${sill}, on the day it begins`)]));
   const table = element('table', { className: most > 5 ? 'month many' : 'month' }, first,
     ...days.map(date => monthRow(date, answer, most)));
   const signs = Object.entries(SIGNS).filter(([word]) => events.some(({ event }) => event === word));
-  const [usual, ...others] = offsetsOf(answer);
   const legend = [signs.map(([word, sign]) => `${sign} ${word}`).join(', ')]
     .concat(others.length > 0 ? `with * by a clock at ${others.join(', ')}, the others at ${usual}` : []);
   return [element('div', { className: 'scroll', tabIndex: 0 }, table), element('p', { className: 'quiet' }, legend.join('; '))];
