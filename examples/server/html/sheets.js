@@ -51,8 +51,8 @@ export function weekSheet(answer) {
     element('div', { className: 'days' }, ...dates.slice(0, -1).map(date => dayTable(date, answer)))];
 }
 
-function monthRow(date, { events, above, zone, sill, offsets }, most) {
-  const text = ({ time, offset }) => (offset === offsets[0] ? time : `${time}*`);
+function monthRow(date, { events, above, zone, sill }, usual, most) {
+  const text = ({ time, offset }) => (offset === usual ? time : `${time}*`);
   const cells = eventsOn(date, events).filter(event => !isMark(event)).map(event =>
     cell(`${SIGNS[event.event]} ${text(event.clock)}${isSlack(event) ? '' : ` ${event.shown}`}`, emphasis(event)));
   while (cells.length < most) cells.push(cell(''));
@@ -64,13 +64,15 @@ function monthRow(date, { events, above, zone, sill, offsets }, most) {
 }
 
 export function monthSheet(answer) {
-  const { dates, events, sill, offsets: [usual, ...others] } = answer;
+  const { dates, events, sill } = answer;
+  const count = offset => events.filter(({ clock }) => clock.offset === offset).length;
+  const [usual, ...others] = [...answer.offsets].sort((one, other) => count(other) - count(one));
   const days = dates.slice(0, -1);
   const most = Math.max(1, ...days.map(date => eventsOn(date, events).filter(event => !isMark(event)).length));
   const first = element('tr', {}, head('Day'), head('Events', { colSpan: most }),
     ...(sill === null ? [] : [head(`Above ${sill}, on the day it begins`)]));
   const table = element('table', { className: most > 5 ? 'month many' : 'month' }, first,
-    ...days.map(date => monthRow(date, answer, most)));
+    ...days.map(date => monthRow(date, answer, usual, most)));
   const signs = Object.entries(SIGNS).filter(([word]) => events.some(({ event }) => event === word));
   const legend = [signs.map(([word, sign]) => `${sign} ${word}`).join(', ')]
     .concat(others.length > 0 ? `with * by a clock at ${others.join(', ')}, the others at ${usual}` : []);
