@@ -181,7 +181,7 @@ function listen() {
     submit.preventDefault();
     place('found').querySelector('a')?.click();
   });
-  place('question').addEventListener('change', take);
+  place('question').addEventListener('change', change => { if (change.target !== controls.sill) take(change); });
   place('question').addEventListener('submit', take);
   controls.earlier.addEventListener('click', () => move(-1));
   controls.later.addEventListener('click', () => move(1));
