@@ -77,7 +77,8 @@ same('a week that falls back has 169', hours('2025-10-30', 7, 'America/New_York'
 same('days over a year', daysLater('2024-12-29', 7), '2025-01-05');
 same('days backwards over a leap day', daysLater('2024-03-01', -1), '2024-02-29');
 same('months', [monthsLater('2025-01-31', 1), monthsLater('2025-01-31', 0), monthsLater('2025-01-01', -1)], ['2025-02-01', '2025-01-01', '2024-12-01']);
-same('dates', ['2025-02-28', '2025-02-29', '2025-2-1', '', null, 'x'].map(isDate), [true, false, false, false, false, false]);
+same('dates', ['2025-02-28', '2025-02-29', '2025-2-1', '9999-01-01', '0001-12-31', '', null, 'x'].map(isDate),
+  [true, false, false, false, false, false, false, false]);
 same('zones', ['Europe/London', 'UTC', 'Atlantis', '', null].map(isZone), [true, true, false, false, false]);
 same('the zones to choose', ['UTC', 'America/New_York'].map(zone => zoneNames().includes(zone)), [true, true]);
 same('a date in words', dateText('2025-06-01', { day: 'numeric', month: 'long', year: 'numeric' }), '1 June 2025');

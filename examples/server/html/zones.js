@@ -50,7 +50,9 @@ export function startOfDay(date, zone) {
   return starts.length > 0 ? Math.min(...starts) : around[0];
 }
 
-export const isDate = text => /^\d{4}-\d\d-\d\d$/.test(text ?? '') && dateOf(Date.parse(`${text}T00:00Z`)) === text;
+/** Whether a text is a date of the calendar with a whole month around it that the program's moments can name. */
+export const isDate = text => /^\d{4}-\d\d-\d\d$/.test(text ?? '') && dateOf(Date.parse(`${text}T00:00Z`)) === text
+  && text >= '0002' && text < '9999';
 
 const dateOf = moment => (Number.isNaN(moment) ? '' : new Date(moment).toISOString().slice(0, 10));
 
