@@ -63,7 +63,8 @@ if (window.Dygraph) Dygraph.PLUGINS = Dygraph.PLUGINS.filter(plugin => plugin !=
 /** Draws the levels in a box, with the events named, a line at the sill if there is one, and the moment now. */
 export function drawChart(box, { levels, events, dates, zone, sill, tell }) {
   const days = dates.map(date => ({ date, start: startOfDay(date, zone) }));
-  const named = new Map(events.map(event => [event.moment, event]));
+  // Of two events in one minute the one that isn't the mark's is named.
+  const named = new Map([...events].sort((one, other) => isMark(other) - isMark(one)).map(event => [event.moment, event]));
   const ticks = days.flatMap(({ date, start }, place) => place + 1 === days.length ? [{ v: start }]
     : [{ v: start }, { label_v: (start + days[place + 1].start) / 2, label: dateText(date) }]);
   const shown = levels.map(({ level }) => level).concat(sill ?? []);
