@@ -1,5 +1,7 @@
 -- What the program tells of itself (this project; the option words are those of the GNU coding standards).
-use Rattle.std.specs.Prelude.{ℕ, Bool, false, ◌||◌, if◌then◌else◌, List, [], ◌∷◌, codes, Option, Some, None}
+use Rattle.std.specs.Prelude.{ℕ, Bool, false, ◌||◌, if◌then◌else◌, List, [], ◌∷◌, codes, slice_get, Option, Some, None}
+use Rattle.std.specs.List.{list_any}
+use Rattle.std.specs.Option.{option_map_or}
 use Rattle.std.specs.Str.{bytes_eq}
 use Rattle.tide.specs.declared.help.TheConstants.{HELP, VERSION}
 use Rattle.tide.specs.declared.help.Page.{Page}
@@ -13,12 +15,17 @@ page_text Version = VERSION.now
 abbrev pub is_option : List ℕ → List ℕ → List ℕ → Bool
 is_option short long word = bytes_eq word short || bytes_eq word long
 
--- the page that the first word asks for, if it does
+abbrev pub asks_for_help : List ℕ → Bool
+asks_for_help word = is_option (codes "-h") (codes "--help") word
+
+abbrev pub asks_for_version : List ℕ → Bool
+asks_for_version word = is_option (codes "-V") (codes "--version") word
+
+-- the page that the words ask for: any of them can ask for help, and the first for the version
 abbrev pub page_of : List (List ℕ) → Option Page
-page_of [] = None
-page_of (word ∷ words) =
-    if is_option (codes "-h") (codes "--help") word then Some Help
-    else if is_option (codes "-V") (codes "--version") word then Some Version
+page_of words =
+    if list_any asks_for_help words then Some Help
+    else if option_map_or asks_for_version (slice_get words 0) false then Some Version
     else None
 
 -- whether the first word asks to serve

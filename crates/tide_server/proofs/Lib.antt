@@ -3,6 +3,7 @@ pub mod ConnectionLemmas
 pub mod EndLemmas
 pub mod HeadLemmas
 pub mod LineLemmas
+pub mod MemoryLemmas
 pub mod OpeningLemmas
 pub mod PieceLemmas
 pub mod QueryLemmas
