@@ -1,6 +1,7 @@
 //! Answers, streamed answers and refusals, over a pier and a stream.
 
 mod rows;
+mod sizes;
 
 ghost use Rattle.std.specs.Prelude.{IfOk};
 ghost use Rattle.harmonics_text.specs.Books.{IsBook};
@@ -13,14 +14,16 @@ use decimal_text::Bytes;
 use harmonics_text::{Book, BookFault, read_book};
 use question::{AskFault, Command, Question, pairs_of_words, read_question};
 use rows::{ANSWERS, FAULTS, STREAMS, VERDICTS};
+use station_span::{worked_levels, worked_spans};
 use station_table::{OffsetFault, OffsetTable, read_offsets};
 use std::alloc::{AllocError, Global};
 use std::test::Fail;
 use tide_answer::{
     Fault, Given, accepted_is_true, answer, answer_alone, answer_into, certified_is_accepted,
-    fault_line, fault_status, prepare, worked_levels, worked_lines, worked_rows, worked_spans,
+    fault_line, fault_status, prepare, worked_rows,
 };
 use tide_edge::MemorySink;
+use tide_fault::worked_lines;
 use zone_time::Zone;
 
 const PIER: &[u8] =
@@ -152,6 +155,12 @@ fn seeds_have_their_trials(rt: HostRuntime) -> Result<(), Fail> {
         Ok(answer) => assert_eq!(rt; answer.text.as_slice(), TRIAL),
         Err(_) => return Err(Fail::from(AllocError)),
     }
+    assert_eq!(rt; told(alloc, "trial|seed=0", "")?.as_slice(), TRIAL);
+    let sample = told(alloc, "sample|seed=0", "")?;
+    assert_eq!(rt;
+        sample.as_slice().iter().filter(|b| **b == b'\n').count(),
+        8192
+    );
     Ok(())
 }
 

@@ -1,6 +1,8 @@
 -- What loading gives, from what its reading and its form give.
-use Rattle.std.proofs.Common.{◌≡◌, ℕ, suc, ◌≤◌, Bool, List, length, Option, Some, None, Result, Ok, Err, refl, arith}
+use Rattle.std.proofs.Common.{◌≡◌, ℕ, suc, ◌≤◌, List, length, Option, Some, None, IsSome, Result, Ok, Err, refl, arith}
 use Rattle.std.specs.Bool.{IsTrue}
+use Rattle.tide_edge.proofs.ReadingLemmas.{begun_whole}
+use Rattle.tide_edge.specs.FileStates.{FilesState, files_after_open}
 use Rattle.std.specs.Prelude.{replicate}
 use Rattle.std.proofs.lemmas.Bool.{le-leb, lt-leb}
 use Rattle.std.proofs.lemmas.List.{length-replicate}
@@ -18,11 +20,11 @@ use Rattle.book_loading.specs.declared.loading.LoadFault.TheVariants.{Failed, Bo
 use Rattle.book_loading.specs.Loading.{loaded, fault_of_reading, source_of, wants_memory}
 
 -- where reading has a fault
-pub excuses_reading : (limit : ℕ) (steady : Bool) (file : Option (List ℕ)) (fault : ReadAllFault) → Excuses (source_of_reading fault) steady (whole limit file) fault → Excuses (source_of (fault_of_reading fault)) steady (loaded limit file) (fault_of_reading fault)
+pub excuses_reading : (limit : ℕ) (firm : Type 0) (file : Option (List ℕ)) (fault : ReadAllFault) → Excuses (source_of_reading fault) firm (whole limit file) fault → Excuses (source_of (fault_of_reading fault)) firm (loaded limit file) (fault_of_reading fault)
 unfolding loaded
-excuses_reading limit steady file reading.Failed excused = λ s. rw (excused s) refl
-excuses_reading limit steady file reading.TooLong excused = rw excused refl
-excuses_reading limit steady file reading.NoMemory excused = tt
+excuses_reading limit firm file reading.Failed excused = λ s. rw (excused s) refl
+excuses_reading limit firm file reading.TooLong excused = rw excused refl
+excuses_reading limit firm file reading.NoMemory excused = tt
 
 long_file : (limit : ℕ) → (file : Option (List ℕ)) × (whole limit file ≡ Err reading.TooLong)
 long_file limit =
@@ -36,10 +38,10 @@ some_reading limit reading.TooLong = let long = long_file limit in (long.0, rw l
 some_reading limit reading.NoMemory = (None, tt)
 
 -- where the form has one
-pub excuses_form : (limit : ℕ) (steady : Bool) (file : Option (List ℕ)) (bytes : List ℕ) (fault : BookFault) → whole limit file ≡ Ok bytes → FailsBook fault (book_of bytes) → Excuses (source_of (Book fault)) steady (loaded limit file) (Book fault)
+pub excuses_form : (limit : ℕ) (firm : Type 0) (file : Option (List ℕ)) (bytes : List ℕ) (fault : BookFault) → whole limit file ≡ Ok bytes → FailsBook fault (book_of bytes) → Excuses (source_of (Book fault)) firm (loaded limit file) (Book fault)
 unfolding loaded
-excuses_form limit steady file bytes form.NoMemory read fails = tt
-excuses_form limit steady file bytes (form.At line why) read fails = rw (read, fails) refl
+excuses_form limit firm file bytes form.NoMemory read fails = tt
+excuses_form limit firm file bytes (form.At line why) read fails = rw (read, fails) refl
 
 whole_within : (limit : ℕ) (bytes : List ℕ) → length bytes ≤ limit → whole limit (Some bytes) ≡ Ok bytes
 whole_within limit bytes within = rw (le-leb (length bytes) limit within) refl
@@ -58,10 +60,13 @@ pub loaded_within : (limit : ℕ) (bytes : List ℕ) (book : TheBook) → length
 loaded_within limit bytes book within = loaded_whole limit (Some bytes) bytes book (whole_within limit bytes within)
 
 -- where no file was opened
-pub unopened : (limit : ℕ) (steady : Bool) (file : Option (List ℕ)) → (IsTrue steady → file ≡ None) → IsTrue steady → loaded limit file ≡ Err Failed
+pub unopened : (limit : ℕ) (firm : Type 0) (file : Option (List ℕ)) → (firm → file ≡ None) → firm → loaded limit file ≡ Err Failed
 unfolding loaded
-unopened limit steady file absent = λ s. rw (absent s) refl
+unopened limit firm file absent = λ s. rw (absent s) refl
 
--- what loading the rest gave, where the rest is the whole file
-pub meets_opened : (limit : ℕ) (file : Option (List ℕ)) (rest : List ℕ) (before now : Bool) (result : Result TheBook LoadFault) → file ≡ Some rest → now ≡ before → Meets source_of now (loaded limit (Some rest)) result → Meets source_of before (loaded limit file) result
-meets_opened limit file rest before now result is same meets = rw (is, ← same) meets
+-- what loading the rest gave is what loading the file gives
+pub loaded_opened : {T : Type 0} (opened : T) (limit : ℕ) (name : List ℕ) (s : FilesState) (result : Result TheBook LoadFault)
+    → (IsTrue s.store.tells → IsSome (s.store.folder name))
+    → (IsTrue s.store.tells → Meets source_of (IsTrue s.store.is_steady) (loaded limit (Some (files_after_open (Ok opened) name s).rest)) result)
+    → IsTrue s.store.tells → Meets source_of (IsTrue s.store.is_steady) (loaded limit (s.store.folder name)) result
+loaded_opened opened limit name s result found meets t = rw (begun_whole s name t (found t)) (meets t)

@@ -1,18 +1,18 @@
 //! Loading a book from a file, in pieces.
 
-ghost use Rattle.std.specs.Prelude.{◌≡◌, ◌+◌, ◌≤◌, ℕ, List, [], length, Option, Some, IfOk, IsErrOf};
+ghost use Rattle.std.specs.Prelude.{◌≡◌, ◌≤◌, ℕ, IsTrue, List, [], length, Option, Some, IfOk};
 ghost use Rattle.decimal_text.specs.Expected.{Gives};
 ghost use Rattle.harmonics_text.specs.Books.{IsBook};
 ghost use Rattle.book_loading.specs.Loading.{loaded, source_of, wants_memory};
 ghost use Rattle.book_loading.specs.Workings.Feeding.{bytes_fed};
 ghost use Rattle.tide_edge.specs.Excuses.{Meets, is_outside_fault};
-ghost use Rattle.tide_edge.specs.Faults.{faults_after, Rose};
-ghost use Rattle.tide_edge.specs.Whole.{IsStopped, whole, source_of as source_of_reading};
+ghost use Rattle.tide_edge.specs.Whole.{ReadWithin, one_file, whole, source_of as source_of_reading};
+ghost use Rattle.tide_edge.specs.Workings.Reading.{IsReadOn};
 
 use decimal_text::Text;
 use harmonics_text::{Book, BookFault, BookReader};
 use std::alloc::{AllocError, Global};
-use tide_edge::{Files, ReadAllFault};
+use tide_edge::{Files, PIECE, ReadAllFault};
 
 /// Why a file wasn't loaded.
 #[derive(Clone, Copy, Debug, PartialEq, Eq)]
@@ -25,17 +25,16 @@ pub enum LoadFault {
     Book(BookFault),
 }
 
-const PIECE: usize = 65_536;
-
 /// Loads the book of the file of that name, if it has at most `limit` bytes, which are at most
 /// 400,000,000. The file is opened once and read in pieces of at most 65,536 bytes, and none of them
 /// is kept. It is read on after a line that breaks a rule, so that a fault of reading comes first.
+/// Its end is found once, and at most a piece past the limit is read, whatever is answered.
 ///
 /// # Errors
-/// [`LoadFault::Failed`] only where the count of `files` rose, and over steady files only where there
-/// is no file of that name; [`LoadFault::TooLong`] where the file has more than `limit` bytes, of
-/// which at most a piece too many is read;
-/// [`LoadFault::Book`] with the file's first bad line where neither holds, or with want of memory.
+/// [`LoadFault::Failed`] exactly where the count of faults of `files` is one more, and over steady
+/// files only where there is no file of that name; [`LoadFault::TooLong`] where the file has more than
+/// `limit` bytes; [`LoadFault::Book`] with the file's first bad line where neither holds, or with want
+/// of memory.
 pub fn load_book<F: Files>(
     alloc: Global,
     files: &mut F,
@@ -43,17 +42,11 @@ pub fn load_book<F: Files>(
     limit: u64,
 ) -> Result<Book, LoadFault>
     requires { limit ≤ 400000000 }
-    ensures own { F.tells files.old
-        → Meets source_of (F.steady files.old) (loaded limit (F.folder files.old name.now)) result }
+    ensures own { IsTrue (F.state files.old).store.tells
+        → Meets source_of (IsTrue (F.state files.old).store.is_steady) (loaded limit ((F.state files.old).store.folder name.now)) result }
     ensures some { (file : Option (List ℕ)) × Gives wants_memory (loaded limit file) result }
     ensures sound { IfOk result IsBook }
-    ensures counts { F.faults files.new ≡ faults_after (is_outside_fault source_of result) (F.faults files.old) }
-    ensures failed { IsErrOf result LoadFault.Failed → Rose (F.faults files.old) (F.faults files.new) }
-    ensures stops { F.tells files.old → IsErrOf result LoadFault.TooLong → IsStopped limit (F.folder files.old name.now) (F.rest files.new) }
-    ensures opened { F.opens files.new ≤ F.opens files.old + 1 }
-    ensures same_files { F.folder files.new ≡ F.folder files.old }
-    ensures as_steady { F.steady files.new ≡ F.steady files.old }
-    ensures still_tells { F.tells files.old → F.tells files.new }
+    ensures read { ReadWithin (one_file limit) (is_outside_fault source_of result) (F.state files.old) (F.state files.new) }
 {
     let mut room = vec![in alloc; 0; PIECE]?;
     let reader = BookReader::new(alloc)?;
@@ -70,19 +63,14 @@ fn load_rest<F: Files>(
     reader: BookReader,
     limit: u64,
 ) -> Result<Book, LoadFault>
-    requires room { length room.old ≡ 65536 }
+    requires room { length room.old ≡ PIECE }
     requires unfed { reader.bytes ≡ [] }
     requires most { limit ≤ 400000000 }
-    ensures own { F.tells files.old
-        → Meets source_of (F.steady files.old) (loaded limit (Some (F.rest files.old))) result }
+    ensures own { IsTrue (F.state files.old).store.tells
+        → Meets source_of (IsTrue (F.state files.old).store.is_steady) (loaded limit (Some (F.state files.old).rest)) result }
     ensures some { (file : Option (List ℕ)) × Gives wants_memory (loaded limit file) result }
     ensures sound { IfOk result IsBook }
-    ensures counts { F.faults files.new ≡ faults_after (is_outside_fault source_of result) (F.faults files.old) }
-    ensures stops { F.tells files.old → IsErrOf result LoadFault.TooLong → IsStopped limit (Some (F.rest files.old)) (F.rest files.new) }
-    ensures unopened { F.opens files.new ≡ F.opens files.old }
-    ensures same_files { F.folder files.new ≡ F.folder files.old }
-    ensures as_steady { F.steady files.new ≡ F.steady files.old }
-    ensures still_tells { F.tells files.old → F.tells files.new }
+    ensures read { IsReadOn limit (is_outside_fault source_of result) (F.state files.old) (F.state files.new) }
 {
     let reader = feed_rest(files, room, reader, limit)?;
     Ok(reader.finish()?)
@@ -96,18 +84,13 @@ fn feed_rest<F: Files>(
     mut reader: BookReader,
     limit: u64,
 ) -> Result<BookReader, ReadAllFault>
-    requires room { length room.old ≡ 65536 }
+    requires room { length room.old ≡ PIECE }
     requires unfed { reader.bytes ≡ [] }
     requires most { limit ≤ 400000000 }
-    ensures whole { F.tells files.old
-        → Meets source_of_reading (F.steady files.old) (whole limit (Some (F.rest files.old))) (bytes_fed result) }
+    ensures whole { IsTrue (F.state files.old).store.tells
+        → Meets source_of_reading (IsTrue (F.state files.old).store.is_steady) (whole limit (Some (F.state files.old).rest)) (bytes_fed result) }
     ensures within { IfOk result (λ reader. length reader.bytes ≤ limit) }
-    ensures counts { F.faults files.new ≡ faults_after (is_outside_fault source_of_reading result) (F.faults files.old) }
-    ensures stops { F.tells files.old → IsErrOf result ReadAllFault.TooLong → IsStopped limit (Some (F.rest files.old)) (F.rest files.new) }
-    ensures unopened { F.opens files.new ≡ F.opens files.old }
-    ensures same_files { F.folder files.new ≡ F.folder files.old }
-    ensures as_steady { F.steady files.new ≡ F.steady files.old }
-    ensures still_tells { F.tells files.old → F.tells files.new }
+    ensures read { IsReadOn limit (is_outside_fault source_of_reading result) (F.state files.old) (F.state files.new) }
 {
     let mut fed = 0;
     loop {

@@ -8,7 +8,7 @@ use Rattle.std.proofs.lemmas.List.{get_or-map, length-map}
 use Rattle.std.proofs.lemmas.List.Elements.{All-filter, All-map, filter-append}
 use Rattle.curve_law.specs.declared.event.Event.{Event}
 use Rattle.harmonics_text.specs.declared.book.Units.{Units}
-use Rattle.listing.specs.Listings.{IsListed}
+use Rattle.event_text.specs.Lines.{IsListed}
 use Rattle.zone_time.specs.declared.zone.Zone.{Zone}
 use Rattle.zone_time.specs.Dates.{IsDay}
 use Rattle.calendar_sheet.specs.Calendars.{day_in, days_from, days_through, events_on}

@@ -4,9 +4,9 @@ use Rattle.std.specs.Int.{int_min, int_max}
 use Rattle.std.specs.List.{flat_map}
 use Rattle.std.specs.Ordering.{int_eq}
 use Rattle.curve_law.specs.declared.event.Event.{Event}
-use Rattle.event_list.specs.Words.{word_of, word_text}
+use Rattle.event_text.specs.Words.{word_of, word_text}
 use Rattle.harmonics_text.specs.declared.book.Units.{Units}
-use Rattle.listing.specs.Lines.{level_text}
+use Rattle.event_text.specs.Lines.{level_text}
 use Rattle.zone_time.specs.declared.zone.Zone.{Zone}
 use Rattle.zone_time.specs.Dates.{clock_text, date_text}
 use Rattle.zone_time.specs.Moments.{day_of, minute_of_day}

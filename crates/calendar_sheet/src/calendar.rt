@@ -4,7 +4,7 @@ ghost use Rattle.std.specs.Prelude.{◌≡◌, ◌++◌, ◌≤ℤ◌, All, IfOk
 ghost use Rattle.std.specs.List.{flat_map};
 ghost use Rattle.calendar_sheet.specs.Calendars.{calendar_text_of, entry_in};
 ghost use Rattle.calendar_sheet.specs.Workings.Dates.{line_of_page};
-ghost use Rattle.listing.specs.Listings.{IsListed};
+ghost use Rattle.event_text.specs.Lines.{IsListed};
 ghost use Rattle.zone_time.specs.Dates.{IsDay, date_text};
 ghost use Rattle.zone_time.specs.Zones.{IsZone, InZoneYears};
 
@@ -14,9 +14,8 @@ use crate::pages::pages_shown;
 use arrayvec::ArrayString;
 use curve_law::{Event, Events};
 use decimal_text::{Bytes, Text};
-use event_list::word;
+use event_text::{word, write_level};
 use harmonics_text::Units;
-use listing::write_level;
 use std::alloc::{AllocError, Global};
 use zone_time::{Zone, write_clock, write_date};
 

@@ -7,12 +7,12 @@ use crate::lines::after;
 use crate::numbers::{number_of, size_of};
 use crate::track_name::TrackName;
 use crate::words::{first_kind, front_of, second_kind};
-use curve_law::{Cell, Kind};
+use curve_law::{Cell, Kind, MOST_MINUTES};
 
 fn quiet_for(minutes: u64) -> Option<Cell>
     ensures { result ≡ quiet_for minutes }
 {
-    if 2 <= minutes && minutes <= 1024 {
+    if 2 <= minutes && minutes <= u64::from(MOST_MINUTES) {
         Some(Cell::Quiet(minutes as u32))
     } else {
         None

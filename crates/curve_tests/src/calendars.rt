@@ -1,5 +1,5 @@
 ghost use Rattle.std.specs.Prelude.{All, IfOk, IsTrue};
-ghost use Rattle.listing.specs.Listings.{IsListed};
+ghost use Rattle.event_text.specs.Lines.{IsListed};
 ghost use Rattle.zone_time.specs.Zones.{IsZone, InZoneYears};
 
 use calendar_sheet::*;

@@ -7,6 +7,7 @@ ghost use Rattle.event_list.specs.Shifts.{HasOffsets, IsMovable};
 use curve_law::samples::{Line, Ripple};
 use curve_law::{Cell, Cells, Curve, Event, Kind, Tracks};
 use event_list::*;
+use event_text::worked_words;
 use harmonics_text::Units;
 use interval_search::Search;
 use station_table::{Basis, Offset, Slack};
@@ -48,13 +49,13 @@ fn laws_and_rows_stand(_rt: HostRuntime) {
     accepted_events_can_be_moved();
     events_are_named();
     agreeing_curves_have_one_list();
-    worked_rows();
+    worked_words();
     worked_shifts();
     worked_orders();
     worked_stations();
 }
 
-fn event(minute: i64, kind: Kind, level: i64) -> Event {
+pub fn event(minute: i64, kind: Kind, level: i64) -> Event {
     Event {
         minute,
         kind,
@@ -63,7 +64,7 @@ fn event(minute: i64, kind: Kind, level: i64) -> Event {
 }
 
 // Highs 30 minutes later at 1.1 times the level and 0.1 more, lows 10 minutes earlier at 0.9 times.
-fn dock(slack: Option<Slack>) -> Basis
+pub fn dock(slack: Option<Slack>) -> Basis
     requires { ForSome slack IsSlack }
     ensures { HasOffsets result }
 {
@@ -85,7 +86,7 @@ fn dock(slack: Option<Slack>) -> Basis
 }
 
 // Whether the events can be moved.
-fn are_movable(events: &[Event]) -> bool
+pub fn are_movable(events: &[Event]) -> bool
     ensures { IsTrue result → All IsMovable events.now }
 {
     events.iter().all(|event| is_movable(event))
@@ -189,8 +190,24 @@ fn events_come_one_at_a_time(rt: HostRuntime) -> Result<(), Fail> {
     Ok(())
 }
 
+// How many cells the searches have given after each event.
+#[test]
+fn cells_are_counted_as_they_are_given(rt: HostRuntime) {
+    let mut merge = Merge::new(
+        Search::new(Line::new(-2, false, 1), 0, 3),
+        Some(Search::new(Ripple::new(), 0, 3)),
+        None,
+    );
+    assert_eq!(rt; merge.cells(), 0);
+    for (minute, cells) in [(0, 4), (1, 5), (2, 6), (2, 6)] {
+        let given = merge.next().map(|event| event.minute);
+        assert_eq!(rt; given, Some(minute));
+        assert_eq!(rt; merge.cells(), cells);
+    }
+}
+
 // The events that are left.
-fn taken<A: Curve, B: Curve>(
+pub fn taken<A: Curve, B: Curve>(
     alloc: Global,
     merge: &mut Merge<A, B>,
 ) -> Result<Vec<Event>, AllocError>

@@ -13,4 +13,8 @@ mod lists;
 #[cfg(test)]
 mod rates;
 #[cfg(test)]
+mod sizes;
+#[cfg(test)]
 mod stations;
+#[cfg(test)]
+mod year_lists;

@@ -1,10 +1,11 @@
 ghost use Rattle.std.specs.Prelude.{All, IfOk, IsTrue};
-ghost use Rattle.listing.specs.Listings.{IsListed};
+ghost use Rattle.event_text.specs.Lines.{IsListed};
 ghost use Rattle.zone_time.specs.Zones.{IsZone, InZoneYears};
 
 use arrayvec::ArrayString;
 use curve_law::{Event, Events, Kind};
 use decimal_text::Text;
+use event_text::{worked_levels, worked_lines};
 use harmonics_text::{Units, read_book};
 use listing::*;
 use station_table::read_offsets;
@@ -38,7 +39,11 @@ fn is_listed(units: Units, event: &Event) -> bool
 }
 
 // Minutes, kinds and levels as events, where they can be listed.
-fn events_of(alloc: Global, units: Units, items: &[(i64, Kind, i64)]) -> Result<Events, AllocError>
+pub fn events_of(
+    alloc: Global,
+    units: Units,
+    items: &[(i64, Kind, i64)],
+) -> Result<Events, AllocError>
     ensures { IfOk result (All (IsListed units)) }
 {
     let mut events = Vec::new(alloc);
@@ -55,7 +60,7 @@ fn events_of(alloc: Global, units: Units, items: &[(i64, Kind, i64)]) -> Result<
     Ok(Events::from_vec(events))
 }
 
-fn rows_of(alloc: Global, items: &[(i64, i64)]) -> Result<Rows, AllocError>
+pub fn rows_of(alloc: Global, items: &[(i64, i64)]) -> Result<Rows, AllocError>
     ensures { IfOk result (All (λ row. InZoneYears row.minute)) }
 {
     let mut rows = Vec::new(alloc);
@@ -69,7 +74,7 @@ fn rows_of(alloc: Global, items: &[(i64, i64)]) -> Result<Rows, AllocError>
 }
 
 // The zone that is so many minutes ahead of universal time, which it is where that is 0.
-fn zone_of(ahead: i32) -> Zone
+pub fn zone_of(ahead: i32) -> Zone
     ensures { IsZone result }
 {
     if ahead == 0 || !(-1560..=1560).contains(&ahead) {
@@ -240,12 +245,13 @@ fn clocks_are_told(rt: HostRuntime) -> Result<(), Fail> {
     Ok(())
 }
 
-const BOOK: &[u8] = b"1\nS2 30\n1999\n1\nS2\n0\n*END*\n1\nS2\n1\n*END*\n\
+pub const BOOK: &[u8] = b"1\nS2 30\n1999\n1\nS2\n0\n*END*\n1\nS2\n1\n*END*\n\
     Pier\n0:00 :UTC\n0 feet\nS2 1 0\n\
     Gate\n0:00 :UTC\n0 knots^2\nS2 1 0\n\
     Pier\n0:00 :UTC\n0 meters\nS2 1 0\n";
 
-const TABLE: &[u8] = b"name,reference,high_add,low_add,high_times,low_times,high_plus,low_plus\n\
+pub const TABLE: &[u8] =
+    b"name,reference,high_add,low_add,high_times,low_times,high_plus,low_plus\n\
     Dock,Pier,0:30,-0:10,1.1,0.9,0.1,0\n\
     \"Outer, east\",Gate,,,,,,\n\
     Lost,Nowhere,,,,,,\n\

@@ -9,7 +9,7 @@ use std::alloc::Global;
 use std::test::Fail;
 
 /// A book of one constituent, three years from 1999 and one station, 1 high.
-fn pier(alloc: Global, argument: &str) -> Result<Book, BookFault>
+pub fn pier(alloc: Global, argument: &str) -> Result<Book, BookFault>
     ensures { IfOk result IsBook }
 {
     let Ok(text) = format!(in alloc;
@@ -44,8 +44,8 @@ fn slopes_and_their_rates(rt: HostRuntime) -> Result<(), Fail> {
     let book = pier(rt.alloc(), "0")?;
     assert_eq!(rt; book.stations.as_slice().len(), 1);
     let station = StationCurve::new(rt.alloc(), &book, 0)?;
-    let mut plain_parts = TurnCurve::new(&station, Version::First);
-    let mut all_parts = TurnCurve::new(&station, Version::Second);
+    let mut plain_parts = TurnCurve::over(&station);
+    let mut all_parts = TurnCurve::blended(&station);
     let plain = Some(10_857_785_564_160_000_000_000_000_000_000);
     let across = Some(202_958_823_641_415_808_556_800_000_000_000);
     let steep = 622_080_000_000_000_000_000_000_000_000_000;
@@ -82,7 +82,7 @@ fn levels_and_their_rates(rt: HostRuntime) -> Result<(), Fail> {
     let book = pier(rt.alloc(), "0")?;
     assert_eq!(rt; book.stations.as_slice().len(), 1);
     let station = StationCurve::new(rt.alloc(), &book, 0)?;
-    let mut slack = MarkCurve::new(&station, Version::First, 1_000_000, 0, 0, true);
+    let mut slack = MarkCurve::over(&station, 1_000_000, 0, 0, true);
     let mut mark = MarkCurve::new(
         &station,
         Version::Second,

@@ -131,3 +131,17 @@ fn limits(rt: HostRuntime) -> Result<(), Fail> {
     }
     Ok(())
 }
+
+#[test]
+fn faults_are_told(rt: HostRuntime) -> Result<(), Fail> {
+    for (fault, text) in [
+        (CurveFault::Hydraulic, "a hydraulic current"),
+        (CurveFault::TooLarge { year: 1999 }, "too large in 1999"),
+        (CurveFault::TooSteep { year: -2 }, "too steep in -2"),
+        (CurveFault::NoMemory, "no memory"),
+    ] {
+        let told = format!(in rt.alloc(); "{fault}")?;
+        assert_eq!(rt; told.as_str(), text);
+    }
+    Ok(())
+}

@@ -3,23 +3,39 @@ use Rattle.std.proofs.Common.{◌≡◌, ℕ, ◌+◌, ℤ, ◌++◌, length, �
 use Rattle.std.specs.Prelude.{Option, Some, None, flat_map, option_to_list}
 use Rattle.std.specs.Option.{ForSome}
 use Rattle.std.proofs.lemmas.List.{append-nil}
-use Rattle.curve_law.specs.Cells.{turns}
+use Rattle.curve_law.specs.declared.cell.Cell.{Cell}
+use Rattle.curve_law.specs.declared.cell.Cell.TheVariants.{Quiet, Still, Turn}
+use Rattle.curve_law.specs.Cells.{event_in, turns}
 use Rattle.curve_law.specs.Cover.{cover}
 use Rattle.curve_law.specs.Meaning.{Meaning}
 use Rattle.curve_law.proofs.AcceptedLemmas.{cover-few}
 use Rattle.interval_search.specs.declared.found.Found.{Found}
 use Rattle.interval_search.specs.Looking.{Looking, StepsOn}
 use Rattle.event_list.specs.Events.{merged_of, cells_in}
-use Rattle.event_list.specs.Merging.{cells_left, tracks_left}
+use Rattle.event_list.specs.Merging.{searched, waiting, cells_left, tracks_left}
 use Rattle.event_list.specs.Order.{ordered}
-use Rattle.event_list.specs.Workings.Coming.{events_ahead, cells_ahead, FindsNext, IsAscending}
+use Rattle.event_list.specs.Workings.Coming.{events_ahead, cells_ahead, searched_by, searched_past, FindsNext, IsAscending}
 use Rattle.event_list.proofs.EventLemmas.{merged-parts}
 use Rattle.event_list.proofs.TurnLemmas.{turns-ascending}
 
+searched-none : {C : Type 0} (old new : Looking C) → StepsOn old None new → searched_by (Some old) ≡ waiting None (Some new)
+unfolding searched
+searched-none old new step = rw (step.0, step.1, step.2)
+
+searched-on : {C : Type 0} (old new : Looking C) (found : Found) (cell : Cell) → found.cell ≡ cell → StepsOn old (Some found) new → searched_by (Some old) ≡ searched_past (event_in found.at cell) (Some new)
+unfolding searched
+searched-on old new found (Quiet n) is step = rw (step.1, step.2, is)
+searched-on old new found Still is step = rw (step.1, step.2, is)
+searched-on old new found (Turn kind level) is step = rw (step.1, step.0, step.2, is)
+
+pub no-search-finds : (C : Type 0) → FindsNext {C = C} None None None
+unfolding searched
+no-search-finds C = (refl, refl, refl, refl, refl)
+
 pub search-finds : {C : Type 0} (old new : Looking C) (found : Option Found) → StepsOn old found new → FindsNext (Some old) found (Some new)
 unfolding turns
-search-finds old new None step = (rw step.0, rw step.0, rw step.1, rw step.1)
-search-finds old new (Some found) step = (rw (step.1, step.0, step.2), rw step.1 (omega arith))
+search-finds old new None step = (rw step.0, rw step.0, rw step.1, rw step.1, searched-none old new step)
+search-finds old new (Some found) step = (rw (step.1, step.0, step.2), rw step.1 (omega arith), searched-on old new found found.cell refl step)
 
 pub ahead-ascending : {C : Type 0} (search : Option (Looking C)) → IsAscending (events_ahead search)
 unfolding IsAscending

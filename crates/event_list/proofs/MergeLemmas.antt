@@ -1,14 +1,16 @@
 -- The first of what is left of three lists in order is the earliest of their first events.
-use Rattle.std.proofs.Common.{◌≡◌, ℕ, ◌+◌, ◌≤◌, true, false, List, [], ◌∷◌, ◌++◌, drop, refl, sym, ap, ◌∙◌, arith}
-use Rattle.std.specs.Prelude.{All, IfSome, sum_by, Option, Some, None}
+use Rattle.std.proofs.Common.{◌≡◌, ℕ, ◌+◌, ◌≤◌, ℤ, true, false, List, [], ◌∷◌, ◌++◌, drop, length, refl, sym, ap, ◌∙◌, arith}
+use Rattle.std.specs.Prelude.{pos, ◌+ℤ◌, All, IfSome, sum_by, Option, Some, None}
 use Rattle.std.proofs.lemmas.List.Elements.{All-nil, All-cons, All-weaker, All-append}
 use Rattle.std.proofs.lemmas.List.Sums.{sum_by-cons, sum_by-append}
+use Rattle.curve_law.specs.declared.cell.Cell.{Cell}
+use Rattle.curve_law.specs.declared.cell.Cell.TheVariants as cells
 use Rattle.curve_law.specs.declared.event.Event.{Event}
 use Rattle.curve_law.proofs.CoverLemmas.{by_test}
 use Rattle.event_list.specs.declared.leading.Leading.TheVariants.{Turn, Slack, Mark}
-use Rattle.event_list.specs.Merging.{Merging, GivesNext}
+use Rattle.event_list.specs.Merging.{Waiting, searched, looked, looked_event, leads, GivesNext}
 use Rattle.event_list.specs.Order.{comes_before, ordered}
-use Rattle.event_list.specs.Workings.Coming.{first_of, leads, IsLeading, IsAscending, Stands, merging_of}
+use Rattle.event_list.specs.Workings.Coming.{first_of, IsLeading, IsAscending, Strand, Stands, merging_of}
 use Rattle.event_list.proofs.OrderLemmas.{comes_before-asym, comes_before-trans, All-ordered, sum-ordered, ordered-ascending, ordered-is, ordered-same}
 
 -- an event that may be there stands before another in no case
@@ -97,51 +99,68 @@ takes-third xs ys zs None takes = (takes.1, takes.2, takes.0, sym (third-first x
 takes-third xs ys zs (Some e) takes = sym (third-first xs ys zs) ∙ takes ∙ ap (λ es. e ∷ es) (third-first xs ys (drop 1 zs))
 
 -- what is known of a track before and after it was looked at, or its first event was taken
-pub record Looks (old new : Merging) (rest : List Event) : Type 0 where
+pub record Looks (old new : Strand) (rest : List Event) : Type 0 where
   pub left : new.left ≡ rest
   pub all : new.all ≡ old.all
-  pub within : new.cells ≤ new.all
+  pub counted : new.cells + length new.waiting.cells ≡ new.all
   pub done : old.left ≡ [] → new.cells ≡ new.all
 
-pub looks-taken : (t0 t1 t2 : Merging) → Looks t0 t1 t0.left → t2.left ≡ drop 1 t1.left → t2.all ≡ t1.all → t2.cells ≤ t2.all → (t1.left ≡ [] → t2.cells ≡ t2.all) → Looks t0 t2 (drop 1 t0.left)
-looks-taken t0 t1 t2 looks rest all within done = record {
+pub looks-taken : (t0 t1 t2 : Strand) → Looks t0 t1 t0.left → t2.left ≡ drop 1 t1.left → t2.all ≡ t1.all → t2.cells + length t2.waiting.cells ≡ t2.all → (t1.left ≡ [] → t2.cells ≡ t2.all) → Looks t0 t2 (drop 1 t0.left)
+looks-taken t0 t1 t2 looks rest all counted done = record {
   left = rest ∙ ap (drop 1) looks.left;
   all = all ∙ looks.all;
-  within = within;
+  counted = counted;
   done = λ none. done (looks.left ∙ none);
 }
 
-gives : (t s m t' s' m' : Merging) (o : Option Event) (us vs ws : List Event) → TakesFirst t.left s.left m.left o us vs ws → Looks t t' us → Looks s s' vs → Looks m m' ws → GivesNext (merging_of t s m) o (merging_of t' s' m')
+gives : (t s m t' s' m' : Strand) (o : Option Event) (us vs ws : List Event) → TakesFirst t.left s.left m.left o us vs ws → Looks t t' us → Looks s s' vs → Looks m m' ws → GivesNext (merging_of t s m) o (merging_of t' s' m')
 unfolding ordered
 gives t s m t' s' m' None us vs ws takes turn slack mark =
     (rw (takes.0, takes.1, takes.2), rw (turn.left, slack.left, mark.left) takes.3, omega (arith, turn.done takes.0, slack.done takes.1, mark.done takes.2))
 gives t s m t' s' m' (Some e) us vs ws takes turn slack mark =
     rw (turn.left, slack.left, mark.left) takes
 
-pub gives-turn : (t s m t' s' m' : Merging) → Stands t s m → IsLeading Turn (first_of t.left) (first_of s.left) (first_of m.left) → Looks t t' (drop 1 t.left) → Looks s s' s.left → Looks m m' m.left → GivesNext (merging_of t s m) (first_of t.left) (merging_of t' s' m')
+pub gives-turn : (t s m t' s' m' : Strand) → Stands t s m → IsLeading Turn (first_of t.left) (first_of s.left) (first_of m.left) → Looks t t' (drop 1 t.left) → Looks s s' s.left → Looks m m' m.left → GivesNext (merging_of t s m) (first_of t.left) (merging_of t' s' m')
 gives-turn t s m t' s' m' stands lead turn slack mark =
     gives t s m t' s' m' (first_of t.left) (drop 1 t.left) s.left m.left (takes-first t.left s.left m.left stands.turn stands.slack stands.mark lead.0 lead.1) turn slack mark
 
-pub gives-slack : (t s m t' s' m' : Merging) → Stands t s m → IsLeading Slack (first_of t.left) (first_of s.left) (first_of m.left) → Looks t t' t.left → Looks s s' (drop 1 s.left) → Looks m m' m.left → GivesNext (merging_of t s m) (first_of s.left) (merging_of t' s' m')
+pub gives-slack : (t s m t' s' m' : Strand) → Stands t s m → IsLeading Slack (first_of t.left) (first_of s.left) (first_of m.left) → Looks t t' t.left → Looks s s' (drop 1 s.left) → Looks m m' m.left → GivesNext (merging_of t s m) (first_of s.left) (merging_of t' s' m')
 gives-slack t s m t' s' m' stands lead turn slack mark =
     gives t s m t' s' m' (first_of s.left) t.left (drop 1 s.left) m.left
     (takes-second t.left s.left m.left (first_of s.left) (takes-first s.left t.left m.left stands.slack stands.turn stands.mark lead.0 lead.1)) turn slack mark
 
-pub gives-mark : (t s m t' s' m' : Merging) → Stands t s m → IsLeading Mark (first_of t.left) (first_of s.left) (first_of m.left) → Looks t t' t.left → Looks s s' s.left → Looks m m' (drop 1 m.left) → GivesNext (merging_of t s m) (first_of m.left) (merging_of t' s' m')
+pub gives-mark : (t s m t' s' m' : Strand) → Stands t s m → IsLeading Mark (first_of t.left) (first_of s.left) (first_of m.left) → Looks t t' t.left → Looks s s' s.left → Looks m m' (drop 1 m.left) → GivesNext (merging_of t s m) (first_of m.left) (merging_of t' s' m')
 gives-mark t s m t' s' m' stands lead turn slack mark =
     gives t s m t' s' m' (first_of m.left) t.left s.left (drop 1 m.left)
     (takes-third t.left s.left m.left (first_of m.left) (takes-first m.left t.left s.left stands.mark stands.turn stands.slack lead.0 lead.1)) turn slack mark
 
 -- what is known of the tracks afterwards
-pub stands-after : (t s m t' s' m' : Merging) (us vs ws : List Event) → Stands t s m → IsAscending us → IsAscending vs → IsAscending ws → Looks t t' us → Looks s s' vs → Looks m m' ws → Stands t' s' m'
+pub stands-after : (t s m t' s' m' : Strand) (us vs ws : List Event) → Stands t s m → IsAscending us → IsAscending vs → IsAscending ws → Looks t t' us → Looks s s' vs → Looks m m' ws → Stands t' s' m'
 stands-after t s m t' s' m' us vs ws stands up-us up-vs up-ws turn slack mark =
     let few = stands.few in
     record {
       turn = rw turn.left up-us;
       slack = rw slack.left up-vs;
       mark = rw mark.left up-ws;
-      turn_given = turn.within;
-      slack_given = slack.within;
-      mark_given = mark.within;
+      turn_counted = turn.counted;
+      slack_counted = slack.counted;
+      mark_counted = mark.counted;
       few = rw (turn.all, slack.all, mark.all) few;
     }
+
+-- ---- how far the searches were asked
+
+searched-again : (a : ℤ) (cells : List Cell) → looked (searched a cells) ≡ searched a cells
+unfolding searched
+searched-again a [] = refl
+searched-again a (cells.Quiet n ∷ cells) = searched-again (a +ℤ pos n) cells
+searched-again a (cells.Still ∷ cells) = searched-again (a +ℤ pos 1) cells
+searched-again a (cells.Turn kind level ∷ cells) = refl
+
+-- a search that was looked at isn't asked again
+again : (found : Option Event) (w : Waiting) → found ≡ w.found → looked (looked_event found w) ≡ looked_event found w
+again None w is = searched-again w.at w.cells
+again (Some e) w is = ap (λ o. looked_event o w) (sym is)
+
+pub looked-again : (w : Waiting) → looked (looked w) ≡ looked w
+looked-again w = again w.found w refl

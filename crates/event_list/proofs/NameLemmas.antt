@@ -17,7 +17,7 @@ use Rattle.station_table.specs.declared.offset.Offset.{Offset}
 use Rattle.station_table.specs.declared.offset.Slack.{Slack}
 use Rattle.station_table.specs.Offsets.{IsAdd, IsOffset, IsSlack}
 use Rattle.event_list.specs.declared.span.Span.{Span}
-use Rattle.event_list.specs.Words.{has_word}
+use Rattle.event_text.specs.Words.{has_word}
 use Rattle.event_list.specs.Shifts.{HasOffsets, IsMovable, widened_of, later_by, flood_offset, ebb_offset, offset_of, moved, is_within, moved_within, shifted_of}
 use Rattle.event_list.specs.Events.{minutes_in, Followed, events_over, station_events, IsNamed, AreNamed}
 use Rattle.event_list.proofs.EventLemmas.{events_of, events-parts}

@@ -15,7 +15,7 @@ use Rattle.station_table.specs.declared.basis.Basis.{Basis}
 use Rattle.event_list.specs.declared.span.Span.{Span}
 use Rattle.event_list.specs.Order.{ordered}
 use Rattle.event_list.specs.Shifts.{widened_of, moved_within}
-use Rattle.event_list.specs.Words.{has_word}
+use Rattle.event_text.specs.Words.{has_word}
 
 abbrev pub minutes_in : Span → ℕ
 minutes_in s = unsigned_abs (s.end -ℤ s.begin)

@@ -1,7 +1,7 @@
-pub mod Words
 pub mod Order
 pub mod Shifts
 pub mod Events
 pub mod Merging
 pub mod Worked
 pub mod Workings
+pub mod Telling

@@ -1,14 +1,100 @@
 -- Events that come one at a time from the searches of a station's curves (this project).
-use Rattle.std.specs.Prelude.{◌≡◌, ℕ, List, [], ◌∷◌, Option, Some, None}
+use Rattle.std.specs.Prelude.{◌≡◌, ℕ, ◌+◌, ℤ, pos, ◌+ℤ◌, Bool, not, true, false, if◌then◌else◌, List, [], ◌∷◌, length, Option, Some, None}
 use Rattle.curve_law.specs.declared.cell.Cell.{Cell}
+use Rattle.curve_law.specs.declared.cell.Cell.TheVariants.{Quiet, Still, Turn}
 use Rattle.curve_law.specs.declared.event.Event.{Event}
 use Rattle.curve_law.specs.declared.tracks.Tracks.{Tracks}
 use Rattle.interval_search.specs.Looking.{Looking}
+use Rattle.event_list.specs.declared.leading.Leading.{Leading}
+use Rattle.event_list.specs.declared.leading.Leading.TheVariants as leadings
+use Rattle.event_list.specs.Order.{comes_before}
 
--- a merge is seen as the events that are left, in order, the number of cells that its searches have given so far, and the
--- number of all their cells
+-- ---- what a merge has of its searches
+
+-- of a search: the event that it has found and that isn't given yet, the minute that it has come to, and the cells that it has
+-- left from there on
+pub record Waiting : Type 0 where
+  pub found : Option Event
+  pub at : ℤ
+  pub cells : List Cell
+
+-- a track without a search has no cells
+abbrev pub minute_of : {C : Type 0} → Option (Looking C) → ℤ
+minute_of None = pos 0
+minute_of (Some search) = search.at
+
+abbrev pub cells_of : {C : Type 0} → Option (Looking C) → List Cell
+cells_of None = []
+cells_of (Some search) = search.left
+
+abbrev pub waiting : {C : Type 0} → Option Event → Option (Looking C) → Waiting
+waiting found search = record { found = found; at = minute_of search; cells = cells_of search }
+
+pub record AllWaiting : Type 0 where
+  pub turn : Waiting
+  pub slack : Waiting
+  pub mark : Waiting
+
+-- how many cells the searches have left
+abbrev pub cells_to_come : AllWaiting → ℕ
+cells_to_come w = length w.turn.cells + length w.slack.cells + length w.mark.cells
+
+-- ---- how far a step asks the searches
+
+-- a search is asked for its cells up to the first one with an event, or up to its end
+unfoldable pub searched : ℤ → List Cell → Waiting
+searched a [] = record { found = None; at = a; cells = [] }
+searched a (Quiet n ∷ cells) = searched (a +ℤ pos n) cells
+searched a (Still ∷ cells) = searched (a +ℤ pos 1) cells
+searched a (Turn kind level ∷ cells) = record {
+  found = Some (record { minute = a; kind = kind; level = level });
+  at = a +ℤ pos 1;
+  cells = cells;
+}
+
+-- a search is asked only where none of its events waits
+abbrev pub looked_event : Option Event → Waiting → Waiting
+looked_event None w = searched w.at w.cells
+looked_event (Some event) w = w
+
+abbrev pub looked : Waiting → Waiting
+looked w = looked_event w.found w
+
+-- its event is given, and no other is looked for yet
+abbrev pub given : Waiting → Waiting
+given w = record { found = None; at = w.at; cells = w.cells }
+
+-- the second event, if it is there, doesn't come before the first
+abbrev pub leads : Option Event → Option Event → Bool
+leads a None = true
+leads None (Some e) = false
+leads (Some d) (Some e) = not (comes_before e d)
+
+-- the track whose event comes first, if any has one; the earlier track where two events are alike
+abbrev pub leading : Option Event → Option Event → Option Event → Leading
+leading turn slack mark =
+    if leads turn slack
+    then (if leads turn mark then leadings.Turn else leadings.Mark)
+    else (if leads slack mark then leadings.Slack else leadings.Mark)
+
+abbrev pub given_from : Leading → AllWaiting → AllWaiting
+given_from leadings.Turn w = record { turn = given w.turn; slack = w.slack; mark = w.mark }
+given_from leadings.Slack w = record { turn = w.turn; slack = given w.slack; mark = w.mark }
+given_from leadings.Mark w = record { turn = w.turn; slack = w.slack; mark = given w.mark }
+
+-- a step asks each search of which no event waits for its next one, and gives the first of the three
+abbrev pub stepped : AllWaiting → AllWaiting
+stepped w =
+    given_from (leading (looked w.turn).found (looked w.slack).found (looked w.mark).found)
+    (record { turn = looked w.turn; slack = looked w.slack; mark = looked w.mark })
+
+-- ---- a merge
+
+-- a merge is seen as the events that are left, in order, what it has of its searches, the number of cells that these have given
+-- so far, and the number of all their cells
 pub record Merging : Type 0 where
   pub left : List Event
+  pub waiting : AllWaiting
   pub cells : ℕ
   pub all : ℕ
 

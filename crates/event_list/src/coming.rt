@@ -1,8 +1,9 @@
 //! The events of one search, one at a time.
 
-ghost use Rattle.std.specs.Prelude.{◌≡◌, ◌+◌, ◌^◌, ◌<◌, ◌≤◌, drop, [], option_to_list};
+ghost use Rattle.std.specs.Prelude.{◌≡◌, ◌+◌, ◌^◌, ◌<◌, drop, length, [], None, option_to_list};
 ghost use Rattle.curve_law.specs.Cells.{event_in};
-ghost use Rattle.event_list.specs.Workings.Coming.{cells_ahead, FindsNext, GivesEvent};
+ghost use Rattle.event_list.specs.Merging.{given, looked, waiting};
+ghost use Rattle.event_list.specs.Workings.Coming.{cells_ahead, searched_by, FindsNext, GivesEvent};
 
 use curve_law::{Cell, Curve, Event};
 use interval_search::{Found, Search};
@@ -11,8 +12,8 @@ use std::marker::Model;
 /// The events that a search has still to give, where there is a search. It is asked for the next one
 /// once that is wanted.
 ///
-/// Contracts see the events that are left, the number of cells that the search has given so far, and
-/// the number of all its cells.
+/// Contracts see the events that are left, what there is of the search, the number of cells that it
+/// has given so far, and the number of all its cells.
 #[derive(Drop)]
 pub struct Coming<C: Curve> {
     search: Option<Search<C>>,
@@ -22,13 +23,14 @@ pub struct Coming<C: Curve> {
 
 impl<C: Curve> Model for Coming<C> {
     ghost use Rattle.std.specs.Prelude.{◌+◌, ◌<◌, ◌^◌, ◌++◌, option_to_list};
-    ghost use Rattle.event_list.specs.Merging.{Merging};
-    ghost use Rattle.event_list.specs.Workings.Coming.{events_ahead, cells_ahead};
+    ghost use Rattle.event_list.specs.Merging.{waiting};
+    ghost use Rattle.event_list.specs.Workings.Coming.{events_ahead, cells_ahead, Strand};
 
-    ghost Value = { Merging };
+    ghost Value = { Strand };
 
     ghost view = { λ c. record {
       left = option_to_list c.event ++ events_ahead c.search;
+      waiting = waiting c.event c.search;
       cells = c.given;
       all = c.given + cells_ahead c.search;
     } };
@@ -43,6 +45,7 @@ impl<C: Curve> Coming<C> {
     pub fn new(search: Option<Search<C>>) -> Coming<C>
         requires { cells_ahead search < 2 ^ 64 }
         ensures left { result.left ≡ events_ahead search }
+        ensures waiting { result.waiting ≡ waiting None search }
         ensures cells { result.cells ≡ 0 }
         ensures all { result.all ≡ cells_ahead search }
     {
@@ -56,23 +59,29 @@ impl<C: Curve> Coming<C> {
     /// The first event that is left. Where there is none, all cells were given.
     pub fn peek(&mut self) -> Option<Event>
         ensures first { result ≡ first_of self.old.left }
+        ensures found { result ≡ (looked self.old.waiting).found }
         ensures same { self.new.left ≡ self.old.left }
+        ensures asked { self.new.waiting ≡ looked self.old.waiting }
         ensures all { self.new.all ≡ self.old.all }
-        ensures within { self.new.cells ≤ self.new.all }
+        ensures counted { self.new.cells + length self.new.waiting.cells ≡ self.new.all }
         ensures done { self.old.left ≡ [] → self.new.cells ≡ self.new.all }
     {
-        if self.event.is_none() {
-            self.event = next_event(&mut self.search, &mut self.given);
+        match self.event {
+            Some(event) => Some(event),
+            None => {
+                self.event = next_event(&mut self.search, &mut self.given);
+                self.event
+            }
         }
-        self.event
     }
 
     /// The first event that is left, which is then given.
     pub fn next(&mut self) -> Option<Event>
         ensures first { result ≡ first_of self.old.left }
         ensures rest { self.new.left ≡ drop 1 self.old.left }
+        ensures asked { self.new.waiting ≡ given (looked self.old.waiting) }
         ensures all { self.new.all ≡ self.old.all }
-        ensures within { self.new.cells ≤ self.new.all }
+        ensures counted { self.new.cells + length self.new.waiting.cells ≡ self.new.all }
         ensures done { self.old.left ≡ [] → self.new.cells ≡ self.new.all }
     {
         match self.event.take() {
@@ -93,6 +102,7 @@ impl<C: Curve> Coming<C> {
 fn next_event<C: Curve>(search: &mut Option<Search<C>>, given: &mut u64) -> Option<Event>
     requires { given.old + cells_ahead search.old < 2 ^ 64 }
     ensures event { GivesEvent search.old result search.new }
+    ensures asked { searched_by search.old ≡ waiting result search.new }
     ensures cells { given.new + cells_ahead search.new ≡ given.old + cells_ahead search.old }
 {
     while let Some(found) = next_found(search) {

@@ -7,7 +7,7 @@ ghost use Rattle.harmonics_text.specs.declared.book.Units.{Units};
 ghost use Rattle.station_table.specs.declared.basis.Basis.{Basis};
 ghost use Rattle.station_table.specs.Bases.{is_plain};
 ghost use Rattle.event_list.specs.declared.span.Span.{Span};
-ghost use Rattle.event_list.specs.Words.{has_word};
+ghost use Rattle.event_text.specs.Words.{has_word};
 ghost use Rattle.event_list.specs.Shifts.{HasOffsets, IsMovable, widened_of, shifted_of};
 ghost use Rattle.event_list.specs.Events.{minutes_in, Followed, station_events, merged_of, cells_in, covers_of, cell_count, AllHaveLevels, AreKnown, AreAccepted, AllAgree, AreNamed};
 

@@ -1,7 +1,8 @@
 //! Which track's event comes first.
 
 ghost use Rattle.std.specs.Prelude.{◌≡◌};
-ghost use Rattle.event_list.specs.Workings.Coming.{leads, IsLeading};
+ghost use Rattle.event_list.specs.Merging.{leading, leads};
+ghost use Rattle.event_list.specs.Workings.Coming.{IsLeading};
 
 use crate::rank::comes_before;
 use curve_law::Event;
@@ -16,7 +17,8 @@ pub enum Leading {
 
 /// The track whose event comes first, if any has one.
 pub fn leading_of(turn: Option<Event>, slack: Option<Event>, mark: Option<Event>) -> Leading
-    ensures { IsLeading result turn slack mark }
+    ensures first { IsLeading result turn slack mark }
+    ensures which { result ≡ leading turn slack mark }
 {
     if leads(turn, slack) {
         if leads(turn, mark) {

@@ -1,4 +1,4 @@
-//! The events of a station, and their words.
+//! The events of a station.
 //!
 //! The events in the cells of a station's tracks come at once by [`track_events`] and [`merged`], or
 //! one at a time and without memory by a [`Merge`] of the searches. [`widened`] gives the span of the
@@ -7,34 +7,29 @@
 #![tactic(auto)]
 
 mod coming;
-mod event_word;
 mod laws;
 mod leading;
 mod merge;
 mod merging;
 mod moving;
-mod naming;
 mod rank;
 mod scaling;
 mod shifting;
 mod span;
 mod turning;
 mod widening;
-mod worked;
 mod worked_events;
 
-pub use event_word::EventWord;
+pub use event_text::{EventWord, word};
 pub use laws::{
     accepted_events_can_be_moved, agreeing_curves_have_one_list, cells_give_the_events,
     events_are_named, plain_bases_move_nothing,
 };
 pub use merge::Merge;
 pub use merging::merged;
-pub use naming::word;
 pub use scaling::scaled;
 pub use shifting::shifted;
 pub use span::Span;
 pub use turning::track_events;
 pub use widening::widened;
-pub use worked::worked_rows;
 pub use worked_events::{worked_orders, worked_shifts, worked_stations};

@@ -1,9 +1,9 @@
 //! The events of a station's searches, one at a time.
 
-ghost use Rattle.std.specs.Prelude.{◌≡◌, ◌^◌, ◌<◌};
+ghost use Rattle.std.specs.Prelude.{◌≡◌, ◌+◌, ◌^◌, ◌<◌, Some, None};
 ghost use Rattle.std.specs.Option.{ForSome};
 ghost use Rattle.event_list.specs.Events.{merged_of, cells_in};
-ghost use Rattle.event_list.specs.Merging.{tracks_left, GivesNext};
+ghost use Rattle.event_list.specs.Merging.{cells_to_come, stepped, tracks_left, waiting, GivesNext};
 
 use crate::coming::Coming;
 use crate::leading::{Leading, leading_of};
@@ -14,8 +14,9 @@ use std::marker::Model;
 /// The events of a station's searches in order, one at a time. It takes no memory, and asks a search
 /// for its next event once that is wanted.
 ///
-/// Contracts see the events that are left, the number of cells that the searches have given so far,
-/// and the number of all their cells.
+/// Contracts see the events that are left, of each search the event that waits to be given and the
+/// cells that are left, the number of cells that the searches have given so far, and the number of all
+/// their cells.
 #[derive(Drop)]
 pub struct Merge<A: Curve, B: Curve> {
     turn: Coming<A>,
@@ -42,6 +43,7 @@ impl<A: Curve, B: Curve> Merge<A, B> {
         requires mark_at { ForSome mark (λ search. search.at ≡ turn.at) }
         requires few { cells_in (tracks_left turn slack mark) < 2 ^ 64 }
         ensures left { result.left ≡ merged_of turn.at (tracks_left turn slack mark) }
+        ensures waiting { result.waiting ≡ record { turn = waiting None (Some turn); slack = waiting None slack; mark = waiting None mark } }
         ensures cells { result.cells ≡ 0 }
         ensures all { result.all ≡ cells_in (tracks_left turn slack mark) }
     {
@@ -53,8 +55,10 @@ impl<A: Curve, B: Curve> Merge<A, B> {
     }
 
     /// The next event; none where no event is left, and then the searches have given all their cells.
+    /// A search is asked for its next event only where none of its events waits.
     pub fn next(&mut self) -> Option<Event>
         ensures next { GivesNext self.old result self.new }
+        ensures asked { self.new.waiting ≡ stepped self.old.waiting }
         ensures all { self.new.all ≡ self.old.all }
     {
         let turn = self.turn.peek();
@@ -69,7 +73,8 @@ impl<A: Curve, B: Curve> Merge<A, B> {
 
     /// How many cells the searches have given so far.
     pub fn cells(&self) -> u64
-        ensures { result ≡ self.now.cells }
+        ensures value { result ≡ self.now.cells }
+        ensures given { result + cells_to_come self.now.waiting ≡ self.now.all }
     {
         self.turn.cells() + self.slack.cells() + self.mark.cells()
     }

@@ -1,24 +1,14 @@
 -- The listings of a station's events and levels, and what its clock tells (the layout of XTide's plain listings and of its clock).
-use Rattle.std.specs.Prelude.{ℕ, ℤ, Bool, true, false, IsTrue, List, ◌++◌, codes}
+use Rattle.std.specs.Prelude.{ℕ, ℤ, Bool, true, false, List, ◌++◌, codes}
 use Rattle.std.specs.List.{flat_map}
 use Rattle.curve_law.specs.declared.event.Event.{Event}
-use Rattle.event_list.specs.Words.{has_word}
+use Rattle.event_text.specs.Lines.{event_line_in, height_line_of}
 use Rattle.harmonics_text.specs.declared.book.Units.{Units}
 use Rattle.listing.specs.declared.row.Row.{Row}
-use Rattle.listing.specs.Lines.{event_line_of, height_line_of}
 use Rattle.zone_time.specs.declared.zone.Zone.{Zone}
-use Rattle.zone_time.specs.Zones.{InZoneYears, local_in}
+use Rattle.zone_time.specs.Zones.{local_in}
 
--- an event that has a line by the clock of each zone
-pub record IsListed (units : Units) (event : Event) : Type 0 where
-  pub minute : InZoneYears event.minute
-  pub named : IsTrue (has_word units event.kind)
-
--- an event's line by the clock of a zone
-abbrev pub event_line_in : Zone → Units → Event → List ℕ
-event_line_in zone units event = event_line_of (local_in zone event.minute) event units
-
--- the line of a level, likewise
+-- the line of a level by the clock of a zone
 abbrev pub row_line_in : Zone → Units → Row → List ℕ
 row_line_in zone units row = height_line_of (local_in zone row.minute) row.level units ++ codes "\n"
 

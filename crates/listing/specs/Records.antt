@@ -4,10 +4,10 @@ use Rattle.std.specs.List.{flat_map}
 use Rattle.csv.specs.Writing.{default_writer, row_text}
 use Rattle.curve_law.specs.declared.event.Event.{Event}
 use Rattle.decimal_text.specs.Writing.{write_of}
-use Rattle.event_list.specs.Words.{word_of, word_text}
+use Rattle.event_text.specs.Words.{word_of, word_text}
 use Rattle.harmonics_text.specs.declared.book.Units.{Units}
 use Rattle.listing.specs.declared.row.Row.{Row}
-use Rattle.listing.specs.Lines.{text_of_unit}
+use Rattle.event_text.specs.Lines.{text_of_unit}
 use Rattle.zone_time.specs.declared.zone.Zone.{Zone}
 use Rattle.zone_time.specs.Locals.{time_text}
 use Rattle.zone_time.specs.Moments.{moment_text}

@@ -6,7 +6,7 @@ use Rattle.harmonics_text.specs.declared.book.Book.{Book}
 use Rattle.harmonics_text.specs.declared.book.Station.{Station}
 use Rattle.harmonics_text.specs.declared.book.Units.{Units}
 use Rattle.station_table.specs.declared.offsets.Offsets.{Offsets}
-use Rattle.listing.specs.Lines.{text_of_unit}
+use Rattle.event_text.specs.Lines.{text_of_unit}
 
 -- the unit of the first station of that name
 abbrev pub unit_in : List Station → List ℕ → Option Units

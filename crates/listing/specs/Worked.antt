@@ -1,14 +1,6 @@
--- Two events and a level of a small file (this project).
-use Rattle.std.specs.Prelude.{pos, negsuc}
-use Rattle.curve_law.specs.declared.event.Event.{Event}
-use Rattle.curve_law.specs.declared.kind.Kind.TheVariants.{High, Low}
+-- A level of a small file (this project).
+use Rattle.std.specs.Prelude.{pos}
 use Rattle.listing.specs.declared.row.Row.{Row}
-
-abbrev pub low_tide : Event
-low_tide = record { minute = pos 15791400; kind = Low; level = negsuc 999999 }
-
-abbrev pub high_tide : Event
-high_tide = record { minute = pos 15791759; kind = High; level = pos 999962 }
 
 abbrev pub level_now : Row
 level_now = record { minute = pos 15791220; level = pos 1000000 }

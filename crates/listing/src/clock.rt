@@ -1,14 +1,15 @@
 //! What a station's clock tells.
 
 ghost use Rattle.std.specs.Prelude.{◌≡◌, ◌++◌, All, IfOk, OnOk};
-ghost use Rattle.listing.specs.Listings.{IsListed, clock_text_of, direction_of, now_line_of};
+ghost use Rattle.event_text.specs.Lines.{IsListed};
+ghost use Rattle.listing.specs.Listings.{clock_text_of, direction_of, now_line_of};
 ghost use Rattle.zone_time.specs.Zones.{IsZone, InZoneYears};
 
-use crate::lines::height_line;
 use crate::plain::{name_line, push_events};
 use arrayvec::ArrayString;
 use curve_law::Events;
 use decimal_text::{Bytes, Text};
+use event_text::height_line;
 use harmonics_text::Units;
 use std::alloc::{AllocError, Global};
 use zone_time::Zone;
@@ -16,7 +17,7 @@ use zone_time::Zone;
 /// The station's name, a line such as `Now 2000-01-10 03:00 UTC       0.00 feet  Falling`, and the
 /// line of each event, as [`event_line`](crate::event_line) has it.
 ///
-/// The level is in millionths of the unit. Each event has a [`word`](event_list::word) in that unit,
+/// The level is in millionths of the unit. Each event has a [`word`](event_text::word) in that unit,
 /// and each minute is of the years from 2 to 9300 or of the day before them.
 #[tactic(auto, unfolding(crate::specs::Listings::clock_text_of))]
 pub fn clock_text(

@@ -8,23 +8,18 @@
 #![tactic(auto)]
 
 mod clock;
-mod level;
-mod lines;
 mod plain;
 mod records;
 mod row;
 mod rows;
 mod stations;
-mod unit;
 mod worked;
 
 pub use clock::clock_text;
-pub use level::write_level;
-pub use lines::{event_line, height_line};
+pub use event_text::{event_line, height_line};
 pub use plain::{plain_events, plain_heights};
 pub use records::{csv_events, csv_heights};
 pub use row::Row;
 pub use rows::Rows;
 pub use stations::stations_text;
-pub use unit::unit_text;
-pub use worked::{worked_levels, worked_lines, worked_listings, worked_records, worked_stations};
+pub use worked::{worked_listings, worked_records, worked_stations};

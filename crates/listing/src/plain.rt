@@ -2,22 +2,23 @@
 
 ghost use Rattle.std.specs.Prelude.{◌≡◌, ◌++◌, All, IfOk, OnOk, codes};
 ghost use Rattle.std.specs.List.{flat_map};
-ghost use Rattle.listing.specs.Listings.{IsListed, event_line_in, row_line_in, plain_events_of, plain_heights_of};
+ghost use Rattle.event_text.specs.Lines.{IsListed, event_line_in};
+ghost use Rattle.listing.specs.Listings.{row_line_in, plain_events_of, plain_heights_of};
 ghost use Rattle.zone_time.specs.Zones.{IsZone, InZoneYears};
 
-use crate::lines::{event_line, height_line};
 use crate::row::Row;
 use crate::rows::Rows;
 use arrayvec::ArrayString;
 use curve_law::{Event, Events};
 use decimal_text::{Bytes, Text};
+use event_text::{event_line, height_line};
 use harmonics_text::Units;
 use std::alloc::{AllocError, Global};
 use zone_time::Zone;
 
 /// The station's name, and the line of each event in the zone's local time, as [`event_line`] has it.
 ///
-/// Each event has a [`word`](event_list::word) in that unit, and a minute of the years from 2 to
+/// Each event has a [`word`](event_text::word) in that unit, and a minute of the years from 2 to
 /// 9300 or of the day before them.
 #[tactic(auto, unfolding(crate::specs::Listings::plain_events_of))]
 pub fn plain_events(

@@ -3,7 +3,7 @@
 ghost use Rattle.std.specs.Prelude.{◌≡◌, [], ◌∷◌, ◌++◌, All, IfOk, OnOk, map};
 ghost use Rattle.std.specs.List.{flat_map};
 ghost use Rattle.csv.specs.Writing.{row_text};
-ghost use Rattle.listing.specs.Listings.{IsListed};
+ghost use Rattle.event_text.specs.Lines.{IsListed};
 ghost use Rattle.listing.specs.Records.{millionths_text, record_of, time_in, event_fields, event_header, row_fields, row_header, csv_events_of, csv_heights_of};
 ghost use Rattle.listing.specs.Workings.Writers.{IsAtRecord, written};
 ghost use Rattle.zone_time.specs.Moments.{moment_text};
@@ -11,12 +11,11 @@ ghost use Rattle.zone_time.specs.Zones.{IsZone, InZoneYears};
 
 use crate::row::Row;
 use crate::rows::Rows;
-use crate::unit::unit_text;
 use arrayvec::ArrayString;
 use csv::{Writer, WriterBuilder};
 use curve_law::{Event, Events};
 use decimal_text::{Bytes, Text, write};
-use event_list::word;
+use event_text::{unit_text, word};
 use harmonics_text::Units;
 use std::alloc::{AllocError, Global};
 use zone_time::{Zone, write_moment, write_time};
@@ -25,7 +24,7 @@ use zone_time::{Zone, write_moment, write_time};
 /// in universal time, as `2000-01-10T11:59Z`, and the local time is the zone's, as
 /// `2000-01-10 11:59`. The level has six decimals.
 ///
-/// Each event has a [`word`](event_list::word) in that unit, and a minute of the years from 2 to
+/// Each event has a [`word`](event_text::word) in that unit, and a minute of the years from 2 to
 /// 9300 or of the day before them.
 #[tactic(auto, unfolding(crate::specs::Records::csv_events_of))]
 pub fn csv_events(

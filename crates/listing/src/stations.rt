@@ -5,8 +5,8 @@ ghost use Rattle.std.specs.List.{flat_map};
 ghost use Rattle.listing.specs.StationLists.{unit_in, unit_or_dash, reference_line, subordinate_line, stations_text_of};
 ghost use Rattle.listing.specs.Workings.Units.{AreUnitsOf};
 
-use crate::unit::unit_text;
 use decimal_text::{Bytes, Text};
+use event_text::unit_text;
 use harmonics_text::{Book, Station, Units};
 use station_table::{OffsetTable, Offsets};
 use std::alloc::{AllocError, Global};

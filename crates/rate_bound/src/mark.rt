@@ -4,6 +4,7 @@ ghost use Rattle.std.specs.Prelude.{◌≡◌, pos, true};
 ghost use Rattle.std.specs.Bool.{OnTrue};
 ghost use Rattle.station_curve.specs.Limits.{IsGentle};
 ghost use Rattle.rate_bound.specs.Scale.{IsScale};
+ghost use Rattle.rate_bound.specs.declared.version.Version.TheVariants.{First, Second};
 
 use crate::marking::{over_mark, scaled};
 use crate::rates::{blended_level_rate, plain_level_rate};
@@ -30,6 +31,41 @@ pub struct MarkCurve<'a> {
 
 impl<'a> MarkCurve<'a> {
     ghost use Rattle.rate_bound.specs.Meanings.{mark_meaning};
+
+    /// The level against a mark with rates in the plain part of one year alone, its numbers as in
+    /// [`new`](MarkCurve::new).
+    pub fn over(
+        station: &'a StationCurve,
+        times: i64,
+        plus: i64,
+        mark: i64,
+        slack: bool,
+    ) -> MarkCurve<'a>
+        requires scale { IsScale times plus mark }
+        requires slack { OnTrue slack (mark ≡ pos 0) }
+        ensures meaning { ⟦<MarkCurve<'a> as Curve>⟧.meaning result
+            ≡ mark_meaning First station.now times plus mark slack }
+        ensures count { ⟦<MarkCurve<'a> as Curve>⟧.count result ≡ 0 }
+    {
+        MarkCurve::new(station, Version::First, times, plus, mark, slack)
+    }
+
+    /// The same with rates across a new year too.
+    pub fn blended(
+        station: &'a StationCurve,
+        times: i64,
+        plus: i64,
+        mark: i64,
+        slack: bool,
+    ) -> MarkCurve<'a>
+        requires scale { IsScale times plus mark }
+        requires slack { OnTrue slack (mark ≡ pos 0) }
+        ensures meaning { ⟦<MarkCurve<'a> as Curve>⟧.meaning result
+            ≡ mark_meaning Second station.now times plus mark slack }
+        ensures count { ⟦<MarkCurve<'a> as Curve>⟧.count result ≡ 0 }
+    {
+        MarkCurve::new(station, Version::Second, times, plus, mark, slack)
+    }
 
     /// The level against a mark, or a current's against 0 where it is a slack, with the rates of the
     /// version. `times` is from 1 to 100,000,000, `plus` and `mark` are from -10,000,000,000 to

@@ -2,6 +2,7 @@
 
 ghost use Rattle.std.specs.Prelude.{◌≡◌};
 ghost use Rattle.station_curve.specs.Limits.{IsGentle};
+ghost use Rattle.rate_bound.specs.declared.version.Version.TheVariants.{First, Second};
 
 use crate::rates::{blended_slope_rate, limited, plain_slope_rate};
 use crate::stretching::stretch_of;
@@ -22,6 +23,22 @@ pub struct TurnCurve<'a> {
 
 impl<'a> TurnCurve<'a> {
     ghost use Rattle.rate_bound.specs.Meanings.{turn_meaning};
+
+    /// The slope with rates in the plain part of one year alone. It was asked for no value yet.
+    pub fn over(station: &'a StationCurve) -> TurnCurve<'a>
+        ensures meaning { ⟦<TurnCurve<'a> as Curve>⟧.meaning result ≡ turn_meaning First station.now }
+        ensures count { ⟦<TurnCurve<'a> as Curve>⟧.count result ≡ 0 }
+    {
+        TurnCurve::new(station, Version::First)
+    }
+
+    /// The slope with rates across a new year too. It was asked for no value yet.
+    pub fn blended(station: &'a StationCurve) -> TurnCurve<'a>
+        ensures meaning { ⟦<TurnCurve<'a> as Curve>⟧.meaning result ≡ turn_meaning Second station.now }
+        ensures count { ⟦<TurnCurve<'a> as Curve>⟧.count result ≡ 0 }
+    {
+        TurnCurve::new(station, Version::Second)
+    }
 
     /// The slope with the rates of the version. It was asked for no value yet.
     pub fn new(station: &'a StationCurve, version: Version) -> TurnCurve<'a>

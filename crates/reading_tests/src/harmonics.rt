@@ -153,7 +153,7 @@ fn read_in_pieces(alloc: Global, bytes: &[u8], count: usize) -> Result<Book, Boo
 }
 
 /// What a file comes to that is fed in pieces of so many bytes: its book in words, or its fault.
-fn told_in_pieces(alloc: Global, bytes: &[u8], count: usize) -> Result<String, AllocError> {
+pub fn told_in_pieces(alloc: Global, bytes: &[u8], count: usize) -> Result<String, AllocError> {
     if bytes.len() > 400_000_000 || count == 0 {
         return Ok(String::new(alloc));
     }

@@ -12,9 +12,13 @@ mod certificates;
 #[cfg(test)]
 mod edge;
 #[cfg(test)]
+mod faults;
+#[cfg(test)]
 mod harmonics;
 #[cfg(test)]
 mod offsets;
+#[cfg(test)]
+mod sizes;
 #[cfg(test)]
 mod texts;
 #[cfg(test)]

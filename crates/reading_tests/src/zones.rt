@@ -173,6 +173,50 @@ fn zones_show_local_times(rt: HostRuntime) -> Result<(), Fail> {
     Ok(())
 }
 
+const LONG_HEAD: &[u8] =
+    b"TZif2\0\0\0\0\0\0\0\0\0\0\0\0\0\0\0\0\0\0\0\0\0\0\0\0\0\0\0\0\0\0\xec\0\0\0\x03\0\0\0\x0c";
+
+// A zone file with 236 changes, 182 and a half days from each to the next, the first in 1901.
+fn changed_often(alloc: Global) -> Result<Vec<u8>, Fail> {
+    let mut bytes = Vec::new(alloc);
+    bytes.extend_from_slice(OLD_BLOCK)?;
+    bytes.extend_from_slice(LONG_HEAD)?;
+    for change in 0..236i64 {
+        let second = change * 15_768_000 - 2_177_452_800;
+        bytes.extend_from_slice(&second.to_be_bytes())?;
+    }
+    for change in 0..236u32 {
+        bytes.push(if change % 2 == 0 { 2 } else { 1 })?;
+    }
+    bytes.extend_from_slice(TYPES)?;
+    bytes.extend_from_slice(b"\nEST5EDT,M3.2.0,M11.1.0\n")?;
+    Ok(bytes)
+}
+
+#[test]
+fn zones_of_many_changes_show_local_times(rt: HostRuntime) -> Result<(), Fail> {
+    let bytes = changed_often(rt.alloc())?;
+    let zone = read_zone(rt.alloc(), bytes.as_slice())?;
+    for (minute, ahead) in [
+        (-36290881, -297),
+        (-36290880, -300),
+        (-5543281, -300),
+        (-5543280, -240),
+        (25204319, -240),
+        (25204320, -300),
+        (25467119, -300),
+        (25467120, -240),
+        (25688519, -240),
+        (25688520, -300),
+    ] {
+        assert!(rt; (-1035069120..=3855733919).contains(&minute));
+        let local = zone.local(minute);
+        assert!(rt; local.label == Label::Minutes(ahead), "{minute}");
+        assert!(rt; local.minute == minute + i64::from(ahead), "{minute}");
+    }
+    Ok(())
+}
+
 #[test]
 fn bad_zone_files_are_refused(rt: HostRuntime) -> Result<(), Fail> {
     for footer in [

@@ -10,18 +10,18 @@ use Rattle.question.specs.Asked.{IsAsked}
 use Rattle.station_table.specs.declared.offsets.Offsets.{Offsets}
 use Rattle.zone_time.specs.declared.zone.Zone.{Zone}
 use Rattle.zone_time.specs.Moments.{IsMoment}
-use Rattle.tide_answer.specs.declared.asked.Asked.{Asked}
-use Rattle.tide_answer.specs.declared.following.Listed.{Listed}
-use Rattle.tide_answer.specs.declared.reach.Reach.TheVariants.{Events}
-use Rattle.tide_answer.specs.declared.refusal.Refusal.{Refusal}
+use Rattle.station_span.specs.declared.asked.Asked.{Asked}
+use Rattle.station_span.specs.declared.following.Listed.{Listed}
+use Rattle.station_span.specs.declared.reach.Reach.TheVariants.{Events}
+use Rattle.tide_fault.specs.declared.refusal.Refusal.{Refusal}
 use Rattle.tide_answer.specs.declared.text.Answer.{Answer}
 use Rattle.tide_answer.specs.Answers.{asks_name, asks_span, events_text, named_by, predicted, on_calendar}
 use Rattle.tide_answer.specs.Asking.{asked_by}
-use Rattle.tide_answer.specs.Faults.{wants_memory_of_refusal}
-use Rattle.tide_answer.specs.Sites.{Site, site_in}
-use Rattle.tide_answer.specs.Workings.Curves.{IsSiteList}
-use Rattle.tide_answer.specs.Workings.Spans.{IsNear}
-use Rattle.tide_answer.proofs.FoundLemmas.{excused_then}
+use Rattle.tide_fault.specs.Faults.{wants_memory_of_refusal}
+use Rattle.station_span.specs.Sites.{Site, site_in}
+use Rattle.station_span.specs.Workings.Curves.{IsSiteList}
+use Rattle.station_span.specs.Workings.Spans.{IsNear}
+use Rattle.station_span.proofs.FoundLemmas.{excused_then}
 
 -- ---- events
 

@@ -26,18 +26,18 @@ use Rattle.station_curve.specs.Limits.{IsGentle}
 use Rattle.station_curve.specs.Waves.{Tide}
 use Rattle.station_table.specs.declared.offsets.Offsets.{Offsets}
 use Rattle.zone_time.specs.Moments.{IsMoment}
-use Rattle.tide_answer.specs.declared.asked.Asked.{Asked}
-use Rattle.tide_answer.specs.declared.reach.Reach.TheVariants.{Events}
-use Rattle.tide_answer.specs.declared.station.Found.{Found}
+use Rattle.station_span.specs.declared.asked.Asked.{Asked}
+use Rattle.station_span.specs.declared.reach.Reach.TheVariants.{Events}
+use Rattle.station_span.specs.declared.station.Found.{Found}
 use Rattle.tide_answer.specs.Answers.{certified}
-use Rattle.tide_answer.specs.Following.{if_asked, followed_by, tracks_of, cells_of}
-use Rattle.tide_answer.specs.Sites.{Site, site_in}
+use Rattle.station_span.specs.Following.{if_asked, followed_by, tracks_of, cells_of}
+use Rattle.station_span.specs.Sites.{Site, site_in}
 use Rattle.tide_answer.specs.Workings.Certifying.{certificate_in}
-use Rattle.tide_answer.specs.Workings.Curves.{followed_tide, IsReady}
-use Rattle.tide_answer.specs.Workings.Spans.{IsFound}
-use Rattle.tide_answer.proofs.CellLemmas.{IsOf, accepted_track, usual_track}
-use Rattle.tide_answer.proofs.FollowLemmas.{found_alike, ready_known, few_cells}
-use Rattle.tide_answer.proofs.MovableLemmas.{millionths_small}
+use Rattle.station_span.specs.Workings.Curves.{followed_tide, IsReady}
+use Rattle.station_span.specs.Workings.Spans.{IsFound}
+use Rattle.station_cells.proofs.CellLemmas.{IsOf, accepted_track, usual_track}
+use Rattle.station_span.proofs.FollowLemmas.{found_alike, ready_known, few_cells}
+use Rattle.station_span.proofs.MovableLemmas.{millionths_small}
 
 -- ---- what was found, and the site
 

@@ -36,24 +36,25 @@ use Rattle.rate_bound.specs.declared.version.Version.TheVariants.{Second}
 use Rattle.rate_bound.specs.Meanings.{mark_meaning}
 use Rattle.station_table.specs.declared.offsets.Offsets.{Offsets}
 use Rattle.zone_time.specs.declared.zone.Zone.{Zone}
-use Rattle.tide_answer.specs.declared.asked.Asked.{Asked}
-use Rattle.tide_answer.specs.declared.reach.Reach.TheVariants.{Events}
-use Rattle.tide_answer.specs.declared.refusal.Refusal.{Refusal}
-use Rattle.tide_answer.specs.declared.rejection.Rejection.{Rejection}
-use Rattle.tide_answer.specs.declared.station.Found.{Found}
+use Rattle.station_span.specs.declared.asked.Asked.{Asked}
+use Rattle.station_span.specs.declared.reach.Reach.TheVariants.{Events}
+use Rattle.tide_fault.specs.declared.refusal.Refusal.{Refusal}
+use Rattle.station_cells.specs.declared.rejection.Rejection.{Rejection}
+use Rattle.station_span.specs.declared.station.Found.{Found}
 use Rattle.tide_answer.specs.Answers.{checked, judged, version_of}
 use Rattle.tide_answer.specs.Asking.{asked_in}
-use Rattle.tide_answer.specs.Faults.{refusal_of_cert, wants_memory_of_refusal}
-use Rattle.tide_answer.specs.Following.{asks_slack, slack_times, slack_plus, if_asked, followed_by, events_of}
-use Rattle.tide_answer.specs.Rejections.{slack_fault, fault_from, track_fault, rejection_of}
-use Rattle.tide_answer.specs.Sites.{Site, site_in}
-use Rattle.tide_answer.specs.Workings.Certifying.{accepted, rejected, judged_in, tide_rejection, HasFewCells}
-use Rattle.tide_answer.specs.Workings.Curves.{followed_tide, tide_events, IsReady}
-use Rattle.tide_answer.specs.Workings.Spans.{IsFound, IsNear}
-use Rattle.tide_answer.proofs.CellLemmas.{accepted_if}
+use Rattle.tide_fault.specs.Faults.{refusal_of_cert, wants_memory_of_refusal}
+use Rattle.station_span.specs.Following.{asks_slack, slack_times, slack_plus, if_asked, followed_by, events_of}
+use Rattle.station_cells.specs.Rejections.{slack_fault, fault_from, track_fault, rejection_of}
+use Rattle.station_span.specs.Sites.{Site, site_in}
+use Rattle.station_cells.specs.Rejections.{HasFewCells}
+use Rattle.tide_answer.specs.Workings.Certifying.{accepted, rejected, judged_in, tide_rejection}
+use Rattle.station_span.specs.Workings.Curves.{followed_tide, tide_events, IsReady}
+use Rattle.station_span.specs.Workings.Spans.{IsFound, IsNear}
+use Rattle.station_cells.proofs.RejectionLemmas.{all_accepted, rejection_alike, tracks_short}
 use Rattle.tide_answer.proofs.CertificateLemmas.{looked_few}
-use Rattle.tide_answer.proofs.FollowLemmas.{found_alike, found_events, ready_known, ready_movable}
-use Rattle.tide_answer.proofs.FoundLemmas.{excused_then}
+use Rattle.station_span.proofs.FollowLemmas.{found_alike, found_events, ready_known, ready_movable}
+use Rattle.station_span.proofs.FoundLemmas.{excused_then}
 
 -- ---- a text has a line for each cell
 
@@ -96,41 +97,6 @@ few_read c bytes text few =
 
 -- ---- nothing is wrong
 
-none_of : (a b : Option Rejection) → option_or a b ≡ None → (a ≡ None) × (b ≡ None)
-none_of None b h = (refl, h)
-none_of (Some x) b h = absurd cc
-
-fault_none : (track : TrackName) (v : Verdict) → fault_from track v ≡ None → v ≡ Accepted
-fault_none track Accepted h = refl
-fault_none track (WrongLength covered wanted) h = absurd cc
-fault_none track (NotQuiet cell) h = absurd cc
-fault_none track (WrongStep cell) h = absurd cc
-fault_none track (WrongLevel cell written computed) h = absurd cc
-
-slack_same : (asked there : Bool) → slack_fault asked there ≡ None → asked ≡ there
-slack_same true true h = refl
-slack_same true false h = absurd cc
-slack_same false true h = absurd cc
-slack_same false false h = refl
-
-if_accepted : (s : Span) (track : TrackName) (curve : Option Meaning) (cells : Option (List Cell)) → is_some curve ≡ is_some cells → track_fault s track curve cells ≡ None → IsAccepted s curve cells
-if_accepted s track None None same none = tt
-if_accepted s track None (Some cells) same none = absurd cc
-if_accepted s track (Some c) None same none = absurd cc
-if_accepted s track (Some c) (Some cells) same none = fault_none track (verdict c s.begin (minutes_in s) cells) none
-
-all_accepted : (f : Followed) (s : Span) (t : Tracks) → is_some f.mark ≡ is_some t.mark → rejection_of f s t ≡ None → AreAccepted f s t
-unfolding rejection_of
-all_accepted f s t marked none =
-    let mark = none_of _ _ none in
-    let slack = none_of _ _ mark.0 in
-    let turn = none_of _ _ slack.0 in
-    record {
-      turn = fault_none Turn (verdict f.turn s.begin (minutes_in s) t.turn) turn.1;
-      slack = if_accepted s Slack f.slack t.slack (slack_same _ _ turn.0) slack.1;
-      mark = if_accepted s Mark f.mark t.mark marked mark.1;
-    }
-
 mark_followed : (version : Version) (found : Found) (mark : Option ℤ) → is_some (followed_tide version found mark).mark ≡ is_some mark
 unfolding followed_tide
 mark_followed version found (Some level) = refl
@@ -142,28 +108,6 @@ tide_accepted found cert sound none =
     (mark_followed (version_of cert) found cert.mark ∙ sym sound.marked) none
 
 -- ---- accepted tracks are short
-
-verdict_minutes : (c : Meaning) (a : ℤ) (n : ℕ) (cells : List Cell) → verdict c a n cells ≡ Accepted → all_minutes cells ≡ n
-unfolding verdict
-verdict_minutes c a n cells ok = (Decides-eqb (all_minutes cells) n).0 (accepted_if (all_minutes cells == n) _ _ (λ e. cc) ok).0
-
-short_if : (s : Span) (curve : Option Meaning) (cells : Option (List Cell)) → minutes_in s ≤ 6000000 → IsAccepted s curve cells → ForSome cells (λ cells. all_minutes cells ≤ 6000000)
-short_if s None (Some cells) few ok x e = absurd ok
-short_if s (Some c) (Some cells) few ok x e =
-    let same : cells ≡ x = cc in
-    let all = verdict_minutes c s.begin (minutes_in s) cells ok in
-    rw (← same) (omega (arith, all, few))
-short_if s None None few ok x e = absurd cc
-short_if s (Some c) None few ok x e = absurd cc
-
-tracks_short : (f : Followed) (s : Span) (t : Tracks) → minutes_in s ≤ 6000000 → AreAccepted f s t → AreShort t
-tracks_short f s t few ok =
-    let all = verdict_minutes f.turn s.begin (minutes_in s) t.turn ok.turn in
-    record {
-      turn = omega (arith, all, few);
-      slack = short_if s f.slack t.slack few ok.slack;
-      mark = short_if s f.mark t.mark few ok.mark;
-    }
 
 pub ready_short : (found : Found) (cert : Certificate) → IsReady (asked_in cert) found → IsCertificate cert → tide_rejection found cert ≡ None → AreShort cert.tracks
 ready_short found cert ready sound none =
@@ -230,34 +174,6 @@ near_read cert sound =
     record { begin = omega (arith, ints); end = omega (arith, ints); mark = marks_near cert.mark sound.mark }
 
 -- ---- the answer
-
-some_alike : (s : Span) (c d : Option Meaning) → AgreeIfFollowed s c d → is_some c ≡ is_some d
-some_alike s None None agree = refl
-some_alike s None (Some d) agree = absurd agree
-some_alike s (Some c) None agree = absurd agree
-some_alike s (Some c) (Some d) agree = refl
-
-fault_alike : (s : Span) (track : TrackName) (c d : Option Meaning) (cells : Option (List Cell)) → AgreeIfFollowed s c d → track_fault s track c cells ≡ track_fault s track d cells
-fault_alike s track None None cells agree = refl
-fault_alike s track None (Some d) cells agree = absurd agree
-fault_alike s track (Some c) None cells agree = absurd agree
-fault_alike s track (Some c) (Some d) None agree = refl
-fault_alike s track (Some c) (Some d) (Some cells) agree = ap (fault_from track) (verdict-agrees c d s.begin (minutes_in s) cells agree)
-
-rejection_alike : (f g : Followed) (s : Span) (t : Tracks) → AllAgree f g s → rejection_of f s t ≡ rejection_of g s t
-unfolding rejection_of
-rejection_alike f g s t agree =
-    let fault : Bool → Option Rejection → Option Rejection → Option Rejection → Option Rejection =
-    λ asks turn slack mark. option_or (option_or (option_or (slack_fault asks (is_some t.slack)) turn) slack) mark in
-    let turn = track_fault s Turn (Some f.turn) (Some t.turn) in
-    let turn' = track_fault s Turn (Some g.turn) (Some t.turn) in
-    let slack = track_fault s Slack f.slack t.slack in
-    let slack' = track_fault s Slack g.slack t.slack in
-    let mark = track_fault s Mark f.mark t.mark in
-    ap (λ asks. fault asks turn slack mark) (some_alike s f.slack g.slack agree.slack)
-    ∙ ap (λ x. fault (is_some g.slack) x slack mark) (fault_alike s Turn (Some f.turn) (Some g.turn) (Some t.turn) agree.turn)
-    ∙ ap (λ x. fault (is_some g.slack) turn' x mark) (fault_alike s Slack f.slack g.slack t.slack agree.slack)
-    ∙ ap (λ x. fault (is_some g.slack) turn' slack' x) (fault_alike s Mark f.mark g.mark t.mark agree.mark)
 
 pub site_rejection : (book : Book) (cert : Certificate) (site : Site) (found : Found) → IsFound Events book (asked_in cert) site found → tide_rejection found cert ≡ rejection_of (followed_by (version_of cert) book site cert.mark) (widened_of site.basis cert.begin cert.end) cert.tracks
 site_rejection book cert site found is =

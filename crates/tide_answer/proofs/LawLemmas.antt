@@ -26,26 +26,26 @@ use Rattle.rate_bound.specs.Meanings.{mark_meaning}
 use Rattle.station_table.specs.declared.offsets.Offsets.{Offsets}
 use Rattle.station_table.specs.Offsets.{IsTable}
 use Rattle.zone_time.specs.declared.zone.Zone.{Zone}
-use Rattle.tide_answer.specs.declared.asked.Asked.{Asked}
-use Rattle.tide_answer.specs.declared.reach.Reach.TheVariants.{Events}
-use Rattle.tide_answer.specs.declared.rejection.Rejection.{Rejection}
-use Rattle.tide_answer.specs.declared.station.Found.{Found}
+use Rattle.station_span.specs.declared.asked.Asked.{Asked}
+use Rattle.station_span.specs.declared.reach.Reach.TheVariants.{Events}
+use Rattle.station_cells.specs.declared.rejection.Rejection.{Rejection}
+use Rattle.station_span.specs.declared.station.Found.{Found}
 use Rattle.tide_answer.specs.declared.text.Answer.{Answer}
 use Rattle.tide_answer.specs.Answers.{predicted, certified, checked, certificate_by, certificate_from, version_of, judged, text_of_events, events_text}
 use Rattle.tide_answer.specs.Asking.{asked_in}
-use Rattle.tide_answer.specs.Following.{asks_slack, slack_times, slack_plus, if_asked, followed, followed_by, events_of, tracks_of}
+use Rattle.station_span.specs.Following.{asks_slack, slack_times, slack_plus, if_asked, followed, followed_by, events_of, tracks_of}
 use Rattle.tide_answer.specs.Laws.{IsAskable, AcceptsListing, TellsTrack, TellsTracks, AcceptsWhatIsCertified, AcceptsOnlyWhatIsTrue, CertifiesInShort}
-use Rattle.tide_answer.specs.Rejections.{slack_fault, fault_from, track_fault, rejection_of}
-use Rattle.tide_answer.specs.Sites.{Site, site_in}
+use Rattle.station_cells.specs.Rejections.{slack_fault, fault_from, track_fault, rejection_of}
+use Rattle.station_span.specs.Sites.{Site, site_in}
 use Rattle.tide_answer.specs.Workings.Certifying.{tide_rejection}
-use Rattle.tide_answer.specs.Workings.Curves.{followed_tide, IsReady}
-use Rattle.tide_answer.specs.Workings.Spans.{IsFound, IsNear}
+use Rattle.station_span.specs.Workings.Curves.{followed_tide, IsReady}
+use Rattle.station_span.specs.Workings.Spans.{IsFound, IsNear}
 use Rattle.tide_answer.proofs.AnswerLemmas.{moment_near}
 use Rattle.tide_answer.proofs.CertificateLemmas.{certificate_few, certificate_sound, certificate_usual, tracks_alike}
 use Rattle.tide_answer.proofs.CheckLemmas.{checked_by, judged_by, near_read, site_rejection, tide_accepted}
-use Rattle.tide_answer.proofs.FollowLemmas.{found_alike, ready_known, ready_of_found}
-use Rattle.tide_answer.proofs.NameLemmas.{site_name}
-use Rattle.tide_answer.proofs.SiteLemmas.{found_at, found_of_site, then_ok}
+use Rattle.station_span.proofs.FollowLemmas.{found_alike, ready_known, ready_of_found}
+use Rattle.station_span.proofs.NameLemmas.{site_name}
+use Rattle.station_span.proofs.SiteLemmas.{found_at, found_of_site, then_ok}
 
 -- ---- tracks that are accepted tell the events
 

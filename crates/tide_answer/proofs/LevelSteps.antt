@@ -7,21 +7,24 @@ use Rattle.listing.specs.Listings.{clock_text_of}
 use Rattle.question.specs.declared.question.Layout.{Layout}
 use Rattle.station_table.specs.declared.offsets.Offsets.{Offsets}
 use Rattle.zone_time.specs.declared.zone.Zone.{Zone}
-use Rattle.tide_answer.specs.declared.asked.Asked.{Asked}
-use Rattle.tide_answer.specs.declared.following.Listed.{Listed}
-use Rattle.tide_answer.specs.declared.reach.Reach.{Reach}
-use Rattle.tide_answer.specs.declared.reach.Reach.TheVariants.{Events, Levels}
-use Rattle.tide_answer.specs.declared.refusal.Refusal.{Refusal}
-use Rattle.tide_answer.specs.declared.station.Found.{Found}
-use Rattle.tide_answer.specs.Answers.{heights, heights_text, level_in, on_clock, rows_in, text_alone}
+use Rattle.station_span.specs.declared.asked.Asked.{Asked}
+use Rattle.station_span.specs.declared.following.Listed.{Listed}
+use Rattle.station_span.specs.declared.reach.Reach.{Reach}
+use Rattle.station_span.specs.declared.reach.Reach.TheVariants.{Events, Levels}
+use Rattle.tide_fault.specs.declared.refusal.Refusal.{Refusal}
+use Rattle.station_span.specs.declared.station.Found.{Found}
+use Rattle.station_span.specs.Levels.{level_in}
+use Rattle.tide_answer.specs.Answers.{heights, heights_text, on_clock, rows_in, text_alone}
 use Rattle.tide_answer.specs.Asking.{asked_from}
-use Rattle.tide_answer.specs.Sites.{Site, site_in}
-use Rattle.tide_answer.specs.Workings.Curves.{IsTideList}
-use Rattle.tide_answer.specs.Workings.Levels.{tide_level, is_tide_rising, tide_rows, HasLevel, HasLevelsIn, IsStep}
-use Rattle.tide_answer.specs.Workings.Spans.{IsFound, IsNear}
-use Rattle.tide_answer.proofs.FollowLemmas.{site_list_of_tide}
-use Rattle.tide_answer.proofs.FoundLemmas.{excused_then}
-use Rattle.tide_answer.proofs.LevelLemmas.{found_level, site_level, site_rising, site_rows}
+use Rattle.station_span.specs.Sites.{Site, site_in}
+use Rattle.station_span.specs.Workings.Curves.{IsTideList}
+use Rattle.tide_answer.specs.Workings.Rows.{tide_rows, IsStep}
+use Rattle.station_span.specs.Workings.Levels.{tide_level, is_tide_rising, HasLevel, HasLevelsIn}
+use Rattle.station_span.specs.Workings.Spans.{IsFound, IsNear}
+use Rattle.station_span.proofs.FollowLemmas.{site_list_of_tide}
+use Rattle.station_span.proofs.FoundLemmas.{excused_then}
+use Rattle.tide_answer.proofs.RowLemmas.{site_rows}
+use Rattle.station_span.proofs.LevelLemmas.{found_level, site_level, site_rising}
 
 -- a site that was found, and that has levels
 pub record HasSite (reach : Reach) (book : Book) (table : List Offsets) (name : List ℕ) (asked : Asked) (site : Site) (found : Found) : Type 0 where

@@ -11,22 +11,22 @@ use Rattle.station_table.specs.declared.offsets.Offsets.{Offsets}
 use Rattle.station_table.specs.declared.basis.Basis.{Basis}
 use Rattle.station_table.specs.Bases.{is_plain}
 use Rattle.zone_time.specs.declared.zone.Zone.{Zone}
-use Rattle.tide_answer.specs.declared.asked.Asked.{Asked}
+use Rattle.station_span.specs.declared.asked.Asked.{Asked}
 use Rattle.tide_answer.specs.declared.given.Given.{Given}
-use Rattle.tide_answer.specs.declared.reach.Reach.TheVariants.{Events}
-use Rattle.tide_answer.specs.declared.refusal.Refusal.{Refusal}
-use Rattle.tide_answer.specs.declared.station.Found.{Found}
+use Rattle.station_span.specs.declared.reach.Reach.TheVariants.{Events}
+use Rattle.tide_fault.specs.declared.refusal.Refusal.{Refusal}
+use Rattle.station_span.specs.declared.station.Found.{Found}
 use Rattle.tide_answer.specs.Answers.{answered, built, asks_span, named_by, predicted, certified}
 use Rattle.tide_answer.specs.Asking.{asked_by}
-use Rattle.tide_answer.specs.Following.{cells_of, tracks_of}
+use Rattle.station_span.specs.Following.{cells_of, tracks_of}
 use Rattle.event_list.specs.Events.{cell_count}
-use Rattle.tide_answer.specs.Sites.{Site, site_in}
+use Rattle.station_span.specs.Sites.{Site, site_in}
 use Rattle.tide_answer.specs.Streams.{can_stream, prepared, streams_by}
-use Rattle.tide_answer.specs.Workings.Spans.{IsFound}
+use Rattle.station_span.specs.Workings.Spans.{IsFound}
 use Rattle.tide_answer.specs.Workings.Streaming.{form_of, stream_answer, tide_tracks}
 use Rattle.tide_answer.proofs.CertificateLemmas.{tracks_alike}
-use Rattle.tide_answer.proofs.FollowLemmas.{found_events, found_cells}
-use Rattle.tide_answer.proofs.FoundLemmas.{excused_then}
+use Rattle.station_span.proofs.FollowLemmas.{found_events, found_cells}
+use Rattle.station_span.proofs.FoundLemmas.{excused_then}
 
 -- where the name is missing
 pub refused_station : (command : Command) (book : Book) (table : List Offsets) (question : Question) (given : Given) (refusal : Refusal) → question.command ≡ command → IsTrue (can_stream command) → named_by question.station ≡ Err refusal → prepared book table question given ≡ Err refusal

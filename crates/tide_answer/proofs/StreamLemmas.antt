@@ -24,13 +24,13 @@ use Rattle.event_list.proofs.EventLemmas.{cells-parts, count-few, merged-parts}
 use Rattle.event_list.proofs.OrderLemmas.{sum-ordered}
 use Rattle.interval_search.specs.Looking.{Looking}
 use Rattle.rate_bound.specs.declared.version.Version.TheVariants.{Second}
-use Rattle.tide_answer.specs.declared.asked.Asked.{Asked}
-use Rattle.tide_answer.specs.declared.station.Found.{Found}
-use Rattle.tide_answer.specs.Workings.Curves.{followed_tide, AreMerged, IsReady}
-use Rattle.tide_answer.specs.Workings.Sending.{left_count}
+use Rattle.station_span.specs.declared.asked.Asked.{Asked}
+use Rattle.station_span.specs.declared.station.Found.{Found}
+use Rattle.station_span.specs.Workings.Curves.{followed_tide, AreMerged, IsReady}
+use Rattle.station_cells.specs.Sending.{left_count}
 use Rattle.tide_answer.specs.Workings.Streaming.{head_text, tide_tracks, tracks_text, HasCells}
 use Rattle.tide_answer.specs.Workings.Certifying.{certificate_in}
-use Rattle.tide_answer.specs.Workings.Spans.{AreMoments}
+use Rattle.station_span.specs.Workings.Spans.{AreMoments}
 use Rattle.tide_answer.proofs.CertificateLemmas.{certificate_sound}
 
 -- ---- cells

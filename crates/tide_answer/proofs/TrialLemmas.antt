@@ -12,24 +12,25 @@ use Rattle.event_list.proofs.EventLemmas.{count-few}
 use Rattle.harmonics_text.specs.declared.book.Book.{Book}
 use Rattle.harmonics_text.specs.declared.book.Station.{Station}
 use Rattle.rate_bound.specs.declared.version.Version.TheVariants.{Second}
-use Rattle.tide_answer.specs.declared.asked.Asked.{Asked}
-use Rattle.tide_answer.specs.declared.reach.Reach.TheVariants.{Events}
-use Rattle.tide_answer.specs.declared.refusal.Refusal.{Refusal}
-use Rattle.tide_answer.specs.declared.rejection.Rejection.{Rejection}
-use Rattle.tide_answer.specs.declared.station.Found.{Found}
+use Rattle.station_span.specs.declared.asked.Asked.{Asked}
+use Rattle.station_span.specs.declared.reach.Reach.TheVariants.{Events}
+use Rattle.tide_fault.specs.declared.refusal.Refusal.{Refusal}
+use Rattle.station_cells.specs.declared.rejection.Rejection.{Rejection}
+use Rattle.station_span.specs.declared.station.Found.{Found}
 use Rattle.tide_answer.specs.declared.tally.Tally.{Tally}
-use Rattle.tide_answer.specs.Following.{followed, events_of}
-use Rattle.tide_answer.specs.Rejections.{rejection_of}
-use Rattle.tide_answer.specs.Sites.{Site, site_in}
+use Rattle.station_span.specs.Following.{followed, events_of}
+use Rattle.station_cells.specs.Rejections.{rejection_of}
+use Rattle.station_span.specs.Sites.{Site, site_in}
 use Rattle.tide_answer.specs.Trials.{plus, station_tally, tally_on, tally_at, tally_by, trial_span}
-use Rattle.tide_answer.specs.Workings.Certifying.{certificate_in, tide_rejection, HasFewCells}
-use Rattle.tide_answer.specs.Workings.Curves.{followed_tide, tide_events, IsReady}
-use Rattle.tide_answer.specs.Workings.Spans.{IsFound, IsNear}
+use Rattle.station_cells.specs.Rejections.{HasFewCells}
+use Rattle.tide_answer.specs.Workings.Certifying.{certificate_in, tide_rejection}
+use Rattle.station_span.specs.Workings.Curves.{followed_tide, tide_events, IsReady}
+use Rattle.station_span.specs.Workings.Spans.{IsFound, IsNear}
 use Rattle.tide_answer.specs.Workings.Tallies.{IsUpTo}
 use Rattle.tide_answer.proofs.CertificateLemmas.{tracks_alike}
 use Rattle.tide_answer.proofs.CheckLemmas.{site_rejection}
-use Rattle.tide_answer.proofs.FollowLemmas.{found_events}
-use Rattle.tide_answer.proofs.FoundLemmas.{excused_then}
+use Rattle.station_span.proofs.FollowLemmas.{found_events}
+use Rattle.station_span.proofs.FoundLemmas.{excused_then}
 
 tally_alike : (book : Book) (asked : Asked) (name : List ℕ) (site : Site) (found : Found) (tracks : Tracks) → IsFound Events book asked site found → tracks ≡ covers_of (followed_tide Second found asked.mark) (widened_of found.basis asked.begin asked.end) → tally_by (widened_of found.basis asked.begin asked.end) tracks (tide_events found asked) (tide_rejection found (certificate_in name asked tracks)) ≡ tally_at book site asked
 unfolding tally_at

@@ -1,5 +1,5 @@
 -- The answer to a question over a book of harmonic constants and a table of offsets (this project).
-use Rattle.std.specs.Prelude.{ℕ, ◌+◌, ◌/◌, ℤ, pos, ◌+ℤ◌, ◌-ℤ◌, ◌*ℤ◌, int_lt, nat_lt, unsigned_abs, Bool, true, false, ◌==◌, if◌then◌else◌, List, ◌++◌, map, codes, Option, Some, None, Result, Ok, Err}
+use Rattle.std.specs.Prelude.{ℕ, ◌+◌, ◌/◌, ℤ, pos, ◌+ℤ◌, ◌-ℤ◌, ◌*ℤ◌, nat_lt, unsigned_abs, true, false, ◌==◌, if◌then◌else◌, List, ◌++◌, map, codes, Option, Some, None, Result, Ok, Err}
 use Rattle.std.specs.List.{range_with_len}
 use Rattle.std.specs.Option.{ok_or}
 use Rattle.cert_text.specs.declared.certificate.Certificate.{Certificate}
@@ -9,7 +9,7 @@ use Rattle.cert_text.specs.Readings.{certificate_of}
 use Rattle.calendar_sheet.specs.Calendars.{calendar_text_of}
 use Rattle.curve_law.specs.declared.event.Event.{Event}
 use Rattle.decimal_text.specs.Expected.{◌>>=◌}
-use Rattle.event_list.specs.Shifts.{widened_of, scaled}
+use Rattle.event_list.specs.Shifts.{widened_of}
 use Rattle.harmonics_text.specs.declared.book.Book.{Book}
 use Rattle.harmonics_text.specs.declared.book.Units.{Units}
 use Rattle.listing.specs.declared.row.Row.{Row}
@@ -24,23 +24,21 @@ use Rattle.question.specs.declared.question.Question.{Question}
 use Rattle.rate_bound.specs.declared.version.Version.{Version}
 use Rattle.rate_bound.specs.declared.version.Version.TheVariants.{First, Second}
 use Rattle.sample_tides.specs.File.{sample_of}
-use Rattle.station_curve.specs.Schureman.{predicted_slope, predicted_millionths}
-use Rattle.station_table.specs.declared.basis.Basis.{Basis}
 use Rattle.station_table.specs.declared.offsets.Offsets.{Offsets}
-use Rattle.station_table.specs.Bases.{is_equal}
 use Rattle.zone_time.specs.declared.zone.Zone.{Zone}
-use Rattle.tide_answer.specs.declared.asked.Asked.{Asked}
+use Rattle.station_span.specs.declared.asked.Asked.{Asked}
 use Rattle.tide_answer.specs.declared.given.Given.{Given}
-use Rattle.tide_answer.specs.declared.reach.Reach.TheVariants.{Events, Levels}
-use Rattle.tide_answer.specs.declared.refusal.Refusal.{Refusal}
-use Rattle.tide_answer.specs.declared.refusal.Refusal.TheVariants.{NotBuilt, NoStation, LevelNotHere, TooManyRows}
-use Rattle.tide_answer.specs.declared.rejection.Rejection.{Rejection}
+use Rattle.station_span.specs.declared.reach.Reach.TheVariants.{Events, Levels}
+use Rattle.tide_fault.specs.declared.refusal.Refusal.{Refusal}
+use Rattle.tide_fault.specs.declared.refusal.Refusal.TheVariants.{NotBuilt, NoStation, TooManyRows}
+use Rattle.station_cells.specs.declared.rejection.Rejection.{Rejection}
 use Rattle.tide_answer.specs.declared.text.Answer.{Answer}
 use Rattle.tide_answer.specs.Asking.{asked_by, asked_from, asked_in, is_built}
-use Rattle.tide_answer.specs.Faults.{refusal_of_cert}
-use Rattle.tide_answer.specs.Following.{followed_by, events_of, tracks_of, cells_of}
-use Rattle.tide_answer.specs.Rejections.{rejection_of, rejection_line}
-use Rattle.tide_answer.specs.Sites.{Site, site_in}
+use Rattle.tide_fault.specs.Faults.{refusal_of_cert}
+use Rattle.station_span.specs.Following.{followed_by, events_of, tracks_of, cells_of}
+use Rattle.station_cells.specs.Rejections.{rejection_of, rejection_line}
+use Rattle.station_span.specs.Levels.{is_rising_at, level_at, level_in}
+use Rattle.station_span.specs.Sites.{Site, site_in}
 use Rattle.tide_answer.specs.Trials.{trial_of}
 
 -- directly after the words: what isn't built as yet
@@ -111,14 +109,6 @@ checked book table bytes zone = do
 
 -- ---- levels
 
--- a level is asked only where highs and lows have the same offsets
-abbrev pub level_in : Basis → Result (Unit {0}) Refusal
-level_in basis = if is_equal basis then Ok tt else Err LevelNotHere
-
--- the station's level at a minute, from the reference's at the minute that is moved there
-abbrev pub level_at : Book → Site → ℤ → ℤ
-level_at book site minute = scaled site.basis.high (predicted_millionths book site.station (minute -ℤ site.basis.high.add))
-
 -- how many minutes there are from the begin to the end, the end included, by steps
 abbrev pub row_count : ℤ → ℤ → ℤ → ℕ
 row_count begin end step = unsigned_abs (end -ℤ begin) / unsigned_abs step + 1
@@ -150,9 +140,6 @@ heights book table name asked step layout zone = do
   Ok (text_alone (heights_text layout name site.station.units (rows_of book site asked.begin asked.end step) zone))
 
 -- the level and its direction at a minute, and the events of the day from there on
-abbrev pub is_rising_at : Book → Site → ℤ → Bool
-is_rising_at book site minute = int_lt (pos 0) (predicted_slope book site.station (minute -ℤ site.basis.high.add))
-
 unfoldable pub on_clock : Book → List Offsets → List ℕ → ℤ → Zone → Result Answer Refusal
 on_clock book table name now zone = do
   site ← site_in Events book table name (asked_from now)
@@ -178,6 +165,16 @@ asks_name question next = do
   name ← named_by question.station
   next name
 
+-- what a command that reads no file gives for a seed
+abbrev pub text_from : Command → Option ℕ → Result Answer Refusal
+text_from Sample (Some seed) = Ok (text_alone (sample_of seed))
+text_from Trial (Some seed) = trial_of seed >>= λ text. Ok (text_alone text)
+text_from _ _ = Err NotBuilt
+
+-- the answer to a question that names no file, or the first refusal
+unfoldable pub answered_alone : Question → Result Answer Refusal
+answered_alone question = text_from question.command question.seed
+
 abbrev pub text_by : Command → Book → List Offsets → Question → Given → Result Answer Refusal
 text_by Predict book table question given =
     asks_span question (λ name asked. predicted book table name asked question.layout given.zone)
@@ -190,6 +187,8 @@ text_by Calendar book table question given =
 text_by Clock book table question given =
     asks_name question (λ name. on_clock book table name given.now given.zone)
 text_by Stations book table question given = Ok (text_alone (stations_text_of book table))
+text_by Sample book table question given = answered_alone question
+text_by Trial book table question given = answered_alone question
 text_by _ book table question given = Err NotBuilt
 
 -- the answer to a question over a book and a table that were read, or the first refusal
@@ -197,13 +196,3 @@ unfoldable pub answered : Book → List Offsets → Question → Given → Resul
 answered book table question given = do
   is ← built question
   text_by question.command book table question given
-
--- what a command that reads no file gives for a seed
-abbrev pub text_from : Command → Option ℕ → Result Answer Refusal
-text_from Sample (Some seed) = Ok (text_alone (sample_of seed))
-text_from Trial (Some seed) = trial_of seed >>= λ text. Ok (text_alone text)
-text_from _ _ = Err NotBuilt
-
--- the answer to a question that names no file, or the first refusal
-unfoldable pub answered_alone : Question → Result Answer Refusal
-answered_alone question = text_from question.command question.seed

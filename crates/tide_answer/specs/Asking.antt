@@ -5,7 +5,7 @@ use Rattle.cert_text.specs.declared.certificate.Certificate.{Certificate}
 use Rattle.question.specs.declared.command.Command.{Command}
 use Rattle.question.specs.declared.command.Command.TheVariants.{Predict, Certify, Check, Heights, Calendar, Clock, Stations, Sample, Trial}
 use Rattle.question.specs.declared.question.Question.{Question}
-use Rattle.tide_answer.specs.declared.asked.Asked.{Asked}
+use Rattle.station_span.specs.declared.asked.Asked.{Asked}
 
 -- the span and the mark of a question, where it names a span
 unfoldable pub asked_by : Question → Option Asked

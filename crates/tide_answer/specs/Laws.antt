@@ -18,14 +18,14 @@ use Rattle.station_table.specs.declared.offsets.Offsets.{Offsets}
 use Rattle.station_table.specs.Offsets.{IsTable}
 use Rattle.zone_time.specs.declared.zone.Zone.{Zone}
 use Rattle.zone_time.specs.Moments.{IsMoment}
-use Rattle.tide_answer.specs.declared.asked.Asked.{Asked}
-use Rattle.tide_answer.specs.declared.reach.Reach.TheVariants.{Events}
-use Rattle.tide_answer.specs.declared.refusal.Refusal.{Refusal}
+use Rattle.station_span.specs.declared.asked.Asked.{Asked}
+use Rattle.station_span.specs.declared.reach.Reach.TheVariants.{Events}
+use Rattle.tide_fault.specs.declared.refusal.Refusal.{Refusal}
 use Rattle.tide_answer.specs.declared.text.Answer.{Answer}
 use Rattle.tide_answer.specs.Answers.{text_alone, predicted, certified, checked}
 use Rattle.tide_answer.specs.Asking.{asked_in}
-use Rattle.tide_answer.specs.Following.{followed}
-use Rattle.tide_answer.specs.Sites.{Site, site_in}
+use Rattle.station_span.specs.Following.{followed}
+use Rattle.station_span.specs.Sites.{Site, site_in}
 
 -- a question that words can ask: its moments are of the years from 1 to 9999, and its mark is at most 10,000 units
 pub record IsAskable (asked : Asked) : Type 0 where

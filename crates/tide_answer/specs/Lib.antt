@@ -1,12 +1,7 @@
 pub mod Answers
 pub mod Asking
-pub mod Faults
-pub mod Following
 pub mod Givens
 pub mod Laws
-pub mod Rejections
-pub mod Sites
-pub mod Statuses
 pub mod Streams
 pub mod Trials
 pub mod Workings

@@ -12,15 +12,15 @@ use Rattle.harmonics_text.specs.declared.book.Book.{Book}
 use Rattle.harmonics_text.specs.declared.book.Station.{Station}
 use Rattle.harmonics_text.specs.Reading.{At, book_of}
 use Rattle.sample_tides.specs.File.{sample_of}
-use Rattle.tide_answer.specs.declared.asked.Asked.{Asked}
-use Rattle.tide_answer.specs.declared.reach.Reach.TheVariants.{Events}
-use Rattle.tide_answer.specs.declared.refusal.Refusal.{Refusal}
-use Rattle.tide_answer.specs.declared.refusal.Refusal.TheVariants.{BadSample}
-use Rattle.tide_answer.specs.declared.rejection.Rejection.{Rejection}
+use Rattle.station_span.specs.declared.asked.Asked.{Asked}
+use Rattle.station_span.specs.declared.reach.Reach.TheVariants.{Events}
+use Rattle.tide_fault.specs.declared.refusal.Refusal.{Refusal}
+use Rattle.tide_fault.specs.declared.refusal.Refusal.TheVariants.{BadSample}
+use Rattle.station_cells.specs.declared.rejection.Rejection.{Rejection}
 use Rattle.tide_answer.specs.declared.tally.Tally.{Tally}
-use Rattle.tide_answer.specs.Following.{followed, events_of, tracks_of}
-use Rattle.tide_answer.specs.Rejections.{rejection_of}
-use Rattle.tide_answer.specs.Sites.{Site, site_in}
+use Rattle.station_span.specs.Following.{followed, events_of, tracks_of}
+use Rattle.station_cells.specs.Rejections.{rejection_of}
+use Rattle.station_span.specs.Sites.{Site, site_in}
 
 -- from 2000-12-01T00:00Z to 2001-02-01T00:00Z, without a mark
 abbrev pub trial_span : Asked

@@ -1,8 +1,4 @@
 pub mod Certifying
-pub mod Curves
-pub mod Levels
-pub mod Sending
-pub mod Spans
+pub mod Rows
 pub mod Streaming
 pub mod Tallies
-pub mod Telling

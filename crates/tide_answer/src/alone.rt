@@ -5,14 +5,14 @@ ghost use Rattle.decimal_text.specs.Expected.{Gives};
 ghost use Rattle.question.specs.Asked.{IsAsked};
 ghost use Rattle.question.specs.declared.command.Command.{Command};
 ghost use Rattle.tide_answer.specs.Answers.{answered_alone, text_from};
-ghost use Rattle.tide_answer.specs.Faults.{wants_memory_of_refusal, IsToldRefusal};
+ghost use Rattle.tide_fault.specs.Faults.{wants_memory_of_refusal, IsToldRefusal};
 
-use crate::refusal::Refusal;
 use crate::sample::give_sample;
 use crate::text::Answer;
 use crate::trial::try_sample;
 use question::{Command, Question};
 use std::alloc::Global;
+use tide_fault::Refusal;
 
 /// The answer to a question whose command reads no file, or the first refusal in their order.
 ///

@@ -7,10 +7,11 @@ ghost use Rattle.listing.specs.StationLists.{stations_text_of};
 ghost use Rattle.question.specs.Asked.{IsAsked};
 ghost use Rattle.station_table.specs.Offsets.{IsTable};
 ghost use Rattle.tide_answer.specs.Answers.{answered, text_by, text_alone, predicted, certified, heights, on_calendar, on_clock, asks_name, asks_span};
-ghost use Rattle.tide_answer.specs.Faults.{wants_memory_of_refusal, IsToldRefusal};
+ghost use Rattle.tide_fault.specs.Faults.{wants_memory_of_refusal, IsToldRefusal};
 ghost use Rattle.tide_answer.specs.Givens.{IsGiven};
 ghost use Rattle.zone_time.specs.Zones.{IsZone};
 
+use crate::alone::answer_alone;
 use crate::asking::{span_named, station_named};
 use crate::built::check_built;
 use crate::calendar::list_days;
@@ -20,13 +21,13 @@ use crate::clock::tell_now;
 use crate::given::Given;
 use crate::heights::list_heights;
 use crate::predict::predict;
-use crate::refusal::Refusal;
 use crate::text::Answer;
 use harmonics_text::Book;
 use listing::stations_text;
 use question::{Command, Question};
 use station_table::OffsetTable;
 use std::alloc::Global;
+use tide_fault::Refusal;
 use zone_time::Zone;
 
 /// The answer to a question over a book and a table, or the first refusal in their order: what isn't
@@ -78,6 +79,7 @@ fn answer_command(
         Command::Calendar => answer_calendar(alloc, book, table, question, zone),
         Command::Clock => answer_clock(alloc, book, table, question, given),
         Command::Stations => answer_stations(alloc, book, table),
+        Command::Sample | Command::Trial => answer_alone(alloc, question),
         _ => Err(Refusal::NotBuilt),
     }
 }

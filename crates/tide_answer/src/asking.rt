@@ -4,13 +4,13 @@ ghost use Rattle.std.specs.Prelude.{◌≡◌, [], Ok, Err, IfErr, IfOk};
 ghost use Rattle.question.specs.Asked.{IsAsked};
 ghost use Rattle.tide_answer.specs.Answers.{named_by};
 ghost use Rattle.tide_answer.specs.Asking.{asked_by, asked_from};
-ghost use Rattle.tide_answer.specs.Faults.{IsToldRefusal};
-ghost use Rattle.tide_answer.specs.Workings.Spans.{AreMoments, IsNear};
+ghost use Rattle.tide_fault.specs.Faults.{IsToldRefusal};
+ghost use Rattle.station_span.specs.Workings.Spans.{AreMoments, IsNear};
 
-use crate::asked::Asked;
-use crate::refusal::Refusal;
 use decimal_text::Text;
 use question::Question;
+use station_span::Asked;
+use tide_fault::Refusal;
 
 /// The station's name. A question that needs one has it.
 pub fn station_named(question: &Question) -> Result<&Text, Refusal>

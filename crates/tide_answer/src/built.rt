@@ -1,13 +1,12 @@
 //! What is built as yet.
 
 ghost use Rattle.std.specs.Prelude.{◌≡◌, [], IfErr};
-ghost use Rattle.decimal_text.specs.Expected.{Gives};
 ghost use Rattle.tide_answer.specs.Answers.{built};
 ghost use Rattle.tide_answer.specs.Asking.{is_built_command};
-ghost use Rattle.tide_answer.specs.Faults.{wants_memory_of_refusal, IsToldRefusal};
+ghost use Rattle.tide_fault.specs.Faults.{IsToldRefusal};
 
-use crate::refusal::Refusal;
 use question::{Command, Question};
+use tide_fault::Refusal;
 
 /// Whether the question can be answered as yet.
 ///
@@ -15,7 +14,7 @@ use question::{Command, Question};
 /// [`Refusal::NotBuilt`] where it can't.
 #[tactic(auto, unfolding(crate::specs::Answers::built))]
 pub fn check_built(question: &Question) -> Result<(), Refusal>
-    ensures exact { Gives wants_memory_of_refusal (built question.now) result }
+    ensures exact { result ≡ built question.now }
     ensures told { IfErr result (IsToldRefusal []) }
 {
     if is_built_command(question.command) {

@@ -5,19 +5,18 @@ ghost use Rattle.decimal_text.specs.Expected.{Gives};
 ghost use Rattle.harmonics_text.specs.Books.{IsBook};
 ghost use Rattle.station_table.specs.Offsets.{IsTable};
 ghost use Rattle.tide_answer.specs.Answers.{on_calendar};
-ghost use Rattle.tide_answer.specs.Faults.{wants_memory_of_refusal, IsToldRefusal};
-ghost use Rattle.tide_answer.specs.Workings.Spans.{IsNear};
+ghost use Rattle.tide_fault.specs.Faults.{wants_memory_of_refusal, IsToldRefusal};
+ghost use Rattle.station_span.specs.Workings.Spans.{IsNear};
 ghost use Rattle.zone_time.specs.Zones.{IsZone};
 
-use crate::asked::Asked;
-use crate::following::list_station;
-use crate::refusal::Refusal;
 use crate::text::Answer;
 use calendar_sheet::calendar_text;
 use decimal_text::Text;
 use harmonics_text::Book;
+use station_span::{Asked, list_station};
 use station_table::OffsetTable;
 use std::alloc::Global;
+use tide_fault::Refusal;
 use zone_time::Zone;
 
 /// The calendar of a station's events in a span, or the first refusal, as for a prediction.

@@ -7,23 +7,22 @@ ghost use Rattle.decimal_text.specs.Expected.{Gives};
 ghost use Rattle.harmonics_text.specs.Books.{IsBook};
 ghost use Rattle.station_table.specs.Offsets.{IsTable};
 ghost use Rattle.tide_answer.specs.Answers.{certified};
-ghost use Rattle.tide_answer.specs.Faults.{wants_memory_of_refusal, IsToldRefusal};
+ghost use Rattle.tide_fault.specs.Faults.{wants_memory_of_refusal, IsToldRefusal};
 ghost use Rattle.tide_answer.specs.Workings.Certifying.{certificate_in};
-ghost use Rattle.tide_answer.specs.Workings.Spans.{IsNear};
+ghost use Rattle.station_span.specs.Workings.Spans.{IsNear};
 ghost use Rattle.zone_time.specs.Moments.{IsMoment};
 
-use crate::asked::Asked;
-use crate::reach::Reach;
-use crate::refusal::Refusal;
-use crate::station::find_station;
 use crate::text::Answer;
-use crate::tracks::{cell_count, find_tracks};
+use crate::tracks::find_tracks;
 use cert_text::{Certificate, write_certificate};
 use curve_law::Tracks;
 use decimal_text::{Bytes, Text};
 use harmonics_text::Book;
+use station_cells::cell_count;
+use station_span::{Asked, Reach, find_station};
 use station_table::OffsetTable;
 use std::alloc::{AllocError, Global};
+use tide_fault::Refusal;
 
 /// The certificate of a station's events in a span, with the rates of version 2, or the first refusal:
 /// the station, its unit, the span, the limits, the mark.

@@ -8,18 +8,14 @@ ghost use Rattle.listing.specs.Listings.{plain_events_of};
 ghost use Rattle.station_table.specs.Offsets.{IsTable};
 ghost use Rattle.tide_answer.specs.Answers.{checked};
 ghost use Rattle.tide_answer.specs.Asking.{asked_in};
-ghost use Rattle.tide_answer.specs.Faults.{wants_memory_of_refusal, IsToldRefusal};
-ghost use Rattle.tide_answer.specs.Workings.Certifying.{accepted, rejected, judged_in, tide_rejection, HasFewCells};
-ghost use Rattle.tide_answer.specs.Workings.Curves.{tide_events, IsReady};
-ghost use Rattle.tide_answer.specs.Workings.Spans.{IsNear};
+ghost use Rattle.tide_fault.specs.Faults.{wants_memory_of_refusal, IsToldRefusal};
+ghost use Rattle.station_cells.specs.Rejections.{HasFewCells};
+ghost use Rattle.tide_answer.specs.Workings.Certifying.{accepted, rejected, judged_in, tide_rejection};
+ghost use Rattle.station_span.specs.Workings.Curves.{tide_events, IsReady};
+ghost use Rattle.station_span.specs.Workings.Spans.{IsNear};
 ghost use Rattle.zone_time.specs.Zones.{IsZone};
 
-use crate::asked::Asked;
 use crate::judging::find_rejection;
-use crate::reach::Reach;
-use crate::refusal::Refusal;
-use crate::rejection::{Rejection, rejection_line};
-use crate::station::{Found, find_station, reached};
 use crate::text::Answer;
 use cert_text::{Certificate, certificates_have_one_text, read_certificate};
 use curve_law::Events;
@@ -27,8 +23,11 @@ use decimal_text::Bytes;
 use event_list::{merged, shifted};
 use harmonics_text::Book;
 use listing::plain_events;
+use station_cells::{Rejection, rejection_line};
+use station_span::{Asked, Found, Reach, find_station, reached};
 use station_table::OffsetTable;
 use std::alloc::{AllocError, Global};
+use tide_fault::Refusal;
 use zone_time::Zone;
 
 /// Whether a certificate is valid: `Accepted` and the events of its own question in the zone's local

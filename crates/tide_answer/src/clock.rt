@@ -6,22 +6,18 @@ ghost use Rattle.harmonics_text.specs.Books.{IsBook};
 ghost use Rattle.station_table.specs.Offsets.{IsTable};
 ghost use Rattle.tide_answer.specs.Answers.{on_clock};
 ghost use Rattle.tide_answer.specs.Asking.{asked_from};
-ghost use Rattle.tide_answer.specs.Faults.{wants_memory_of_refusal, IsToldRefusal};
-ghost use Rattle.tide_answer.specs.Workings.Spans.{IsNear};
+ghost use Rattle.tide_fault.specs.Faults.{wants_memory_of_refusal, IsToldRefusal};
+ghost use Rattle.station_span.specs.Workings.Spans.{IsNear};
 ghost use Rattle.zone_time.specs.Zones.{IsZone};
 
-use crate::asked::Asked;
-use crate::following::find_events;
-use crate::levels::{check_level, is_rising, level_at};
-use crate::reach::Reach;
-use crate::refusal::Refusal;
-use crate::station::find_station;
 use crate::text::Answer;
 use decimal_text::Text;
 use harmonics_text::Book;
 use listing::clock_text;
+use station_span::{Asked, Reach, check_level, find_events, find_station, is_rising, level_at};
 use station_table::OffsetTable;
 use std::alloc::Global;
+use tide_fault::Refusal;
 use zone_time::Zone;
 
 /// The minutes of a day.

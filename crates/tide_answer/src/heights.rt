@@ -5,23 +5,21 @@ ghost use Rattle.decimal_text.specs.Expected.{Gives};
 ghost use Rattle.harmonics_text.specs.Books.{IsBook};
 ghost use Rattle.station_table.specs.Offsets.{IsTable};
 ghost use Rattle.tide_answer.specs.Answers.{heights, heights_text, row_count, row_limit, rows_in};
-ghost use Rattle.tide_answer.specs.Faults.{wants_memory_of_refusal, IsToldRefusal};
-ghost use Rattle.tide_answer.specs.Workings.Levels.{HasLevel, HasLevelsIn, IsStep, tide_row, tide_rows};
-ghost use Rattle.tide_answer.specs.Workings.Spans.{IsNear};
+ghost use Rattle.tide_fault.specs.Faults.{wants_memory_of_refusal, IsToldRefusal};
+ghost use Rattle.tide_answer.specs.Workings.Rows.{IsStep, tide_row, tide_rows};
+ghost use Rattle.station_span.specs.Workings.Levels.{HasLevel, HasLevelsIn};
+ghost use Rattle.station_span.specs.Workings.Spans.{IsNear};
 ghost use Rattle.zone_time.specs.Zones.{IsZone, InZoneYears};
 
-use crate::asked::Asked;
-use crate::levels::{check_level, level_at};
-use crate::reach::Reach;
-use crate::refusal::Refusal;
-use crate::station::{Found, find_station};
 use crate::text::Answer;
 use decimal_text::{Bytes, Text};
 use harmonics_text::{Book, Units};
 use listing::{Row, Rows, csv_heights, plain_heights};
 use question::Layout;
+use station_span::{Asked, Found, Reach, check_level, find_station, level_at};
 use station_table::OffsetTable;
 use std::alloc::{AllocError, Global};
+use tide_fault::Refusal;
 use zone_time::Zone;
 
 /// The most rows of a list.
@@ -64,7 +62,7 @@ pub fn list_heights(
 fn check_rows(asked: &Asked, step: i64) -> Result<(), Refusal>
     requires near { IsNear asked.now }
     requires step { IsStep step }
-    ensures exact { Gives wants_memory_of_refusal (rows_in asked.now.begin asked.now.end step) result }
+    ensures exact { result ≡ rows_in asked.now.begin asked.now.end step }
     ensures few { OnOk result (row_count asked.now.begin asked.now.end step ≤ row_limit) }
     ensures told { IfErr result (IsToldRefusal []) }
 {

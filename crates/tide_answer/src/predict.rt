@@ -3,23 +3,22 @@
 ghost use Rattle.std.specs.Prelude.{◌≡◌, All, IfErr, IfOk};
 ghost use Rattle.decimal_text.specs.Expected.{Gives};
 ghost use Rattle.harmonics_text.specs.Books.{IsBook};
-ghost use Rattle.listing.specs.Listings.{IsListed};
+ghost use Rattle.event_text.specs.Lines.{IsListed};
 ghost use Rattle.station_table.specs.Offsets.{IsTable};
 ghost use Rattle.tide_answer.specs.Answers.{events_text, predicted};
-ghost use Rattle.tide_answer.specs.Faults.{wants_memory_of_refusal, IsToldRefusal};
-ghost use Rattle.tide_answer.specs.Workings.Spans.{IsNear};
+ghost use Rattle.tide_fault.specs.Faults.{wants_memory_of_refusal, IsToldRefusal};
+ghost use Rattle.station_span.specs.Workings.Spans.{IsNear};
 ghost use Rattle.zone_time.specs.Zones.{IsZone};
 
-use crate::asked::Asked;
-use crate::following::{Listed, list_station};
-use crate::refusal::Refusal;
 use crate::text::Answer;
 use decimal_text::{Bytes, Text};
 use harmonics_text::Book;
 use listing::{csv_events, plain_events};
 use question::Layout;
+use station_span::{Asked, Listed, list_station};
 use station_table::OffsetTable;
 use std::alloc::{AllocError, Global};
+use tide_fault::Refusal;
 use zone_time::Zone;
 
 /// The listing of a station's events in a span, or the first refusal: the station, its unit, the

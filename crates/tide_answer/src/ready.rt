@@ -6,7 +6,7 @@ ghost use Rattle.decimal_text.specs.Expected.{Gives};
 ghost use Rattle.harmonics_text.specs.Books.{IsBook};
 ghost use Rattle.question.specs.Asked.{IsAsked};
 ghost use Rattle.station_table.specs.Offsets.{IsTable};
-ghost use Rattle.tide_answer.specs.Faults.{wants_memory_of_refusal, IsToldRefusal};
+ghost use Rattle.tide_fault.specs.Faults.{wants_memory_of_refusal, IsToldRefusal};
 ghost use Rattle.tide_answer.specs.Givens.{IsGiven};
 ghost use Rattle.tide_answer.specs.Streams.{can_stream, prepared, streams_by, Streams};
 ghost use Rattle.tide_answer.specs.Workings.Streaming.{form_of};
@@ -15,15 +15,14 @@ ghost use Rattle.tide_edge.specs.Faults.{faults_after};
 use crate::asking::{span_named, station_named};
 use crate::form::Form;
 use crate::given::Given;
-use crate::reach::Reach;
-use crate::refusal::Refusal;
-use crate::station::find_station;
 use crate::streaming::Stream;
 use harmonics_text::Book;
 use question::{Command, Layout, Question};
+use station_span::{Reach, find_station};
 use station_table::{Basis, OffsetTable};
 use std::alloc::Global;
 use tide_edge::{Sink, WriteFailed};
+use tide_fault::Refusal;
 use zone_time::Zone;
 
 /// What the answer to a question is written from, where it streams.
@@ -90,6 +89,14 @@ pub fn answer_into<S: Sink>(ready: &Ready, out: &mut S) -> Result<u64, WriteFail
         Some(stream) => stream.write(out),
         None => unreachable!(),
     }
+}
+
+/// Whether the answers of a command can be written as they are found. Which of them are,
+/// [`Ready::streams`] says.
+pub fn can_stream(command: Command) -> bool
+    ensures { result ≡ can_stream command }
+{
+    matches!(command, Command::Predict | Command::Certify)
 }
 
 fn form_of(command: Command) -> Form

@@ -1,13 +1,13 @@
-//! A text that is written part after part. None takes memory.
+//! A listing that is written as its events are found. It takes no memory.
 
-ghost use Rattle.std.specs.Prelude.{◌≡◌, ◌+◌, ◌*◌, ◌<◌, ◌≤◌, ◌^◌, ◌++◌, length, codes, All, IfOk, OnOk, is_err};
+ghost use Rattle.std.specs.Prelude.{◌≡◌, ◌+◌, ◌*◌, ◌<◌, ◌≤◌, ◌^◌, ◌++◌, length, codes, All, OnOk, is_err};
 ghost use Rattle.std.specs.List.{flat_map};
-ghost use Rattle.listing.specs.Listings.{IsListed, event_line_in, plain_events_of};
-ghost use Rattle.tide_answer.specs.Workings.Sending.{Sends};
+ghost use Rattle.event_text.specs.Lines.{IsListed, event_line_in};
+ghost use Rattle.listing.specs.Listings.{plain_events_of};
+ghost use Rattle.station_cells.specs.Sending.{Sends};
 ghost use Rattle.tide_edge.specs.Faults.{faults_after};
 ghost use Rattle.zone_time.specs.Zones.{IsZone};
 
-use crate::page::Page;
 use arrayvec::ArrayString;
 use curve_law::Event;
 use decimal_text::Text;
@@ -15,52 +15,9 @@ use event_list::Merge;
 use harmonics_text::Units;
 use listing::event_line;
 use rate_bound::{MarkCurve, TurnCurve};
-use tide_edge::{Sink, WriteFailed, write_all};
+use station_cells::{Page, Sent, send_name};
+use tide_edge::{Sink, WriteFailed};
 use zone_time::Zone;
-
-/// How much of a text is written.
-#[derive(Clone, Copy, Debug)]
-pub struct Sent {
-    /// Its bytes, from the first on.
-    pub bytes: u64,
-    /// The cells whose lines are written, or are on a page.
-    pub cells: u64,
-}
-
-/// Writes a piece after what is written before.
-pub fn send<S: Sink>(out: &mut S, sent: Sent, piece: &str) -> Result<Sent, WriteFailed>
-    requires { sent.bytes + length piece.now < 2 ^ 64 }
-    ensures sends { Sends (S.tells out.old) (S.taken out.old) (S.taken out.new) sent piece.now 0 result }
-    ensures still_tells { S.tells out.old → S.tells out.new }
-    ensures counts { S.faults out.new ≡ faults_after (is_err result) (S.faults out.old) }
-{
-    match write_all(out, piece.as_bytes()) {
-        Ok(()) => Ok(Sent {
-            bytes: sent.bytes + piece.len() as u64,
-            cells: sent.cells,
-        }),
-        Err(fault) => Err(WriteFailed {
-            sent: sent.bytes + fault.sent,
-        }),
-    }
-}
-
-/// Writes a front and a name as a line.
-pub fn send_name<S: Sink>(
-    out: &mut S,
-    sent: Sent,
-    front: &str,
-    name: &Text,
-) -> Result<Sent, WriteFailed>
-    requires { sent.bytes + length front.now + length name.now + 1 < 2 ^ 64 }
-    ensures sends { Sends (S.tells out.old) (S.taken out.old) (S.taken out.new) sent (front.now ++ name.now ++ codes "\n") 0 result }
-    ensures still_tells { S.tells out.old → S.tells out.new }
-    ensures counts { S.faults out.new ≡ faults_after (is_err result) (S.faults out.old) }
-{
-    let sent = send(out, sent, front)?;
-    let sent = send(out, sent, name.as_str())?;
-    send(out, sent, "\n")
-}
 
 /// Writes the line of each event that a merge has left.
 pub fn send_events<'a, S: Sink>(

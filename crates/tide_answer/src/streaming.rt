@@ -5,13 +5,11 @@ ghost use Rattle.tide_answer.specs.Streams.{Streams};
 ghost use Rattle.tide_answer.specs.Workings.Streaming.{stream_answer, IsStream};
 ghost use Rattle.tide_edge.specs.Faults.{faults_after};
 
-use crate::asked::Asked;
 use crate::certifying::send_certificate;
-use crate::following::merge_of;
 use crate::form::Form;
 use crate::sending::send_listing;
-use crate::station::Found;
 use decimal_text::Text;
+use station_span::{Asked, Found, merge_of};
 use std::marker::Model;
 use tide_edge::{Sink, WriteFailed};
 use zone_time::Zone;

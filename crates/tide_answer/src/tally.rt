@@ -3,14 +3,13 @@
 ghost use Rattle.std.specs.Prelude.{◌≡◌, ◌*◌, ◌<◌, ◌≤◌, ◌^◌, ◌++◌, codes, decimal, length, sum_by, option_to_list, IfOk, OnOk, string_bytes};
 ghost use Rattle.event_list.specs.Events.{minutes_in, cells_in, tracks_of as tracks_in};
 ghost use Rattle.tide_answer.specs.Trials.{accepted_if, nothing, number_line, plus, quiet_in, quiet_one, tally_by, trial_text};
-ghost use Rattle.tide_answer.specs.Workings.Spans.{IsNearSpan};
+ghost use Rattle.station_span.specs.Workings.Spans.{IsNearSpan};
 ghost use Rattle.tide_answer.specs.Workings.Tallies.{IsUpTo};
 
-use crate::rejection::Rejection;
-use crate::tracks::cell_count;
 use curve_law::{Cell, Cells, Events, Tracks};
 use decimal_text::Bytes;
 use event_list::Span;
+use station_cells::{Rejection, cell_count};
 use std::alloc::{AllocError, Global};
 
 /// What is counted at a station, or summed over stations.

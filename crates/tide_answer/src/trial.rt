@@ -5,24 +5,21 @@ ghost use Rattle.decimal_text.specs.Expected.{Gives};
 ghost use Rattle.harmonics_text.specs.Books.{IsBook};
 ghost use Rattle.harmonics_text.specs.Reading.{book_of};
 ghost use Rattle.station_table.specs.Offsets.{IsTable};
-ghost use Rattle.tide_answer.specs.Faults.{wants_memory_of_refusal, IsToldRefusal};
+ghost use Rattle.tide_fault.specs.Faults.{wants_memory_of_refusal, IsToldRefusal};
 ghost use Rattle.tide_answer.specs.Trials.{book_from, nothing, station_count, station_tally, tally_on, trial_of, trial_span};
 ghost use Rattle.tide_answer.specs.Workings.Tallies.{IsUpTo};
 
-use crate::asked::Asked;
 use crate::certify::certificate_of;
-use crate::following::find_events;
 use crate::judging::find_rejection;
-use crate::reach::Reach;
-use crate::refusal::Refusal;
-use crate::station::{find_station, reached};
 use crate::tally::{Tally, tally_text};
 use crate::tracks::find_tracks;
 use decimal_text::{Bytes, Text};
 use harmonics_text::{Book, BookFault, Station, read_book};
 use sample_tides::sample;
+use station_span::{Asked, Reach, find_events, find_station, reached};
 use station_table::OffsetTable;
 use std::alloc::Global;
+use tide_fault::Refusal;
 
 /// How many stations of the file are tried.
 const STATIONS: usize = 40;

@@ -21,13 +21,13 @@ use Rattle.question.specs.Questions.{Said, nothing_said, also, refuse_if, has_fo
 use Rattle.question.specs.Words.{pairs_of}
 use Rattle.question.proofs.FormLemmas.{moment_of-range, mark_of-range}
 use Rattle.zone_time.specs.Moments.{IsMoment, moment_of}
-use Rattle.tide_answer.specs.declared.asked.Asked.{Asked}
-use Rattle.tide_answer.specs.declared.refusal.Refusal.{Refusal}
+use Rattle.station_span.specs.declared.asked.Asked.{Asked}
+use Rattle.tide_fault.specs.declared.refusal.Refusal.{Refusal}
 use Rattle.tide_answer.specs.declared.text.Answer.{Answer}
 use Rattle.tide_answer.specs.Answers.{asks_span, built, named_by}
 use Rattle.tide_answer.specs.Asking.{asked_by}
 use Rattle.tide_answer.specs.Laws.{IsAskable}
-use Rattle.tide_answer.proofs.SiteLemmas.{then_ok}
+use Rattle.station_span.proofs.SiteLemmas.{then_ok}
 use Rattle.tide_desk.specs.Answers.{asked_of, ask_from, asks_to_serve, question_in, refused_from}
 
 -- ---- the question of pairs

@@ -11,13 +11,13 @@ use Rattle.station_table.specs.declared.fault.OffsetFault.{OffsetFault}
 use Rattle.station_table.specs.declared.offsets.Offsets.{Offsets as Row}
 use Rattle.station_table.specs.Offsets.{IsOffsets, IsTable}
 use Rattle.station_table.specs.Table.{table_of}
-use Rattle.tide_answer.specs.declared.refusal.Refusal.{Refusal}
-use Rattle.tide_answer.specs.declared.refusal.Refusal.TheVariants.{NotBuilt}
-use Rattle.tide_answer.specs.declared.slot.Slot.{Slot}
-use Rattle.tide_answer.specs.declared.slot.Slot.TheVariants as slots
+use Rattle.tide_fault.specs.declared.refusal.Refusal.{Refusal}
+use Rattle.tide_fault.specs.declared.refusal.Refusal.TheVariants.{NotBuilt}
+use Rattle.tide_fault.specs.declared.slot.Slot.{Slot}
+use Rattle.tide_fault.specs.declared.slot.Slot.TheVariants as slots
 use Rattle.tide_answer.specs.declared.text.Answer.{Answer}
 use Rattle.tide_answer.specs.Answers.{answered, answered_alone, built, text_by, text_from}
-use Rattle.tide_answer.proofs.SiteLemmas.{then_ok}
+use Rattle.station_span.proofs.SiteLemmas.{then_ok}
 use Rattle.tide_edge.specs.declared.read_all_fault.ReadAllFault.TheVariants as reading
 use Rattle.tide_desk.specs.declared.materials.Materials.{Materials}
 use Rattle.tide_desk.specs.Answers.{answer_from, answer_of, answered_by, answered_over, asked_of}

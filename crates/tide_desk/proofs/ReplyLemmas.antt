@@ -8,16 +8,16 @@ use Rattle.question.specs.declared.command.Command.{Command}
 use Rattle.question.specs.declared.command.Command.TheVariants.{Predict, Certify}
 use Rattle.question.specs.declared.question.Question.{Question}
 use Rattle.station_table.specs.declared.offsets.Offsets.{Offsets}
-use Rattle.tide_answer.specs.declared.asked.Asked.{Asked}
+use Rattle.station_span.specs.declared.asked.Asked.{Asked}
 use Rattle.tide_answer.specs.declared.given.Given.{Given}
-use Rattle.tide_answer.specs.declared.reach.Reach.TheVariants.{Events}
+use Rattle.station_span.specs.declared.reach.Reach.TheVariants.{Events}
 use Rattle.tide_answer.specs.declared.ready.Ready.{Ready}
-use Rattle.tide_answer.specs.declared.refusal.Refusal.{Refusal}
+use Rattle.tide_fault.specs.declared.refusal.Refusal.{Refusal}
 use Rattle.tide_answer.specs.declared.text.Answer.{Answer}
 use Rattle.tide_answer.specs.Answers.{answered, asks_span, built, certified, events_text, named_by, predicted, text_alone, text_by, text_of_events}
 use Rattle.tide_answer.specs.Asking.{asked_by}
-use Rattle.tide_answer.specs.Following.{events_of}
-use Rattle.tide_answer.specs.Sites.{site_in}
+use Rattle.station_span.specs.Following.{events_of}
+use Rattle.station_span.specs.Sites.{site_in}
 use Rattle.tide_answer.specs.Streams.{can_stream, prepared, streams_by}
 
 -- ---- What is ready says of the answer

@@ -10,9 +10,9 @@ use Rattle.question.specs.declared.pairs.Pairs.{Pairs}
 use Rattle.question.specs.declared.question.Question.{Question}
 use Rattle.question.specs.Questions.{question_of}
 use Rattle.question.specs.Words.{pairs_of}
-use Rattle.tide_answer.specs.declared.fault.Fault.{Fault}
-use Rattle.tide_answer.specs.declared.fault.Fault.TheVariants.{Ask, Refused}
-use Rattle.tide_answer.specs.declared.refusal.Refusal.{Refusal}
+use Rattle.tide_fault.specs.declared.fault.Fault.{Fault}
+use Rattle.tide_fault.specs.declared.fault.Fault.TheVariants.{Ask, Refused}
+use Rattle.tide_fault.specs.declared.refusal.Refusal.{Refusal}
 use Rattle.tide_answer.specs.declared.text.Answer.{Answer}
 use Rattle.tide_answer.specs.Answers.{built, answered, answered_alone}
 use Rattle.tide_desk.specs.declared.no_answer.NoAnswer.{NoAnswer}

@@ -1,12 +1,12 @@
 -- Why the words of a run have no answer (this project).
 use Rattle.std.specs.Prelude.{ℕ, Bool, true, false, if◌then◌else◌, Result, Ok, Err, List, [], codes}
 use Rattle.station_table.specs.declared.offsets.Offsets.{Offsets}
-use Rattle.tide_answer.specs.declared.fault.Fault.{Fault}
-use Rattle.tide_answer.specs.declared.fault.Fault.TheVariants as faults
-use Rattle.tide_answer.specs.declared.refusal.Refusal.{Refusal}
-use Rattle.tide_answer.specs.declared.status.Status.{Status}
-use Rattle.tide_answer.specs.declared.status.Status.TheVariants as status
-use Rattle.tide_answer.specs.Faults.{status_of as status_of_fault, status_of_refusal, line_of as line_of_fault, wants_memory as fault_wants_memory, wants_memory_of_refusal, IsTold as IsToldFault, IsToldRefusal}
+use Rattle.tide_fault.specs.declared.fault.Fault.{Fault}
+use Rattle.tide_fault.specs.declared.fault.Fault.TheVariants as faults
+use Rattle.tide_fault.specs.declared.refusal.Refusal.{Refusal}
+use Rattle.tide_fault.specs.declared.status.Status.{Status}
+use Rattle.tide_fault.specs.declared.status.Status.TheVariants as status
+use Rattle.tide_fault.specs.Faults.{status_of as status_of_fault, status_of_refusal, line_of as line_of_fault, wants_memory as fault_wants_memory, wants_memory_of_refusal, IsTold as IsToldFault, IsToldRefusal}
 use Rattle.tide_edge.specs.Excuses.{Source, memory, outside, given}
 use Rattle.tide_desk.specs.declared.no_answer.NoAnswer.{NoAnswer}
 use Rattle.tide_desk.specs.declared.no_answer.NoAnswer.TheVariants.{Unread, Told, Refused}

@@ -1,8 +1,8 @@
 -- How a run ends, and what it leaves where it wrote, by the answer that is expected (this project).
 use Rattle.std.specs.Prelude.{◌≡◌, ◌<◌, ℕ, Bool, true, false, IsTrue, List, [], ◌++◌, length, take, codes, Result, Ok, Err, IsErrAnd}
 use Rattle.std.specs.Result.{IsOkAnd}
-use Rattle.tide_answer.specs.declared.status.Status.{Status}
-use Rattle.tide_answer.specs.declared.status.Status.TheVariants.{Done, Rejected, ReadFault, WriteFault, NoMemory}
+use Rattle.tide_fault.specs.declared.status.Status.{Status}
+use Rattle.tide_fault.specs.declared.status.Status.TheVariants.{Done, Rejected, ReadFault, WriteFault, NoMemory}
 use Rattle.tide_answer.specs.declared.text.Answer.{Answer}
 use Rattle.tide_edge.specs.Faults.{Rose, counted, faults_after}
 use Rattle.tide_desk.specs.declared.no_answer.NoAnswer.{NoAnswer}

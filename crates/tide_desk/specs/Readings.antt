@@ -12,13 +12,13 @@ use Rattle.question.specs.declared.question.ZoneWord.TheVariants as words
 use Rattle.station_table.specs.declared.fault.OffsetFault.{OffsetFault}
 use Rattle.station_table.specs.declared.offsets.Offsets.{Offsets as Row}
 use Rattle.station_table.specs.Table.{table_of}
-use Rattle.tide_answer.specs.declared.fault.Fault.TheVariants.{TooLong, Book, Offsets, BadZone, Refused}
+use Rattle.tide_fault.specs.declared.fault.Fault.TheVariants.{TooLong, Book, Offsets, BadZone, Refused}
 use Rattle.tide_answer.specs.declared.given.Given.{Given}
 use Rattle.book_loading.specs.declared.loading.LoadFault.{LoadFault}
 use Rattle.book_loading.specs.declared.loading.LoadFault.TheVariants as load
-use Rattle.tide_answer.specs.declared.refusal.Refusal.TheVariants.{NoMemory}
-use Rattle.tide_answer.specs.declared.slot.Slot.{Slot}
-use Rattle.tide_answer.specs.declared.slot.Slot.TheVariants as slots
+use Rattle.tide_fault.specs.declared.refusal.Refusal.TheVariants.{NoMemory}
+use Rattle.tide_fault.specs.declared.slot.Slot.{Slot}
+use Rattle.tide_fault.specs.declared.slot.Slot.TheVariants as slots
 use Rattle.tide_edge.specs.declared.read_all_fault.ReadAllFault.{ReadAllFault}
 use Rattle.tide_edge.specs.declared.read_all_fault.ReadAllFault.TheVariants as reading
 use Rattle.tide_edge.specs.Whole.{IsStopped, whole}

@@ -1,7 +1,7 @@
 -- Files for the worked rows (this project).
 use Rattle.std.specs.Prelude.{Some, None}
 use Rattle.harmonics_text.specs.Worked.{file_of, pier_lines}
-use Rattle.tide_answer.specs.declared.slot.Slot.TheVariants.{File, Offsets, Zone, Certificate}
+use Rattle.tide_fault.specs.declared.slot.Slot.TheVariants.{File, Offsets, Zone, Certificate}
 use Rattle.tide_desk.specs.Readings.{Folders}
 
 -- a file of constants under each name, and no other file

@@ -3,7 +3,7 @@
 ghost use Rattle.std.specs.Prelude.{◌≡◌, ◌⊎◌, ◌+◌, ◌≤◌, ℕ, ℤ, false, IsTrue, List, Option, Some, IsOk, IfOk, IfErr, OnErr, is_err};
 ghost use Rattle.decimal_text.specs.Expected.{Gives};
 ghost use Rattle.question.specs.Asked.{IsAsked};
-ghost use Rattle.tide_answer.specs.declared.slot.Slot.{Slot};
+ghost use Rattle.tide_fault.specs.declared.slot.Slot.{Slot};
 ghost use Rattle.tide_answer.specs.Answers.{answered, answered_alone};
 ghost use Rattle.tide_edge.specs.Clocks.{IsClockMinute};
 ghost use Rattle.tide_edge.specs.Faults.{faults_after};

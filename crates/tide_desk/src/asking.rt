@@ -5,7 +5,7 @@ ghost use Rattle.decimal_text.specs.Expected.{Gives};
 ghost use Rattle.question.specs.Asked.{IsAsked};
 ghost use Rattle.question.specs.Questions.{wants_memory as ask_wants_memory};
 ghost use Rattle.question.specs.Words.{pairs_of};
-ghost use Rattle.tide_answer.specs.Faults.{wants_memory, IsTold};
+ghost use Rattle.tide_fault.specs.Faults.{wants_memory, IsTold};
 ghost use Rattle.tide_desk.specs.Answers.{asked_of, asks_to_serve, question_in};
 
 use decimal_text::Words;

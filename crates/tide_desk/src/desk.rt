@@ -1,9 +1,9 @@
 //! One run, from the words to the status.
 
 ghost use Rattle.std.specs.Prelude.{◌≡◌, ◌⊎◌, ◌+◌, ◌≤◌, ℤ, Bool, if◌then◌else◌, Err, IfOk};
-ghost use Rattle.tide_answer.specs.declared.fault.Fault.{Fault};
-ghost use Rattle.tide_answer.specs.declared.slot.Slot.{Slot};
-ghost use Rattle.tide_answer.specs.declared.status.Status.{Status};
+ghost use Rattle.tide_fault.specs.declared.fault.Fault.{Fault};
+ghost use Rattle.tide_fault.specs.declared.slot.Slot.{Slot};
+ghost use Rattle.tide_fault.specs.declared.status.Status.{Status};
 ghost use Rattle.tide_desk.specs.Answers.{AsksClock, HasFiles, NamesFile, answer_from, answer_of, asked_of};
 ghost use Rattle.tide_desk.specs.Outcomes.{ClockFailed, EndsAs, FilesFailed, IsFirm, IsSilent, IsUntouched, Wrote, is_read_fault};
 ghost use Rattle.tide_desk.specs.declared.no_answer.NoAnswer.{NoAnswer};

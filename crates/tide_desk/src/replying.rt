@@ -6,7 +6,7 @@ ghost use Rattle.harmonics_text.specs.Books.{IsBook};
 ghost use Rattle.question.specs.Asked.{IsAsked};
 ghost use Rattle.station_table.specs.Offsets.{IsTable};
 ghost use Rattle.tide_answer.specs.Answers.{answered};
-ghost use Rattle.tide_answer.specs.Faults.{wants_memory_of_refusal, IsToldRefusal};
+ghost use Rattle.tide_fault.specs.Faults.{wants_memory_of_refusal, IsToldRefusal};
 ghost use Rattle.tide_answer.specs.Givens.{IsGiven};
 ghost use Rattle.tide_answer.specs.Streams.{can_stream};
 

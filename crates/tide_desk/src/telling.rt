@@ -2,8 +2,8 @@
 
 ghost use Rattle.std.specs.Prelude.{◌≡◌, ◌⊎◌, Bool};
 ghost use Rattle.station_table.specs.declared.offsets.Offsets.{Offsets};
-ghost use Rattle.tide_answer.specs.Faults.{IsTold as IsToldFault, line_of as line_of_fault, status_of as status_of_fault};
-ghost use Rattle.tide_answer.specs.declared.status.Status.{Status};
+ghost use Rattle.tide_fault.specs.Faults.{IsTold as IsToldFault, line_of as line_of_fault, status_of as status_of_fault};
+ghost use Rattle.tide_fault.specs.declared.status.Status.{Status};
 ghost use Rattle.tide_desk.specs.NoAnswers.{IsTold};
 ghost use Rattle.tide_desk.specs.Outcomes.{Wrote};
 ghost use Rattle.tide_desk.specs.Workings.Telling.{Tells, TellsFault};

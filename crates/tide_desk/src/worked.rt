@@ -8,9 +8,9 @@ ghost use Rattle.question.specs.declared.command.Command.{Command};
 ghost use Rattle.question.specs.declared.question.ZoneWord.{ZoneWord};
 ghost use Rattle.question.specs.Worked.{bare};
 ghost use Rattle.station_table.specs.Worked.{dock_rows};
-ghost use Rattle.tide_answer.specs.declared.fault.Fault.{Fault};
-ghost use Rattle.tide_answer.specs.declared.refusal.Refusal.{Refusal};
-ghost use Rattle.tide_answer.specs.declared.status.Status.{Status};
+ghost use Rattle.tide_fault.specs.declared.fault.Fault.{Fault};
+ghost use Rattle.tide_fault.specs.declared.refusal.Refusal.{Refusal};
+ghost use Rattle.tide_fault.specs.declared.status.Status.{Status};
 ghost use Rattle.zone_time.specs.declared.zone.Zone.{Zone};
 ghost use Rattle.tide_desk.specs.NoAnswers.{line_of, status_of};
 ghost use Rattle.tide_desk.specs.Readings.{files_in, minute_for};
@@ -30,7 +30,7 @@ pub fn worked_files()
 {}
 
 /// What is told of faults, and of the clock.
-#[tactic(auto, unfolding(tide_answer::specs::Faults::line_of, tide_answer::specs::Faults::refusal_line))]
+#[tactic(auto, unfolding(tide_fault::specs::Faults::line_of, tide_fault::specs::Faults::refusal_line))]
 pub fn worked_faults()
     ensures reference { line_of (NoAnswer.Refused (Refusal.NoReference 2) dock_rows) ≡ codes "refused: no reference Nowhere\n" }
     ensures refused { status_of (NoAnswer.Refused (Refusal.NoReference 2) dock_rows) ≡ Status.Refused }

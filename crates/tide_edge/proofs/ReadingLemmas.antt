@@ -1,47 +1,58 @@
--- What the bytes read so far say of the whole file.
-use Rattle.std.proofs.Common.{Bool, Option, Result, None, ◌≡◌, ℕ, ◌+◌, ◌<◌, ◌≤◌, List, [], ◌++◌, length, take, arith, Some, Ok, Err, append_assoc, ◌∙◌, ap, sym, refl}
-use Rattle.std.specs.Bool.{IsTrue}
-use Rattle.std.proofs.lemmas.Grind.{common_steps}
+-- What opening a file and reading it on come to.
+use Rattle.std.proofs.Common.{◌≡◌, ℕ, ◌+◌, ◌-◌, ◌^◌, ◌≤◌, Bool, false, true, if◌then◌else◌, IsTrue, List, [], Option, Some, None, IsSome, Result, Ok, Err, unwrap_or, arith, refl}
+use Rattle.std.specs.Prelude.{◌==◌}
+use Rattle.tide_edge.specs.declared.failed.Failed.{Failed}
 use Rattle.tide_edge.specs.declared.read_all_fault.ReadAllFault.{ReadAllFault}
-use Rattle.tide_edge.specs.declared.read_all_fault.ReadAllFault.TheVariants.{Failed, TooLong}
 use Rattle.tide_edge.specs.Excuses.{Meets}
-use Rattle.tide_edge.specs.Whole.{IsStopped, whole, source_of}
+use Rattle.tide_edge.specs.Faults.{counted}
+use Rattle.tide_edge.specs.FileStates.{FilesState, files_after_open}
+use Rattle.tide_edge.specs.Whole.{ReadWithin, one_file, source_of, whole}
+use Rattle.tide_edge.specs.Workings.Reading.{IsReadOn}
 
--- at the end of the file
-pub whole_at_end : (limit : ℕ) (all bytes rest : List ℕ) → all ≡ bytes ++ rest → rest ≡ [] → length bytes ≤ limit
-    → whole limit (Some all) ≡ Ok bytes
-whole_at_end limit all bytes rest is empty short = grind (arith, common_steps)
+counted_most_by : (last : Bool) (count : ℕ) → (count == 2 ^ 64 - 1) ≡ last → counted count ≤ count + 1
+counted_most_by true count is = rw is (omega arith)
+counted_most_by false count is = rw is (omega arith)
 
--- once more bytes came than are allowed
-pub whole_too_long : (limit count : ℕ) (all bytes room before rest : List ℕ) → all ≡ bytes ++ before
-    → before ≡ take count room ++ rest → count ≤ length room → limit < length bytes + count
-    → whole limit (Some all) ≡ Err TooLong
-whole_too_long limit count all bytes room before rest is next within long = grind (arith, common_steps)
+-- one more call makes a count greater by one at most
+pub counted_most : (count : ℕ) → counted count ≤ count + 1
+counted_most count = counted_most_by (count == 2 ^ 64 - 1) count refl
 
--- after one more piece
-pub read_on : (all bytes piece items before rest : List ℕ) → all ≡ bytes ++ before → before ≡ piece ++ rest
-    → items ≡ bytes ++ piece → all ≡ items ++ rest
-read_on all bytes piece items before rest is next more =
-    is ∙ ap (λ xs. bytes ++ xs) next ∙ sym (append_assoc bytes piece rest) ∙ ap (λ xs. xs ++ rest) (sym more)
+begun_by : (tells : Bool) (file : Option (List ℕ)) (rest : List ℕ) → IsTrue tells → IsSome file
+    → file ≡ Some (if tells then unwrap_or file [] else rest)
+begun_by true (Some bytes) rest t is = refl
+begun_by true None rest t is = let untrue : false ≡ true = is in cc
+begun_by false file rest t is = let untrue : false ≡ true = t in cc
 
--- where no file was opened
-pub meets_unopened : (limit : ℕ) (file : Option (List ℕ)) (steady : Bool) → (IsTrue steady → file ≡ None)
-    → Meets {T = List ℕ} source_of steady (whole limit file) (Err Failed)
-meets_unopened limit file steady absent = λ s. rw (absent s) refl
+-- what is to be read of a file that was opened is the file
+pub begun_whole : (s : FilesState) (name : List ℕ) → IsTrue s.store.tells → IsSome (s.store.folder name)
+    → s.store.folder name ≡ Some (if s.store.tells then unwrap_or (s.store.folder name) [] else s.rest)
+begun_whole s name t is = begun_by s.store.tells (s.store.folder name) s.rest t is
 
--- what reading the rest gave, where the rest is the whole file
-pub meets_opened : (limit : ℕ) (file : Option (List ℕ)) (rest : List ℕ) (before now : Bool) (result : Result (List ℕ) ReadAllFault)
-    → file ≡ Some rest → now ≡ before → Meets source_of now (whole limit (Some rest)) result
-    → Meets source_of before (whole limit file) result
-meets_opened limit file rest before now result is same meets = rw (is, ← same) meets
+-- what reading on gave is what reading the file gives
+pub read_on_whole : {T : Type 0} (opened : T) (limit : ℕ) (name : List ℕ) (s : FilesState) (result : Result (List ℕ) ReadAllFault)
+    → (IsTrue s.store.tells → IsSome (s.store.folder name))
+    → (IsTrue s.store.tells → Meets source_of (IsTrue s.store.is_steady) (whole limit (Some (files_after_open (Ok opened) name s).rest)) result)
+    → IsTrue s.store.tells → Meets source_of (IsTrue s.store.is_steady) (whole limit (s.store.folder name)) result
+read_on_whole opened limit name s result found meets t = rw (begun_whole s name t (found t)) (meets t)
 
--- where more came than may
-pub stopped : (limit : ℕ) (file read before piece left : List ℕ) → file ≡ read ++ before → before ≡ piece ++ left → length read ≤ limit → length piece ≤ 65536 → IsStopped limit (Some file) left
-stopped limit file read before piece left so_far next few one = record {
-  read = read ++ piece;
-  parts = ap Some (so_far ∙ ap (λ xs. read ++ xs) next ∙ sym (append_assoc read piece left));
-  within = grind (arith, common_steps, few, one);
+-- what reading on takes, and the opening before it
+pub read_on_within : {T : Type 0} (opened : T) (limit : ℕ) (failed : Bool) (name : List ℕ) (s after : FilesState)
+    → IsReadOn limit failed (files_after_open (Ok opened) name s) after → ReadWithin (one_file limit) failed s after
+read_on_within opened limit failed name s after on = record {
+  store = on.store;
+  opens = rw on.opens (counted_most s.reads.opens);
+  ends = on.ends;
+  bytes = on.bytes;
+  faults = on.faults;
 }
 
-pub stopped_opened : (limit : ℕ) (file : Option (List ℕ)) (rest left : List ℕ) → file ≡ Some rest → IsStopped limit (Some rest) left → IsStopped limit file left
-stopped_opened limit file rest left is stops = rw is stops
+-- an opening that failed
+pub unopened_within : (T : Type 0) (failed : Failed) (limit : ℕ) (name : List ℕ) (s : FilesState)
+    → ReadWithin (one_file limit) true s (files_after_open {T = T} (Err failed) name s)
+unopened_within T failed limit name s = record {
+  store = refl;
+  opens = counted_most s.reads.opens;
+  ends = omega arith;
+  bytes = omega arith;
+  faults = refl;
+}

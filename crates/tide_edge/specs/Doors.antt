@@ -1,7 +1,7 @@
 -- What a door tells of its connections (this project).
-use Rattle.std.specs.Prelude.{ℕ, ◌-◌, ◌==◌, nat_lt, Bool, true, false, ◌||◌, if◌then◌else◌, List, [], ◌∷◌, ◌++◌, length, take, drop, Option, Some, None, Result, Ok, Err}
+use Rattle.std.specs.Prelude.{ℕ, ◌-◌, ◌==◌, nat_lt, Bool, true, false, ◌||◌, if◌then◌else◌, List, [], ◌∷◌, ◌++◌, length, take, drop, Option, Some, None, Result, Ok, Err, is_ok, is_err}
 use Rattle.tide_edge.specs.declared.failed.Failed.{Failed}
-use Rattle.tide_edge.specs.Faults.{counted}
+use Rattle.tide_edge.specs.Faults.{counted, faults_after}
 
 -- What a door always tells: the port that it was asked to listen on, and whether it does; how many connections were taken, a
 -- count that stays at the last value of a `u64`; whether one is open; and whether `next` has answered that no more will come.
@@ -74,3 +74,48 @@ abbrev pub written_by : Result ℕ Failed → List ℕ → Traffic → Traffic
 written_by (Ok count) piece t =
     record { waiting = t.waiting; rest = t.rest; replies = append_to_last t.replies (take count piece) }
 written_by (Err failed) piece t = t
+
+-- ---- All of it
+
+-- whether requests and replies are told; whether a `read` gives bytes of one piece alone, where they are told; the doorway; the
+-- traffic, where it is told; and how many calls of `listen` and `next`, and of `read` and `write`, have failed: counts that stay at the
+-- last value of a `u64`
+pub record DoorState : Type 0 where
+  pub tells : Bool
+  pub keeps_pieces : Bool
+  pub doorway : Doorway
+  pub traffic : Traffic
+  pub faults : ℕ
+  pub line_faults : ℕ
+
+-- a change of what is told, where it is
+abbrev pub told_traffic : (Traffic → Traffic) → DoorState → Traffic
+told_traffic change s = if s.tells then change s.traffic else s.traffic
+
+abbrev pub door_after_listen : {T : Type 0} → Result T Failed → ℕ → DoorState → DoorState
+door_after_listen result port s = record s {
+  doorway = asked port (is_ok result);
+  faults = faults_after (is_err result) s.faults;
+}
+
+abbrev pub door_after_next : Result Bool Failed → DoorState → DoorState
+door_after_next result s = record s {
+  doorway = after_next result s.doorway;
+  traffic = told_traffic (taken_by result) s;
+  faults = faults_after (is_err result) s.faults;
+}
+
+abbrev pub door_after_read : Result ℕ Failed → DoorState → DoorState
+door_after_read result s = record s {
+  traffic = told_traffic (read_by result) s;
+  line_faults = faults_after (is_err result) s.line_faults;
+}
+
+abbrev pub door_after_write : Result ℕ Failed → List ℕ → DoorState → DoorState
+door_after_write result piece s = record s {
+  traffic = told_traffic (written_by result piece) s;
+  line_faults = faults_after (is_err result) s.line_faults;
+}
+
+abbrev pub door_after_close : DoorState → DoorState
+door_after_close s = record s { doorway = closed s.doorway }

@@ -1,5 +1,5 @@
 -- What an answer that came with the help of the outside says of the expected one (this project).
-use Rattle.std.specs.Prelude.{◌≡◌, Bool, true, false, IsTrue, Result, Ok, Err}
+use Rattle.std.specs.Prelude.{◌≡◌, Bool, true, false, Result, Ok, Err}
 
 -- where a fault comes from: from want of memory, from a call on the outside, or from what was read or asked
 pub data Source : Type 0 where
@@ -17,14 +17,14 @@ abbrev pub is_outside_fault : {T E : Type 0} → (E → Source) → Result T E �
 is_outside_fault source (Ok value) = false
 is_outside_fault source (Err fault) = is_outside (source fault)
 
--- What a fault says of the expected result. Want of memory says nothing. A fault of the outside says nothing over files
--- that aren't steady, and is the expected fault over steady ones. Any other fault is the expected one.
-abbrev pub Excuses : {T E : Type 0} → Source → Bool → Result T E → E → Type 0
-Excuses memory steady expected fault = Unit {0}
-Excuses outside steady expected fault = IsTrue steady → expected ≡ Err fault
-Excuses given steady expected fault = expected ≡ Err fault
+-- What a fault says of the expected result. Want of memory says nothing. A fault of the outside is the expected one where the
+-- outside stood firm, and else says nothing. Any other fault is the expected one.
+abbrev pub Excuses : {T E : Type 0} → Source → Type 0 → Result T E → E → Type 0
+Excuses memory firm expected fault = Unit {0}
+Excuses outside firm expected fault = firm → expected ≡ Err fault
+Excuses given firm expected fault = expected ≡ Err fault
 
 -- A value is the expected one, and a fault is excused.
-abbrev pub Meets : {T E : Type 0} → (E → Source) → Bool → Result T E → Result T E → Type 0
-Meets source steady expected (Ok value) = expected ≡ Ok value
-Meets source steady expected (Err fault) = Excuses (source fault) steady expected fault
+abbrev pub Meets : {T E : Type 0} → (E → Source) → Type 0 → Result T E → Result T E → Type 0
+Meets source firm expected (Ok value) = expected ≡ Ok value
+Meets source firm expected (Err fault) = Excuses (source fault) firm expected fault

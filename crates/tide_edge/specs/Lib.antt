@@ -3,6 +3,8 @@ pub mod Excuses
 pub mod Calls
 pub mod Clocks
 pub mod Doors
+pub mod FileStates
 pub mod Memory
+pub mod SinkStates
 pub mod Workings
 pub mod Whole

@@ -1,24 +1,36 @@
 -- The objects in memory: what each holds, what its calls answer and what they leave (this project).
-use Rattle.std.specs.Prelude.{ℕ, ℤ, ◌-◌, ◌==◌, nat_lt, min, Bool, false, not, ◌||◌, if◌then◌else◌, List, [], ◌∷◌, ◌++◌, length, take, drop, find, Option, None, is_none, unwrap_or, Result, Ok, Err}
+use Rattle.std.specs.Prelude.{ℕ, ℤ, ◌-◌, ◌==◌, nat_lt, min, Bool, true, false, not, ◌||◌, if◌then◌else◌, List, [], ◌∷◌, ◌++◌, length, take, drop, find, Option, None, is_none, unwrap_or, Result, Ok, Err}
 use Rattle.std.specs.List.{list_all}
 use Rattle.std.specs.Option.{option_map}
 use Rattle.std.specs.Str.{bytes_eq}
 use Rattle.tide_edge.specs.declared.named_file.NamedFile.{NamedFile}
 use Rattle.tide_edge.specs.declared.failed.Failed.{Failed}
 use Rattle.tide_edge.specs.Calls.{HeldCalls, answer, is_to_fail, after_call}
-use Rattle.tide_edge.specs.Doors.{Doorway, Traffic, asked, after_next, closed, append_to_last, first_or_empty, left_after}
+use Rattle.tide_edge.specs.Clocks.{ClockState}
+use Rattle.tide_edge.specs.Doors.{Doorway, DoorState, asked, after_next, closed, append_to_last, first_or_empty, left_after}
 use Rattle.tide_edge.specs.Faults.{counted, faults_after}
+use Rattle.tide_edge.specs.FileStates.{FilesState, Reads, one_opening, one_reading}
+use Rattle.tide_edge.specs.SinkStates.{SinkState}
 
--- files by name, the rest of the open one, which is empty where none is open, and how many times one was to be opened
+-- files by name, the rest of the open one, which is empty where none is open, and the counts of what was opened and read
 pub record HeldFiles : Type 0 where
   pub files : List NamedFile
   pub rest : List ℕ
-  pub opens : ℕ
+  pub reads : Reads
   pub calls : HeldCalls
 
 -- the map of the files: the first file of a name counts
 abbrev pub folder_of : List NamedFile → List ℕ → Option (List ℕ)
 folder_of files name = option_map (λ file. file.bytes) (find (λ file. bytes_eq file.name name) files)
+
+-- what they tell: they are steady where no call is to fail
+abbrev pub files_state : HeldFiles → FilesState
+files_state held = record {
+  store = record { tells = true; folder = folder_of held.files; is_steady = length held.calls.fails == 0 };
+  rest = held.rest;
+  reads = held.reads;
+  faults = held.calls.faults;
+}
 
 -- the bytes that the next open finds, unless it fails
 abbrev pub found : HeldFiles → List ℕ → Option (List ℕ)
@@ -28,7 +40,7 @@ abbrev pub after_open : HeldFiles → List ℕ → HeldFiles
 after_open held name = record {
   files = held.files;
   rest = unwrap_or (found held name) [];
-  opens = counted held.opens;
+  reads = one_opening held.reads;
   calls = after_call (is_none (found held name)) held.calls;
 }
 
@@ -40,7 +52,7 @@ abbrev pub after_read : HeldFiles → ℕ → HeldFiles
 after_read held room = record {
   files = held.files;
   rest = drop (read_count held room) held.rest;
-  opens = held.opens;
+  reads = (if is_to_fail held.calls then held.reads else one_reading (read_count held room) held.reads);
   calls = after_call (is_to_fail held.calls) held.calls;
 }
 
@@ -50,6 +62,10 @@ pub record HeldSink : Type 0 where
   pub most : ℕ
   pub room : ℕ
   pub calls : HeldCalls
+
+-- what it tells
+abbrev pub sink_state : HeldSink → SinkState
+sink_state held = record { tells = true; taken = held.taken; faults = held.calls.faults }
 
 -- whether the next write fails: it is to fail, or the room is full
 abbrev pub is_refused : HeldSink → Bool
@@ -84,9 +100,16 @@ pub record HeldDoor : Type 0 where
 abbrev pub are_pieces : List (List ℕ) → Bool
 are_pieces pieces = list_all (λ piece. nat_lt 0 (length piece)) pieces
 
--- what it tells
-abbrev pub traffic_of : HeldDoor → Traffic
-traffic_of held = record { waiting = held.waiting; rest = held.coming; replies = held.replies }
+-- what it tells: each read gives bytes of one piece
+abbrev pub door_state : HeldDoor → DoorState
+door_state held = record {
+  tells = true;
+  keeps_pieces = true;
+  doorway = held.doorway;
+  traffic = record { waiting = held.waiting; rest = held.coming; replies = held.replies };
+  faults = held.calls.faults;
+  line_faults = held.line_faults;
+}
 
 -- what the next `next` answers
 abbrev pub comes : HeldDoor → Result Bool Failed
@@ -172,6 +195,15 @@ after_close held = record {
 pub record HeldClock : Type 0 where
   pub minute : ℤ
   pub calls : HeldCalls
+
+-- what it tells: the same minute at each asking
+abbrev pub clock_state : HeldClock → ClockState
+clock_state held = record {
+  tells = true;
+  minute_at = λ asking. held.minute;
+  asked = held.calls.made;
+  faults = held.calls.faults;
+}
 
 abbrev pub after_minute : HeldClock → HeldClock
 after_minute held = record {

@@ -1,22 +1,44 @@
--- What reading a file to its end is to give (this project).
-use Rattle.std.specs.Prelude.{◌≡◌, ◌≤◌, ◌+◌, ℕ, nat_le, if◌then◌else◌, List, ◌++◌, length, Option, Some, None, Result, Ok, Err}
+-- What reading a file to its end is to give, and what it takes of the files (this project).
+use Rattle.std.specs.Prelude.{◌≡◌, ◌≤◌, ◌+◌, ℕ, Bool, nat_le, if◌then◌else◌, List, length, Option, Some, None, Result, Ok, Err}
 use Rattle.tide_edge.specs.Excuses.{Source, memory, outside, given}
+use Rattle.tide_edge.specs.Faults.{faults_after}
+use Rattle.tide_edge.specs.FileStates.{FilesState}
 use Rattle.tide_edge.specs.declared.read_all_fault.ReadAllFault.{ReadAllFault}
 use Rattle.tide_edge.specs.declared.read_all_fault.ReadAllFault.TheVariants.{Failed, TooLong, NoMemory}
+use Rattle.tide_edge.specs.declared.piece.TheConstants.{PIECE}
 
 -- of what the map of the files has under the name: its bytes, if there are at most `limit`
 abbrev pub whole : ℕ → Option (List ℕ) → Result (List ℕ) ReadAllFault
 whole limit None = Err Failed
 whole limit (Some bytes) = (if nat_le (length bytes) limit then Ok bytes else Err TooLong)
 
--- a file was read from its begin, by at most a piece of 65,536 bytes past the limit, and the others are left
-pub record IsStopped (limit : ℕ) (file : Option (List ℕ)) (left : List ℕ) : Type 0 where
-  pub read : List ℕ
-  pub parts : file ≡ Some (read ++ left)
-  pub within : length read ≤ limit + 65536
-
 -- where each fault comes from
 abbrev pub source_of : ReadAllFault → Source
 source_of Failed = outside
 source_of TooLong = given
 source_of NoMemory = memory
+
+-- how many files may be opened, and how many bytes of them read
+pub record Allowance : Type 0 where
+  pub files : ℕ
+  pub bytes : ℕ
+
+-- nothing is opened and nothing read
+abbrev pub no_file : Allowance
+no_file = record { files = 0; bytes = 0 }
+
+-- a file of at most so many bytes, of which one piece too many may come
+abbrev pub one_file : ℕ → Allowance
+one_file limit = record { files = 1; bytes = limit + PIECE }
+
+abbrev pub both : Allowance → Allowance → Allowance
+both first second = record { files = first.files + second.files; bytes = first.bytes + second.bytes }
+
+-- Files were read within an allowance: no more were opened, none was read again at its end, and no more bytes came of them. The
+-- count of faults is one more where a call failed, and as before where none did. What they hold is as it was.
+pub record ReadWithin (allowed : Allowance) (failed : Bool) (before after : FilesState) : Type 0 where
+  pub store : after.store ≡ before.store
+  pub opens : after.reads.opens ≤ before.reads.opens + allowed.files
+  pub ends : after.reads.ends ≤ before.reads.ends + allowed.files
+  pub bytes : after.reads.bytes ≤ before.reads.bytes + allowed.bytes
+  pub faults : after.faults ≡ faults_after failed before.faults

@@ -1,2 +1,3 @@
 pub mod OpenFile
 pub mod Lines
+pub mod Reading

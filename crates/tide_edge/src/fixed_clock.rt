@@ -1,8 +1,7 @@
 //! A clock that stands still.
 
-ghost use Rattle.std.specs.Prelude.{◌≡◌, IfOk, is_err};
+ghost use Rattle.std.specs.Prelude.{◌≡◌, IfOk};
 ghost use Rattle.tide_edge.specs.Clocks.{IsClockMinute};
-ghost use Rattle.tide_edge.specs.Faults.{counted, faults_after};
 
 use crate::calls::Calls;
 use crate::clock::Clock;
@@ -45,22 +44,14 @@ impl FixedClock {
 
 impl Clock for FixedClock {
     ghost use Rattle.tide_edge.specs.Calls.{answer, is_to_fail};
-    ghost use Rattle.tide_edge.specs.Memory.{after_minute};
+    ghost use Rattle.tide_edge.specs.Memory.{clock_state, after_minute};
 
-    ghost tells = { λ _. Unit {0} };
-
-    ghost minute_held = { λ c. c.minute };
-
-    ghost faults = { λ c. c.calls.faults };
-
-    ghost asked = { λ c. c.calls.made };
+    ghost state = { λ c. clock_state c };
 
     fn minute(&mut self) -> Result<i64, Failed>
         ensures answer { result ≡ answer (is_to_fail self.old.calls) self.old.minute }
         ensures after { self.new ≡ after_minute self.old }
         ensures in_range { IfOk result IsClockMinute }
-        ensures counts { self.new.calls.faults ≡ faults_after (is_err result) self.old.calls.faults }
-        ensures asks { self.new.calls.made ≡ counted self.old.calls.made }
     {
         self.calls.next()?;
         Ok(self.minute)

@@ -1,6 +1,6 @@
 //! The clock of the machine.
 
-ghost use Rattle.std.specs.Prelude.{◌≡◌, ◌/◌, ◌<◌, pos, IfSome, MatchOption};
+ghost use Rattle.std.specs.Prelude.{◌≡◌, ◌/◌, ◌<◌, pos, false, IfSome, MatchOption};
 ghost use Rattle.tide_edge.specs.Clocks.{IsClockMinute};
 
 use crate::clock::Clock;
@@ -12,7 +12,7 @@ use std::time::{SystemTime, UNIX_EPOCH};
 
 const LAST_MINUTE: u64 = 10_000_000_000;
 
-/// The clock of the machine. It doesn't tell its minute.
+/// The clock of the machine. It doesn't tell its minutes.
 ///
 /// It fails before 1970, which the system doesn't tell, and from 10,000,000,001 minutes later on.
 #[derive(Drop)]
@@ -25,8 +25,8 @@ pub struct HostClock<R: rt::Clock + Drop> {
 impl<R: rt::Clock + Drop> HostClock<R> {
     /// The clock of the machine.
     pub fn new(system: R) -> HostClock<R>
-        ensures faults { ⟦<HostClock<R> as Clock>⟧.faults result ≡ 0 }
-        ensures asked { ⟦<HostClock<R> as Clock>⟧.asked result ≡ 0 }
+        ensures faults { (⟦<HostClock<R> as Clock>⟧.state result).faults ≡ 0 }
+        ensures asked { (⟦<HostClock<R> as Clock>⟧.state result).asked ≡ 0 }
     {
         HostClock {
             system,
@@ -37,13 +37,7 @@ impl<R: rt::Clock + Drop> HostClock<R> {
 }
 
 impl<R: rt::Clock + Drop> Clock for HostClock<R> {
-    ghost tells = { λ _. ⊥ };
-
-    ghost minute_held = { λ _. pos 0 };
-
-    ghost faults = { λ h. h.faults };
-
-    ghost asked = { λ h. h.asked };
+    ghost state = { λ h. record { tells = false; minute_at = λ asking. pos 0; asked = h.asked; faults = h.faults } };
 
     fn minute(&mut self) -> Result<i64, Failed> {
         self.asked = one_more(self.asked);

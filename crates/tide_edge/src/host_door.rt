@@ -1,6 +1,6 @@
 //! A port of the machine.
 
-ghost use Rattle.std.specs.Prelude.{◌≡◌, []};
+ghost use Rattle.std.specs.Prelude.{◌≡◌, false, []};
 
 use crate::door::Door;
 use crate::doorway::Doorway;
@@ -35,9 +35,9 @@ impl<R: Net + Drop> HostDoor<R> {
 
     /// A door that wasn't asked to listen yet.
     pub fn new(system: R) -> HostDoor<R>
-        ensures doorway { ⟦<HostDoor<R> as Door>⟧.doorway result ≡ unasked }
-        ensures faults { ⟦<HostDoor<R> as Door>⟧.faults result ≡ 0 }
-        ensures line_faults { ⟦<HostDoor<R> as Door>⟧.line_faults result ≡ 0 }
+        ensures doorway { (⟦<HostDoor<R> as Door>⟧.state result).doorway ≡ unasked }
+        ensures faults { (⟦<HostDoor<R> as Door>⟧.state result).faults ≡ 0 }
+        ensures line_faults { (⟦<HostDoor<R> as Door>⟧.state result).line_faults ≡ 0 }
     {
         HostDoor {
             system,
@@ -51,15 +51,14 @@ impl<R: Net + Drop> HostDoor<R> {
 }
 
 impl<R: Net + Drop> Door for HostDoor<R> {
-    ghost tells = { λ _. ⊥ };
-
-    ghost traffic = { λ _. record { waiting = []; rest = []; replies = [] } };
-
-    ghost doorway = { λ h. h.doorway };
-
-    ghost faults = { λ h. h.faults };
-
-    ghost line_faults = { λ h. h.line_faults };
+    ghost state = { λ h. record {
+      tells = false;
+      keeps_pieces = false;
+      doorway = h.doorway;
+      traffic = record { waiting = []; rest = []; replies = [] };
+      faults = h.faults;
+      line_faults = h.line_faults;
+    } };
 
     fn listen(&mut self, port: u16) -> Result<(), Failed> {
         match TcpListener::bind(&self.system, (Ipv4Addr::LOCALHOST, port)) {

@@ -1,11 +1,12 @@
 //! The files of the machine.
 
 ghost use Rattle.std.specs.Prelude.{◌≡◌, false, [], None};
+ghost use Rattle.tide_edge.specs.FileStates.{FilesState};
 
-use crate::count::one_more;
 use crate::failed::Failed;
 use crate::files::Files;
-use crate::host_fault::{count_fault, outcome};
+use crate::host_fault::count_fault;
+use crate::reads::Reads;
 use decimal_text::Text;
 use std::io::Read;
 use std::{fs, rt};
@@ -17,41 +18,36 @@ use std::{fs, rt};
 pub struct HostFiles<R: rt::Files + Drop> {
     system: R,
     opened: Option<R::File>,
+    reads: Reads,
     faults: u64,
-    opens: u64,
 }
 
 impl<R: rt::Files + Drop> HostFiles<R> {
     /// The files of the machine, none of them open.
     pub fn new(system: R) -> HostFiles<R>
-        ensures faults { ⟦<HostFiles<R> as Files>⟧.faults result ≡ 0 }
-        ensures opens { ⟦<HostFiles<R> as Files>⟧.opens result ≡ 0 }
+        ensures reads { (⟦<HostFiles<R> as Files>⟧.state result).reads ≡ record { opens = 0; ends = 0; bytes = 0 } }
+        ensures faults { (⟦<HostFiles<R> as Files>⟧.state result).faults ≡ 0 }
     {
         HostFiles {
             system,
             opened: None,
+            reads: Reads::none(),
             faults: 0,
-            opens: 0,
         }
     }
 }
 
 impl<R: rt::Files + Drop> Files for HostFiles<R> {
-    ghost tells = { λ _. ⊥ };
-
-    ghost folder = { λ _ _. None };
-
-    ghost rest = { λ _. [] };
-
-    ghost steady = { λ _. false };
-
-    ghost faults = { λ h. h.faults };
-
-    ghost opens = { λ h. h.opens };
+    ghost state = { λ h. record {
+      store = record { tells = false; folder = λ name. None; is_steady = false };
+      rest = [];
+      reads = h.reads;
+      faults = h.faults;
+    } };
 
     fn open(&mut self, name: &Text) -> Result<(), Failed> {
         self.opened = None;
-        self.opens = one_more(self.opens);
+        self.reads.open();
         match fs::open(&self.system, name.as_str()) {
             Ok(file) => {
                 self.opened = Some(file);
@@ -62,9 +58,12 @@ impl<R: rt::Files + Drop> Files for HostFiles<R> {
     }
 
     fn read(&mut self, room: &mut [u8]) -> Result<usize, Failed> {
-        match &mut self.opened {
-            Some(file) => outcome(&mut self.faults, file.read(room)),
-            None => Ok(0),
+        let Some(file) = &mut self.opened else {
+            return Ok(self.reads.read(0));
+        };
+        match file.read(room) {
+            Ok(count) => Ok(self.reads.read(count)),
+            Err(_) => Err(count_fault(&mut self.faults)),
         }
     }
 }

@@ -1,6 +1,6 @@
 //! Standard output and standard error.
 
-ghost use Rattle.std.specs.Prelude.{◌≡◌, []};
+ghost use Rattle.std.specs.Prelude.{◌≡◌, false, []};
 
 use crate::failed::Failed;
 use crate::host_fault::count_fault;
@@ -19,18 +19,14 @@ pub struct HostSink<W: Write + Drop> {
 impl<W: Write + Drop> HostSink<W> {
     /// A sink over a writer, as `rt.stdout()` or `rt.stderr()`.
     pub fn new(writer: W) -> HostSink<W>
-        ensures { ⟦<HostSink<W> as Sink>⟧.faults result ≡ 0 }
+        ensures { (⟦<HostSink<W> as Sink>⟧.state result).faults ≡ 0 }
     {
         HostSink { writer, faults: 0 }
     }
 }
 
 impl<W: Write + Drop> Sink for HostSink<W> {
-    ghost tells = { λ _. ⊥ };
-
-    ghost taken = { λ _. [] };
-
-    ghost faults = { λ h. h.faults };
+    ghost state = { λ h. record { tells = false; taken = []; faults = h.faults } };
 
     fn write(&mut self, piece: &[u8]) -> Result<usize, Failed> {
         match self.writer.write(piece) {

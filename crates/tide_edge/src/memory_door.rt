@@ -1,8 +1,7 @@
 //! A door in memory.
 
-ghost use Rattle.std.specs.Prelude.{◌≡◌, ◌↔◌, ◌<◌, ◌≤◌, ◌++◌, false, IsTrue, [], length, map, take, drop, Some, None, IfOk, MatchOption, is_err, slice_get};
+ghost use Rattle.std.specs.Prelude.{◌≡◌, ◌↔◌, ◌<◌, ◌≤◌, ◌++◌, false, IsTrue, [], length, map, take, drop, Some, None, IfOk, MatchOption, slice_get};
 ghost use Rattle.std.specs.List.{concat, list_all};
-ghost use Rattle.tide_edge.specs.Faults.{faults_after};
 ghost use Rattle.tide_edge.specs.Memory.{are_pieces};
 
 use crate::calls::Calls;
@@ -95,23 +94,14 @@ impl MemoryDoor {
 
 impl Door for MemoryDoor {
     ghost use Rattle.tide_edge.specs.Calls.{answer, is_to_fail};
-    ghost use Rattle.tide_edge.specs.Memory.{traffic_of, comes, after_listen, after_taking, line_count, after_line_read, is_shut, reply_count, after_line_write, after_close};
+    ghost use Rattle.tide_edge.specs.Memory.{door_state, comes, after_listen, after_taking, line_count, after_line_read, is_shut, reply_count, after_line_write, after_close};
 
-    ghost tells = { λ _. Unit {0} };
-
-    ghost traffic = { λ d. traffic_of d };
-
-    ghost doorway = { λ d. d.doorway };
-
-    ghost faults = { λ d. d.calls.faults };
-
-    ghost line_faults = { λ d. d.line_faults };
+    ghost state = { λ d. door_state d };
 
     fn listen(&mut self, port: u16) -> Result<(), Failed>
         requires { self.old.doorway.port ≡ None }
         ensures answer { result ≡ answer (is_to_fail self.old.calls) record {} }
         ensures after { self.new ≡ after_listen self.old port }
-        ensures counts { self.new.calls.faults ≡ faults_after (is_err result) self.old.calls.faults }
     {
         let outcome = self.calls.next();
         self.doorway = Doorway::asked(port, outcome.is_ok());
@@ -123,7 +113,6 @@ impl Door for MemoryDoor {
         requires none_open { self.old.doorway.is_open ≡ false }
         ensures answer { result ≡ comes self.old }
         ensures after { self.new ≡ after_taking self.old }
-        ensures counts { self.new.calls.faults ≡ faults_after (is_err result) self.old.calls.faults }
     {
         self.calls.next()?;
         let Some(pieces) = self.waiting.pop_front() else {
@@ -144,7 +133,6 @@ impl Door for MemoryDoor {
         ensures filled { room.new ≡ take (line_count self.old (length room.old)) (concat self.old.coming)
             ++ drop (line_count self.old (length room.old)) room.old }
         ensures end { IfOk result (λ count. (count ≡ 0) ↔ (concat self.old.coming ≡ [])) }
-        ensures counts { self.new.line_faults ≡ faults_after (is_err result) self.old.line_faults }
     {
         if self.calls.is_next_to_fail() {
             return Err(count_fault(&mut self.line_faults));
@@ -158,7 +146,6 @@ impl Door for MemoryDoor {
         ensures answer { result ≡ answer (is_shut self.old) (reply_count self.old (length piece.now)) }
         ensures after { self.new ≡ after_line_write self.old piece.now }
         ensures some { IfOk result (λ count. 0 < count) }
-        ensures counts { self.new.line_faults ≡ faults_after (is_err result) self.old.line_faults }
     {
         let room = self.replies.room();
         if self.calls.is_next_to_fail() || room == 0 {

@@ -1,17 +1,16 @@
 //! Files in memory.
 
-ghost use Rattle.std.specs.Prelude.{◌≡◌, ◌==◌, ◌+◌, ◌<◌, ◌^◌, ◌++◌, [], position, length, take, drop, is_none, is_err};
+ghost use Rattle.std.specs.Prelude.{◌≡◌, ◌+◌, ◌<◌, ◌^◌, ◌++◌, [], position, length, take, drop, is_none};
 ghost use Rattle.std.specs.Option.{option_map};
 ghost use Rattle.std.specs.Str.{bytes_eq};
-ghost use Rattle.tide_edge.specs.Faults.{faults_after};
 ghost use Rattle.tide_edge.specs.Memory.{folder_of};
 ghost use Rattle.tide_edge.specs.Workings.OpenFile.{bytes_at, rest_of};
 
 use crate::calls::Calls;
-use crate::count::one_more;
 use crate::failed::Failed;
 use crate::files::Files;
 use crate::named_file::NamedFile;
+use crate::reads::Reads;
 use crate::rest::rest_from;
 use decimal_text::Text;
 use std::marker::Model;
@@ -22,7 +21,7 @@ pub struct MemoryFiles {
     files: Vec<NamedFile>,
     opened: Option<usize>,
     at: usize,
-    opens: u64,
+    reads: Reads,
     calls: Calls,
 }
 
@@ -36,7 +35,7 @@ impl Model for MemoryFiles {
     ghost view = { λ m. record {
       files = m.files.items;
       rest = rest_of m.files.items m.opened m.at;
-      opens = m.opens;
+      reads = m.reads;
       calls = m.calls;
     } };
 }
@@ -48,7 +47,7 @@ impl MemoryFiles {
         ensures { result ≡ record {
           files = files.items;
           rest = [];
-          opens = 0;
+          reads = record { opens = 0; ends = 0; bytes = 0 };
           calls = record { fails = fails.items; made = 0; faults = 0 };
         } }
     {
@@ -56,7 +55,7 @@ impl MemoryFiles {
             files,
             opened: None,
             at: 0,
-            opens: 0,
+            reads: Reads::none(),
             calls: Calls::new(fails),
         }
     }
@@ -64,28 +63,17 @@ impl MemoryFiles {
 
 impl Files for MemoryFiles {
     ghost use Rattle.tide_edge.specs.Calls.{answer, is_to_fail};
-    ghost use Rattle.tide_edge.specs.Memory.{found, after_open, read_count, after_read};
+    ghost use Rattle.tide_edge.specs.Memory.{files_state, found, after_open, read_count, after_read};
 
-    ghost tells = { λ _. Unit {0} };
-
-    ghost folder = { λ m. folder_of m.files };
-
-    ghost rest = { λ m. m.rest };
-
-    ghost steady = { λ m. length m.calls.fails == 0 };
-
-    ghost faults = { λ m. m.calls.faults };
-
-    ghost opens = { λ m. m.opens };
+    ghost state = { λ m. files_state m };
 
     fn open(&mut self, name: &Text) -> Result<(), Failed>
         ensures answer { result ≡ answer (is_none (found self.old name.now)) record {} }
         ensures after { self.new ≡ after_open self.old name.now }
-        ensures counts { self.new.calls.faults ≡ faults_after (is_err result) self.old.calls.faults }
     {
         self.opened = None;
         self.at = 0;
-        self.opens = one_more(self.opens);
+        self.reads.open();
         self.calls.next()?;
         self.opened = place_of(&self.files, name);
         if self.opened.is_none() {
@@ -100,14 +88,13 @@ impl Files for MemoryFiles {
         ensures after { self.new ≡ after_read self.old (length room.old) }
         ensures filled { room.new ≡ take (read_count self.old (length room.old)) self.old.rest
             ++ drop (read_count self.old (length room.old)) room.old }
-        ensures counts { self.new.calls.faults ≡ faults_after (is_err result) self.old.calls.faults }
     {
         self.calls.next()?;
         let rest = rest_at(&self.files, self.opened, self.at);
         let count = room.len().min(rest.len());
         room[..count].copy_from_slice(&rest[..count]);
         self.at += count;
-        Ok(count)
+        Ok(self.reads.read(count))
     }
 }
 

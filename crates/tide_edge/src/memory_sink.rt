@@ -1,7 +1,6 @@
 //! A sink in memory.
 
-ghost use Rattle.std.specs.Prelude.{◌≡◌, ◌<◌, ◌≤◌, [], IfOk, is_err, length};
-ghost use Rattle.tide_edge.specs.Faults.{faults_after};
+ghost use Rattle.std.specs.Prelude.{◌≡◌, ◌<◌, ◌≤◌, [], IfOk, length};
 
 use crate::calls::Calls;
 use crate::failed::Failed;
@@ -65,20 +64,15 @@ impl MemorySink {
 
 impl Sink for MemorySink {
     ghost use Rattle.tide_edge.specs.Calls.{answer};
-    ghost use Rattle.tide_edge.specs.Memory.{is_refused, write_count, after_write};
+    ghost use Rattle.tide_edge.specs.Memory.{sink_state, is_refused, write_count, after_write};
 
-    ghost tells = { λ _. Unit {0} };
-
-    ghost taken = { λ s. s.taken };
-
-    ghost faults = { λ s. s.calls.faults };
+    ghost state = { λ s. sink_state s };
 
     fn write(&mut self, piece: &[u8]) -> Result<usize, Failed>
         requires { 0 < length piece.now }
         ensures answer { result ≡ answer (is_refused self.old) (write_count self.old (length piece.now)) }
         ensures after { self.new ≡ after_write self.old piece.now }
         ensures some { IfOk result (λ count. 0 < count) }
-        ensures counts { self.new.calls.faults ≡ faults_after (is_err result) self.old.calls.faults }
     {
         self.calls.next()?;
         let left = self.room - self.bytes.len() as u64;

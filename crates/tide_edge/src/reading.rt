@@ -1,39 +1,33 @@
 //! Reading a whole file.
 
-ghost use Rattle.std.specs.Prelude.{◌≡◌, ◌+◌, ◌≤◌, length, Some, IfOk, IsErrOf};
+ghost use Rattle.std.specs.Prelude.{◌≡◌, ◌≤◌, IsTrue, length, Some, IfOk};
 ghost use Rattle.tide_edge.specs.Excuses.{Meets, is_outside_fault};
-ghost use Rattle.tide_edge.specs.Faults.{faults_after, Rose};
-ghost use Rattle.tide_edge.specs.Whole.{IsStopped, whole, source_of};
+ghost use Rattle.tide_edge.specs.Whole.{ReadWithin, one_file, source_of, whole};
+ghost use Rattle.tide_edge.specs.Workings.Reading.{IsReadOn};
 
 use crate::files::Files;
+use crate::piece::PIECE;
 use crate::read_all_fault::ReadAllFault;
 use decimal_text::{Bytes, Text};
 use std::alloc::Global;
 
-const PIECE: usize = 65_536;
-
-/// Reads the file of that name from its begin to its end, if it has at most `limit` bytes. It is opened once.
+/// Reads the file of that name from its begin to its end, if it has at most `limit` bytes. It is opened once, its end is
+/// found once, and at most a piece of 65,536 bytes past the limit is read of it, whatever is answered.
 ///
 /// # Errors
-/// [`ReadAllFault::Failed`] only where the count of `files` rose, and over steady files only where there is no file of
-/// that name; [`ReadAllFault::TooLong`] where the file has more than `limit` bytes, of which at most a piece of 65,536 too
-/// many is read; [`ReadAllFault::NoMemory`].
+/// [`ReadAllFault::Failed`] exactly where the count of faults of `files` is one more, and over steady files only where
+/// there is no file of that name; [`ReadAllFault::TooLong`] where the file has more than `limit` bytes;
+/// [`ReadAllFault::NoMemory`].
 pub fn read_all<F: Files>(
     alloc: Global,
     files: &mut F,
     name: &Text,
     limit: u64,
 ) -> Result<Bytes, ReadAllFault>
-    ensures whole { F.tells files.old
-        → Meets source_of (F.steady files.old) (whole limit (F.folder files.old name.now)) result }
+    ensures whole { IsTrue (F.state files.old).store.tells
+        → Meets source_of (IsTrue (F.state files.old).store.is_steady) (whole limit ((F.state files.old).store.folder name.now)) result }
     ensures within { IfOk result (λ bytes. length bytes ≤ limit) }
-    ensures counts { F.faults files.new ≡ faults_after (is_outside_fault source_of result) (F.faults files.old) }
-    ensures failed { IsErrOf result ReadAllFault.Failed → Rose (F.faults files.old) (F.faults files.new) }
-    ensures stops { F.tells files.old → IsErrOf result ReadAllFault.TooLong → IsStopped limit (F.folder files.old name.now) (F.rest files.new) }
-    ensures opened { F.opens files.new ≤ F.opens files.old + 1 }
-    ensures same_files { F.folder files.new ≡ F.folder files.old }
-    ensures as_steady { F.steady files.new ≡ F.steady files.old }
-    ensures still_tells { F.tells files.old → F.tells files.new }
+    ensures read { ReadWithin (one_file limit) (is_outside_fault source_of result) (F.state files.old) (F.state files.new) }
 {
     let mut room = vec![in alloc; 0; PIECE]?;
     match files.open(name) {
@@ -49,17 +43,11 @@ fn read_rest<F: Files>(
     room: &mut [u8],
     limit: u64,
 ) -> Result<Bytes, ReadAllFault>
-    requires { length room.old ≡ 65536 }
-    ensures whole { F.tells files.old
-        → Meets source_of (F.steady files.old) (whole limit (Some (F.rest files.old))) result }
+    requires { length room.old ≡ PIECE }
+    ensures whole { IsTrue (F.state files.old).store.tells
+        → Meets source_of (IsTrue (F.state files.old).store.is_steady) (whole limit (Some (F.state files.old).rest)) result }
     ensures within { IfOk result (λ bytes. length bytes ≤ limit) }
-    ensures counts { F.faults files.new ≡ faults_after (is_outside_fault source_of result) (F.faults files.old) }
-    ensures failed { IsErrOf result ReadAllFault.Failed → Rose (F.faults files.old) (F.faults files.new) }
-    ensures stops { F.tells files.old → IsErrOf result ReadAllFault.TooLong → IsStopped limit (Some (F.rest files.old)) (F.rest files.new) }
-    ensures unopened { F.opens files.new ≡ F.opens files.old }
-    ensures same_files { F.folder files.new ≡ F.folder files.old }
-    ensures as_steady { F.steady files.new ≡ F.steady files.old }
-    ensures still_tells { F.tells files.old → F.tells files.new }
+    ensures read { IsReadOn limit (is_outside_fault source_of result) (F.state files.old) (F.state files.new) }
 {
     let mut bytes = Vec::new(alloc);
     loop {

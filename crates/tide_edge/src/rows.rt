@@ -29,13 +29,13 @@ pub fn worked_rows()
     ensures small_room { read_count (record {
       files = [];
       rest = 7 ∷ 8 ∷ [];
-      opens = 0;
+      reads = record { opens = 0; ends = 0; bytes = 0 };
       calls = record { fails = []; made = 0; faults = 0 };
     }) 1 ≡ 1 }
     ensures small_rest { read_count (record {
       files = [];
       rest = 7 ∷ 8 ∷ [];
-      opens = 0;
+      reads = record { opens = 0; ends = 0; bytes = 0 };
       calls = record { fails = []; made = 0; faults = 0 };
     }) 9 ≡ 2 }
     ensures nearly_full { write_count (record {

@@ -1,7 +1,7 @@
 //! Writing all of some bytes.
 
-ghost use Rattle.std.specs.Prelude.{◌≡◌, ◌<◌, ◌++◌, length, take, IfErr, OnOk, is_err};
-ghost use Rattle.tide_edge.specs.Faults.{faults_after};
+ghost use Rattle.std.specs.Prelude.{◌≡◌, ◌<◌, length, take, IfErr, OnOk};
+ghost use Rattle.tide_edge.specs.SinkStates.{put, sink_failed};
 
 use crate::rest::rest_from;
 use crate::sink::Sink;
@@ -18,14 +18,11 @@ pub struct WriteFailed {
 /// Writes all bytes. It takes no memory.
 ///
 /// # Errors
-/// [`WriteFailed`] where a write failed. Nothing was written after that one.
+/// [`WriteFailed`] where a write failed: exactly the first `sent` bytes were taken, and nothing was written after that.
 pub fn write_all<S: Sink>(sink: &mut S, bytes: &[u8]) -> Result<(), WriteFailed>
-    ensures all { S.tells sink.old → OnOk result (S.taken sink.new ≡ S.taken sink.old ++ bytes.now) }
-    ensures sent { S.tells sink.old
-        → IfErr result (λ fault. S.taken sink.new ≡ S.taken sink.old ++ take fault.sent bytes.now) }
+    ensures all { OnOk result (S.state sink.new ≡ put bytes.now (S.state sink.old)) }
+    ensures sent { IfErr result (λ fault. S.state sink.new ≡ sink_failed (put (take fault.sent bytes.now) (S.state sink.old))) }
     ensures cut_short { IfErr result (λ fault. fault.sent < length bytes.now) }
-    ensures still_tells { S.tells sink.old → S.tells sink.new }
-    ensures counts { S.faults sink.new ≡ faults_after (is_err result) (S.faults sink.old) }
 {
     let mut sent = 0;
     while sent < bytes.len() {

@@ -9,13 +9,13 @@ use Rattle.question.specs.declared.question.ZoneWord.{ZoneWord}
 use Rattle.question.specs.declared.question.ZoneWord.TheVariants as words
 use Rattle.question.specs.Questions.{question_of}
 use Rattle.station_table.specs.declared.offsets.Offsets.{Offsets}
-use Rattle.tide_answer.specs.declared.fault.Fault.{Fault}
-use Rattle.tide_answer.specs.declared.fault.Fault.TheVariants.{Ask, Refused}
+use Rattle.tide_fault.specs.declared.fault.Fault.{Fault}
+use Rattle.tide_fault.specs.declared.fault.Fault.TheVariants.{Ask, Refused}
 use Rattle.tide_answer.specs.declared.given.Given.{Given}
-use Rattle.tide_answer.specs.declared.refusal.Refusal.{Refusal}
+use Rattle.tide_fault.specs.declared.refusal.Refusal.{Refusal}
 use Rattle.tide_answer.specs.declared.text.Answer.{Answer}
 use Rattle.tide_answer.specs.Answers.{answered}
-use Rattle.tide_answer.specs.Faults.{line_of}
+use Rattle.tide_fault.specs.Faults.{line_of}
 use Rattle.tide_desk.specs.Readings.{zone_file}
 use Rattle.zone_time.specs.declared.zone.Zone.{Zone}
 use Rattle.zone_time.specs.declared.zone.Zone.TheVariants.{Utc, Fixed}

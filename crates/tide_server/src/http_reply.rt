@@ -5,7 +5,7 @@ ghost use Rattle.harmonics_text.specs.Books.{IsBook};
 ghost use Rattle.question.specs.Asked.{IsAsked, IsZoneWord};
 ghost use Rattle.station_table.specs.Offsets.{IsTable};
 ghost use Rattle.tide_answer.specs.Answers.{answered};
-ghost use Rattle.tide_answer.specs.Faults.{IsTold, wants_memory_of_refusal};
+ghost use Rattle.tide_fault.specs.Faults.{IsTold, wants_memory_of_refusal};
 ghost use Rattle.tide_answer.specs.Givens.{IsGiven};
 ghost use Rattle.tide_edge.specs.Clocks.{IsClockMinute};
 ghost use Rattle.question.specs.Questions.{wants_memory};

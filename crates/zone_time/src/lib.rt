@@ -17,7 +17,7 @@ mod zone_fault;
 mod zone_file;
 mod zone_reading;
 
-pub use dates::{write_clock, write_date};
+pub use dates::{MINUTES_OF_DAY, write_clock, write_date};
 pub use laws::{days_have_their_date, moments_have_one_text, zone_files_go_by_jiff};
 pub use local::{Label, Local};
 pub use local_text::{write_local, write_time};

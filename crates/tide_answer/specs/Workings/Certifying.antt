@@ -11,18 +11,18 @@ use Rattle.harmonics_text.specs.declared.book.Units.{Units}
 use Rattle.listing.specs.Listings.{plain_events_of}
 use Rattle.station_table.specs.declared.offsets.Offsets.{Offsets}
 use Rattle.zone_time.specs.declared.zone.Zone.{Zone}
-use Rattle.tide_answer.specs.declared.asked.Asked.{Asked}
-use Rattle.tide_answer.specs.declared.reach.Reach.TheVariants.{Events}
-use Rattle.tide_answer.specs.declared.refusal.Refusal.{Refusal}
-use Rattle.tide_answer.specs.declared.rejection.Rejection.{Rejection}
-use Rattle.tide_answer.specs.declared.station.Found.{Found}
+use Rattle.station_span.specs.declared.asked.Asked.{Asked}
+use Rattle.station_span.specs.declared.reach.Reach.TheVariants.{Events}
+use Rattle.tide_fault.specs.declared.refusal.Refusal.{Refusal}
+use Rattle.station_cells.specs.declared.rejection.Rejection.{Rejection}
+use Rattle.station_span.specs.declared.station.Found.{Found}
 use Rattle.tide_answer.specs.declared.text.Answer.{Answer}
 use Rattle.tide_answer.specs.Answers.{judged, version_of}
 use Rattle.tide_answer.specs.Asking.{asked_in}
-use Rattle.tide_answer.specs.Following.{followed_by}
-use Rattle.tide_answer.specs.Rejections.{rejection_of, rejection_line}
-use Rattle.tide_answer.specs.Sites.{site_in}
-use Rattle.tide_answer.specs.Workings.Curves.{followed_tide}
+use Rattle.station_span.specs.Following.{followed_by}
+use Rattle.station_cells.specs.Rejections.{rejection_of, rejection_line}
+use Rattle.station_span.specs.Sites.{site_in}
+use Rattle.station_span.specs.Workings.Curves.{followed_tide}
 
 abbrev pub certificate_in : List ℕ → Asked → Tracks → Certificate
 certificate_in name asked tracks = record {
@@ -33,12 +33,6 @@ certificate_in name asked tracks = record {
   mark = asked.mark;
   tracks = tracks;
 }
-
--- each track has fewer cells than a number tells
-pub record HasFewCells (tracks : Tracks) : Type 0 where
-  pub turn : length tracks.turn < 2 ^ 32
-  pub slack : ForSome tracks.slack (λ cells. length cells < 2 ^ 32)
-  pub mark : ForSome tracks.mark (λ cells. length cells < 2 ^ 32)
 
 -- what is wrong first by the tide that was found
 abbrev pub tide_rejection : Found → Certificate → Option Rejection

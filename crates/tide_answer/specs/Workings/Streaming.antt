@@ -13,14 +13,14 @@ use Rattle.question.specs.declared.command.Command.TheVariants.{Certify}
 use Rattle.station_table.specs.Bases.{is_plain}
 use Rattle.zone_time.specs.declared.zone.Zone.{Zone}
 use Rattle.zone_time.specs.Zones.{IsZone}
-use Rattle.tide_answer.specs.declared.asked.Asked.{Asked}
+use Rattle.station_span.specs.declared.asked.Asked.{Asked}
 use Rattle.tide_answer.specs.declared.form.Form.{Form}
 use Rattle.tide_answer.specs.declared.form.Form.TheVariants.{Listing, Certificate}
-use Rattle.tide_answer.specs.declared.station.Found.{Found}
+use Rattle.station_span.specs.declared.station.Found.{Found}
 use Rattle.tide_answer.specs.declared.text.Answer.{Answer}
 use Rattle.tide_answer.specs.Workings.Certifying.{certificate_in}
-use Rattle.tide_answer.specs.Workings.Curves.{followed_tide, tide_cells, tide_events, IsReady}
-use Rattle.tide_answer.specs.Workings.Spans.{AreMoments, IsNear}
+use Rattle.station_span.specs.Workings.Curves.{followed_tide, tide_cells, tide_events, IsReady}
+use Rattle.station_span.specs.Workings.Spans.{AreMoments, IsNear}
 
 abbrev pub tide_tracks : Found → Asked → Tracks
 tide_tracks found asked =

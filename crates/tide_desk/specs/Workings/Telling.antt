@@ -1,7 +1,7 @@
 -- What is said of a fault.
 use Rattle.std.specs.Prelude.{◌≡◌, ◌⊎◌, ℕ, Bool, false, List, codes}
-use Rattle.tide_answer.specs.declared.status.Status.{Status}
-use Rattle.tide_answer.specs.declared.status.Status.TheVariants.{NoMemory}
+use Rattle.tide_fault.specs.declared.status.Status.{Status}
+use Rattle.tide_fault.specs.declared.status.Status.TheVariants.{NoMemory}
 use Rattle.tide_desk.specs.declared.no_answer.NoAnswer.{NoAnswer}
 use Rattle.tide_desk.specs.NoAnswers.{status_of, line_of, is_unread}
 

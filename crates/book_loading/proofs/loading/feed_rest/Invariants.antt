@@ -1,16 +1,17 @@
-use Rattle.std.proofs.Common.{◌≡◌, ◌≤◌, ◌+◌, ◌-◌, ◌++◌, length}
+use Rattle.std.proofs.Common.{◌≡◌, ◌≤◌, ◌+◌, ◌-◌, ◌++◌, IsTrue, length}
 use Rattle.book_loading.proofs.loading.feed_rest.Given as goal
 
 abbrev pub invariant-loop-reader : goal.invariant-loop-reader
 invariant-loop-reader g l = record {
   within : l.fed ≤ l.limit;
   counted : l.fed ≡ length l.reader.bytes;
-  read : g.F.Files.tells l.initial.files → g.F.Files.rest l.initial.files ≡ l.reader.bytes ++ g.F.Files.rest l.files;
-  tells : g.F.Files.tells l.initial.files → g.F.Files.tells l.files;
-  folder : g.F.Files.folder l.files ≡ g.F.Files.folder l.initial.files;
-  steady : g.F.Files.steady l.files ≡ g.F.Files.steady l.initial.files;
-  unfailed : g.F.Files.faults l.files ≡ g.F.Files.faults l.initial.files;
-  unopened : g.F.Files.opens l.files ≡ g.F.Files.opens l.initial.files;
+  store : (g.F.Files.state l.files).store ≡ (g.F.Files.state l.initial.files).store;
+  read : IsTrue (g.F.Files.state l.initial.files).store.tells
+      → (g.F.Files.state l.initial.files).rest ≡ l.reader.bytes ++ (g.F.Files.state l.files).rest;
+  opens : (g.F.Files.state l.files).reads.opens ≡ (g.F.Files.state l.initial.files).reads.opens;
+  ends : (g.F.Files.state l.files).reads.ends ≡ (g.F.Files.state l.initial.files).reads.ends;
+  bytes : (g.F.Files.state l.files).reads.bytes ≤ (g.F.Files.state l.initial.files).reads.bytes + l.fed;
+  faults : (g.F.Files.state l.files).faults ≡ (g.F.Files.state l.initial.files).faults;
 }
 
 abbrev pub decreases-loop-reader : goal.decreases-loop-reader

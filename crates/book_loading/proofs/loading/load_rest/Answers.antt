@@ -6,7 +6,7 @@ use Rattle.book_loading.proofs.loading.load_rest.Goals as goal
 pub returns-in_err-reader-clause-own : goal.returns-in_err-reader-clause-own
 returns-in_err-reader-clause-own g c =
     λ t. let p = err_from_is_err_and c.from_residual.result c.from_residual.ensures.1 in
-    rw (p.1, p.2) (excuses_reading c.args.limit _ (Some (g.F.Files.rest c.args.files.now)) _ (c.in_err-reader.ensures.whole t))
+    rw (p.1, p.2) (excuses_reading c.args.limit _ (Some (g.F.Files.state c.args.files.now).rest) _ (c.in_err-reader.ensures.whole t))
 
 pub returns-in_err-reader-clause-some : goal.returns-in_err-reader-clause-some
 returns-in_err-reader-clause-some g c =
@@ -17,7 +17,7 @@ pub returns-in_err-finish-clause-own : goal.returns-in_err-finish-clause-own
 returns-in_err-finish-clause-own g c =
     λ t. let p = err_from_is_err_and c.from_residual-in_err-finish.result c.from_residual-in_err-finish.ensures.1 in
     rw (p.1, p.2)
-    (excuses_form c.args.limit _ (Some (g.F.Files.rest c.args.files.now)) _ _ (c.in_ok-reader.ensures.whole t) c.in_err-finish.ensures.exact)
+    (excuses_form c.args.limit _ (Some (g.F.Files.state c.args.files.now).rest) _ _ (c.in_ok-reader.ensures.whole t) c.in_err-finish.ensures.exact)
 
 pub returns-in_err-finish-clause-some : goal.returns-in_err-finish-clause-some
 returns-in_err-finish-clause-some g c =
@@ -28,7 +28,7 @@ returns-in_err-finish-clause-some g c =
 
 pub returns-clause-own : goal.returns-clause-own
 returns-clause-own g c =
-    λ t. loaded_whole c.args.limit (Some (g.F.Files.rest c.args.files.now)) _ _ (c.in_ok-reader.ensures.whole t) c.in_ok-finish.ensures.exact
+    λ t. loaded_whole c.args.limit (Some (g.F.Files.state c.args.files.now).rest) _ _ (c.in_ok-reader.ensures.whole t) c.in_ok-finish.ensures.exact
 
 pub returns-clause-some : goal.returns-clause-some
 returns-clause-some g c =

@@ -1,6 +1,6 @@
 use Rattle.std.proofs.Common.{All}
 use Rattle.harmonics_text.specs.declared.book.Units.TheVariants.{Feet}
-use Rattle.listing.specs.Listings.{IsListed}
+use Rattle.event_text.specs.Lines.{IsListed}
 use Rattle.curve_tests.proofs.calendars.tide_of.Given as goal
 
 abbrev pub invariant-loop-minute : goal.invariant-loop-minute

@@ -1,5 +1,5 @@
 use Rattle.std.proofs.Common.{All}
-use Rattle.listing.specs.Listings.{IsListed}
+use Rattle.event_text.specs.Lines.{IsListed}
 use Rattle.curve_tests.proofs.lists.events_of.Given as goal
 
 abbrev pub invariant-loop-minute : goal.invariant-loop-minute

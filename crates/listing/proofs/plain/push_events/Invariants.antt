@@ -1,6 +1,6 @@
 use Rattle.std.proofs.Common.{◌≡◌, ◌++◌, take}
 use Rattle.std.specs.List.{flat_map}
-use Rattle.listing.specs.Listings.{event_line_in}
+use Rattle.event_text.specs.Lines.{event_line_in}
 use Rattle.listing.proofs.plain.push_events.Given as goal
 
 abbrev pub invariant-loop-event : goal.invariant-loop-event

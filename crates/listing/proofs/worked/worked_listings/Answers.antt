@@ -4,7 +4,7 @@ use Rattle.decimal_text.specs.Rounding.{rounded_of}
 use Rattle.decimal_text.specs.Writing.{write_of, last_digits}
 use Rattle.zone_time.specs.Dates.{date_text, clock_text, two_digits, date_of, date_from_year, date_from_month}
 use Rattle.zone_time.specs.Locals.{local_text, time_text, label_text}
-use Rattle.listing.specs.Lines.{event_line_of, height_line_of, text_of_unit, padded}
+use Rattle.event_text.specs.Lines.{event_line_of, height_line_of, text_of_unit, padded}
 use Rattle.listing.specs.Listings.{plain_events_of, plain_heights_of, clock_text_of}
 use Rattle.listing.proofs.worked.worked_listings.Goals as goal
 

@@ -5,7 +5,7 @@ use Rattle.decimal_text.specs.Writing.{write_of, last_digits}
 use Rattle.zone_time.specs.Dates.{date_text, clock_text, two_digits, date_of, date_from_year, date_from_month}
 use Rattle.zone_time.specs.Locals.{time_text}
 use Rattle.zone_time.specs.Moments.{moment_text}
-use Rattle.listing.specs.Lines.{text_of_unit}
+use Rattle.event_text.specs.Lines.{text_of_unit}
 use Rattle.listing.specs.Records.{csv_events_of, csv_heights_of}
 use Rattle.listing.proofs.worked.worked_records.Goals as goal
 

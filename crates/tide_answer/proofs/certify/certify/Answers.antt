@@ -2,9 +2,9 @@ use Rattle.std.proofs.lemmas.Result.{err_from_is_err_and}
 use Rattle.cert_text.specs.Certificates.{IsStationName}
 use Rattle.tide_answer.specs.Answers.{certified}
 use Rattle.tide_answer.proofs.CertificateLemmas.{tracks_few, certificate_sound, certified_whole}
-use Rattle.tide_answer.proofs.FollowLemmas.{ready_of_found}
-use Rattle.tide_answer.proofs.FoundLemmas.{excused_then}
-use Rattle.tide_answer.proofs.NameLemmas.{site_name}
+use Rattle.station_span.proofs.FollowLemmas.{ready_of_found}
+use Rattle.station_span.proofs.FoundLemmas.{excused_then}
+use Rattle.station_span.proofs.NameLemmas.{site_name}
 use Rattle.tide_answer.proofs.certify.certify.Goals as goal
 
 pub returns-in_err-found-clause-exact : goal.returns-in_err-found-clause-exact

@@ -1,8 +1,8 @@
 use Rattle.std.proofs.Common.{◌++◌, codes, Ok, Err, arith}
 use Rattle.std.proofs.lemmas.Result.{err_from_is_err_and}
-use Rattle.tide_answer.specs.Workings.Curves.{tide_cells}
+use Rattle.station_span.specs.Workings.Curves.{tide_cells}
 use Rattle.tide_answer.specs.Workings.Streaming.{head_text, tide_tracks, tracks_text}
-use Rattle.tide_answer.proofs.SendLemmas.{sends_cut, sends_sum}
+use Rattle.station_cells.proofs.SendLemmas.{sends_cut, sends_sum}
 use Rattle.tide_answer.proofs.StreamLemmas.{certificate_parts, has_cells, mark_in_range}
 use Rattle.tide_answer.proofs.certifying.send_certificate.Goals as goal
 

@@ -1,7 +1,7 @@
 use Rattle.std.proofs.Common.{◌++◌, ◌∙◌, codes, length-append, arith}
 use Rattle.std.proofs.lemmas.Result.{err_from_is_err_and}
 use Rattle.cert_text.specs.Lines.{begin_line_of, end_line_of, mark_line_of, ended}
-use Rattle.tide_answer.proofs.SendLemmas.{sends_cut, sends_then}
+use Rattle.station_cells.proofs.SendLemmas.{sends_cut, sends_then}
 use Rattle.tide_answer.proofs.certifying.send_head.Goals as goal
 
 pub returns-in_err-sent-clause-sends : goal.returns-in_err-sent-clause-sends

@@ -5,11 +5,11 @@ use Rattle.cert_text.specs.Lines.{track_lines_of, lines_if_there, joined}
 use Rattle.curve_law.specs.declared.tracks.Tracks.{Tracks}
 use Rattle.event_list.specs.Events.{cells_in}
 use Rattle.event_list.specs.Merging.{cells_left}
-use Rattle.tide_answer.specs.Workings.Curves.{followed_tide, tide_cells}
-use Rattle.tide_answer.specs.Workings.Sending.{Sends, left_count}
+use Rattle.station_span.specs.Workings.Curves.{followed_tide, tide_cells}
+use Rattle.station_cells.specs.Sending.{Sends, left_count}
 use Rattle.tide_answer.specs.Workings.Streaming.{tide_tracks, tracks_text}
-use Rattle.tide_answer.proofs.FollowLemmas.{counted_cells, ready_minutes, tracks_are}
-use Rattle.tide_answer.proofs.SendLemmas.{sends_cut, ok_below, sends_sum, sends_then}
+use Rattle.station_span.proofs.FollowLemmas.{counted_cells, ready_minutes, tracks_are}
+use Rattle.station_cells.proofs.SendLemmas.{sends_cut, ok_below, sends_sum, sends_then}
 use Rattle.tide_answer.proofs.StreamLemmas.{all_counted, mark_small, searched, slack_small, turn_small}
 use Rattle.tide_answer.proofs.certifying.send_tracks.Goals as goal
 

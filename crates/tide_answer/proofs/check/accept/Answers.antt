@@ -1,4 +1,4 @@
-use Rattle.tide_answer.proofs.FollowLemmas.{tide_lines}
+use Rattle.station_span.proofs.FollowLemmas.{tide_lines}
 use Rattle.tide_answer.proofs.check.accept.Goals as goal
 
 pub plain_events-requires-clause-listed : goal.plain_events-requires-clause-listed

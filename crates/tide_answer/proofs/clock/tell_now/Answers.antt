@@ -1,9 +1,10 @@
-use Rattle.std.proofs.Common.{FitsSigned, w64, rules}
+use Rattle.std.proofs.Common.{FitsSigned, w64, rules, sym}
 use Rattle.std.proofs.lemmas.Int.{to_z-of_z}
 use Rattle.std.proofs.lemmas.Result.{err_from_is_err_and}
-use Rattle.tide_answer.specs.declared.reach.Reach.TheVariants.{Events}
+use Rattle.station_span.specs.declared.reach.Reach.TheVariants.{Events}
 use Rattle.tide_answer.specs.Asking.{asked_from}
-use Rattle.tide_answer.proofs.LevelLemmas.{zone_minute}
+use Rattle.station_span.proofs.FoundLemmas.{excused_by}
+use Rattle.station_span.proofs.LevelLemmas.{zone_minute}
 use Rattle.tide_answer.proofs.LevelSteps.{HasSite, level_now, refused_level, whole_clock}
 use Rattle.tide_answer.proofs.clock.tell_now.Goals as goal
 
@@ -14,7 +15,7 @@ returns-in_err-check_level-clause-exact c =
     let asked = simp to_z-of_z at c.day_from-asked.ensures.exact in
     let site = rw asked at c.in_ok-found.ensures.exact in
     rw (p.1, p.2)
-    (refused_level _ c.args.book.now c.args.table.now c.args.name.now c.args.now c.args.zone.now site.0 c.in_ok-found.found _ site.1 site.2 c.in_err-check_level.ensures.exact)
+    (refused_level _ c.args.book.now c.args.table.now c.args.name.now c.args.now c.args.zone.now site.0 c.in_ok-found.found _ site.1 site.2 (excused_by _ _ _ (sym c.in_err-check_level.ensures.exact)))
 
 pub level_at-level-requires : goal.level_at-level-requires
 level_at-level-requires c =
@@ -46,7 +47,7 @@ returns-clause-exact c =
     let asked = simp to_z-of_z at c.day_from-asked.ensures.exact in
     let site = rw asked at c.in_ok-found.ensures.exact in
     let has : HasSite Events c.args.book.now c.args.table.now c.args.name.now (asked_from c.args.now) site.0 c.in_ok-found.found =
-    record { expected = site.1; is = site.2; level = c.in_ok-check_level.ensures.exact } in
+    record { expected = site.1; is = site.2; level = sym c.in_ok-check_level.ensures.exact } in
     let tide = rw asked at c.in_ok-listed.ensures in
     let near = rw asked at c.day_from-asked.ensures.near in
     let shown : FitsSigned w64 c.level_at-level.result = search rules in

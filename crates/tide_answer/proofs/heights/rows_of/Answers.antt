@@ -1,6 +1,6 @@
 use Rattle.std.proofs.Common.{FitsSigned, w64, rules}
 use Rattle.std.proofs.lemmas.Int.{to_z-of_z}
-use Rattle.tide_answer.proofs.LevelLemmas.{row_level, row_added}
+use Rattle.tide_answer.proofs.RowLemmas.{row_level, row_added}
 use Rattle.tide_answer.proofs.heights.rows_of.Goals as goal
 
 pub row_at-requires-clause-level : goal.row_at-requires-clause-level

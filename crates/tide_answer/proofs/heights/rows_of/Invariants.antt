@@ -1,4 +1,4 @@
-use Rattle.tide_answer.specs.Workings.Levels.{AreRows}
+use Rattle.tide_answer.specs.Workings.Rows.{AreRows}
 use Rattle.tide_answer.proofs.heights.rows_of.Given as goal
 
 abbrev pub invariant-loop-place : goal.invariant-loop-place

@@ -1,22 +1,22 @@
 use Rattle.rate_bound.specs.declared.mark.MarkCurve.{MarkCurve}
 use Rattle.rate_bound.specs.Meanings.{mark_meaning}
-use Rattle.tide_answer.proofs.FollowLemmas.{ready_minutes}
-use Rattle.tide_answer.proofs.TellLemmas.{tells_turn, tells_slack, tells_mark}
+use Rattle.station_span.proofs.FollowLemmas.{ready_minutes}
+use Rattle.station_span.proofs.TellLemmas.{tells_turn, tells_slack, tells_mark}
 use Rattle.tide_answer.proofs.judging.find_rejection.Goals as goal
 
-pub track_fault-requires-clause-tells : goal.track_fault-requires-clause-tells
-track_fault-requires-clause-tells c =
-    rw c.reached-span.ensures.exact (tells_turn _ c.args.asked.now c.args.found.now _ _ c.requires.ready c.turn_curve.ensures.meaning c.turn_curve.ensures.fresh)
+pub rejection_over-requires-clause-turn : goal.rejection_over-requires-clause-turn
+rejection_over-requires-clause-turn c =
+    rw c.reached-span.ensures.exact (tells_turn _ c.args.asked.now c.args.found.now _ _ c.requires.ready c.turn_curve-turn.ensures.meaning c.turn_curve-turn.ensures.fresh)
 
-pub fault_if_followed-requires-clause-tells : goal.fault_if_followed-requires-clause-tells
-fault_if_followed-requires-clause-tells c =
+pub rejection_over-requires-clause-slack : goal.rejection_over-requires-clause-slack
+rejection_over-requires-clause-slack c =
     rw c.reached-span.ensures.exact
     (tells_slack c.version_of-version.result c.args.found.now _
     (λ (x : MarkCurve). mark_meaning x.version x.station.now x.times x.plus x.mark x.slack) (λ (x : MarkCurve). x.evaluations)
     c.slack_curve-slack.result (ready_minutes c.args.asked.now c.args.found.now c.requires.ready) c.slack_curve-slack.ensures.meaning c.slack_curve-slack.ensures.fresh)
 
-pub fault_if_followed-requires-2-clause-tells : goal.fault_if_followed-requires-2-clause-tells
-fault_if_followed-requires-2-clause-tells c =
+pub rejection_over-requires-clause-mark : goal.rejection_over-requires-clause-mark
+rejection_over-requires-clause-mark c =
     rw c.reached-span.ensures.exact
     (tells_mark c.version_of-version.result c.args.found.now c.args.asked.now.mark _
     (λ (x : MarkCurve). mark_meaning x.version x.station.now x.times x.plus x.mark x.slack) (λ (x : MarkCurve). x.evaluations)

@@ -1,8 +1,8 @@
 use Rattle.std.proofs.Common.{◌∙◌, refl, sym}
 use Rattle.std.proofs.lemmas.Result.{err_from_is_err_and}
-use Rattle.tide_answer.proofs.FollowLemmas.{ready_of_found}
-use Rattle.tide_answer.proofs.FoundLemmas.{excused_by}
-use Rattle.tide_answer.proofs.NameLemmas.{site_name}
+use Rattle.station_span.proofs.FollowLemmas.{ready_of_found}
+use Rattle.station_span.proofs.FoundLemmas.{excused_by}
+use Rattle.station_span.proofs.NameLemmas.{site_name}
 use Rattle.tide_answer.proofs.ReadyLemmas.{plain_if, ready_none, ready_some, refused_site, refused_span, refused_station, zone_none, zone_some}
 use Rattle.tide_answer.proofs.ready.prepare.Goals as goal
 

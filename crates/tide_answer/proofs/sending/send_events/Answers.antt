@@ -2,9 +2,9 @@ use Rattle.std.proofs.Common.{◌≡◌, suc, [], ◌++◌, length, Ok, Err, ref
 use Rattle.std.specs.List.{flat_map}
 use Rattle.std.proofs.lemmas.List.Elements.{All-head, All-tail}
 use Rattle.std.proofs.lemmas.Result.{err_from_is_err_and}
-use Rattle.listing.specs.Listings.{IsListed, event_line_in}
-use Rattle.tide_answer.specs.Workings.Sending.{gone_for, held_after}
-use Rattle.tide_answer.proofs.SendLemmas.{page_done, page_length, page_step, sends_cut, sends_then, sends_none}
+use Rattle.event_text.specs.Lines.{IsListed, event_line_in}
+use Rattle.station_cells.specs.Sending.{gone_for, held_after}
+use Rattle.station_cells.proofs.SendLemmas.{page_done, page_length, page_step, sends_cut, sends_then, sends_none}
 use Rattle.tide_answer.proofs.sending.send_events.Goals as goal
 
 pub loop-event-init : goal.loop-event-init

@@ -1,7 +1,7 @@
 use Rattle.std.proofs.Common.{◌≡◌, ℕ, ◌+◌, ◌*◌, ◌<◌, ◌^◌, List, ◌++◌, length, All, Ok}
 use Rattle.std.specs.List.{flat_map}
-use Rattle.listing.specs.Listings.{IsListed, event_line_in}
-use Rattle.tide_answer.specs.Workings.Sending.{Sends}
+use Rattle.event_text.specs.Lines.{IsListed, event_line_in}
+use Rattle.station_cells.specs.Sending.{Sends}
 use Rattle.tide_answer.proofs.sending.send_events.Given as goal
 
 abbrev pub invariant-loop-event : goal.invariant-loop-event

@@ -1,8 +1,9 @@
 use Rattle.std.proofs.Common.{◌++◌, ◌∷◌, [], length-append, arith}
 use Rattle.std.specs.List.{flat_map}
 use Rattle.std.proofs.lemmas.Result.{err_from_is_err_and}
-use Rattle.listing.specs.Listings.{event_line_in, plain_events_of}
-use Rattle.tide_answer.proofs.SendLemmas.{sends_cut, sends_then}
+use Rattle.event_text.specs.Lines.{event_line_in}
+use Rattle.listing.specs.Listings.{plain_events_of}
+use Rattle.station_cells.proofs.SendLemmas.{sends_cut, sends_then}
 use Rattle.tide_answer.proofs.sending.send_listing.Goals as goal
 
 pub returns-in_err-sent-clause-sends : goal.returns-in_err-sent-clause-sends

@@ -1,6 +1,6 @@
 use Rattle.std.proofs.Common.{arith}
 use Rattle.std.proofs.lemmas.Result.{err_from_is_err_and}
-use Rattle.tide_answer.proofs.SendLemmas.{from_first}
+use Rattle.station_cells.proofs.SendLemmas.{from_first}
 use Rattle.tide_answer.proofs.streaming.write_certificate.Goals as goal
 
 pub returns-in_err-sent-clause-streams : goal.returns-in_err-sent-clause-streams

@@ -1,7 +1,7 @@
 use Rattle.std.proofs.Common.{◌∙◌}
 use Rattle.std.proofs.lemmas.Result.{err_from_is_err_and}
-use Rattle.tide_answer.proofs.FollowLemmas.{plain_is_whole, tide_lines}
-use Rattle.tide_answer.proofs.SendLemmas.{from_first}
+use Rattle.station_span.proofs.FollowLemmas.{plain_is_whole, tide_lines}
+use Rattle.station_cells.proofs.SendLemmas.{from_first}
 use Rattle.tide_answer.proofs.StreamLemmas.{events_small}
 use Rattle.tide_answer.proofs.streaming.write_listing.Goals as goal
 

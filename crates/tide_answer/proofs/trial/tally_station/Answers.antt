@@ -1,6 +1,6 @@
 use Rattle.tide_answer.specs.Trials.{trial_span}
 use Rattle.tide_answer.proofs.CertificateLemmas.{tracks_few}
-use Rattle.tide_answer.proofs.FollowLemmas.{ready_of_found}
+use Rattle.station_span.proofs.FollowLemmas.{ready_of_found}
 use Rattle.tide_answer.proofs.TrialLemmas.{station_whole, trial_near, tracks_have_few}
 use Rattle.tide_answer.proofs.trial.tally_station.Goals as goal
 

@@ -1,6 +1,6 @@
 use Rattle.std.proofs.Common.{None, ap, refl, rules, ◌∙◌}
 use Rattle.std.specs.Bool.{IsTrue}
-use Rattle.tide_answer.specs.declared.slot.Slot.TheVariants.{Zone}
+use Rattle.tide_fault.specs.declared.slot.Slot.TheVariants.{Zone}
 use Rattle.tide_desk.specs.Readings.{bytes_of, zone_file, zone_named}
 use Rattle.tide_desk.proofs.ReadingLemmas.{meets_at, meets_inside, stops_at}
 use Rattle.tide_desk.proofs.reading.read_zone_named.Goals as goal

@@ -1,15 +1,16 @@
-use Rattle.std.proofs.Common.{◌≡◌, ◌≤◌, ◌+◌, ◌-◌, ◌++◌, vec_len}
+use Rattle.std.proofs.Common.{◌≡◌, ◌≤◌, ◌+◌, ◌-◌, ◌++◌, IsTrue, vec_len}
 use Rattle.tide_edge.proofs.reading.read_rest.Given as goal
 
 abbrev pub invariant-loop-bytes : goal.invariant-loop-bytes
 invariant-loop-bytes g l = record {
   within : vec_len l.bytes ≤ l.limit;
-  read : g.F.Files.tells l.initial.files → g.F.Files.rest l.initial.files ≡ l.bytes.items ++ g.F.Files.rest l.files;
-  tells : g.F.Files.tells l.initial.files → g.F.Files.tells l.files;
-  folder : g.F.Files.folder l.files ≡ g.F.Files.folder l.initial.files;
-  steady : g.F.Files.steady l.files ≡ g.F.Files.steady l.initial.files;
-  unfailed : g.F.Files.faults l.files ≡ g.F.Files.faults l.initial.files;
-  unopened : g.F.Files.opens l.files ≡ g.F.Files.opens l.initial.files;
+  store : (g.F.Files.state l.files).store ≡ (g.F.Files.state l.initial.files).store;
+  read : IsTrue (g.F.Files.state l.initial.files).store.tells
+      → (g.F.Files.state l.initial.files).rest ≡ l.bytes.items ++ (g.F.Files.state l.files).rest;
+  opens : (g.F.Files.state l.files).reads.opens ≡ (g.F.Files.state l.initial.files).reads.opens;
+  ends : (g.F.Files.state l.files).reads.ends ≡ (g.F.Files.state l.initial.files).reads.ends;
+  bytes : (g.F.Files.state l.files).reads.bytes ≤ (g.F.Files.state l.initial.files).reads.bytes + vec_len l.bytes;
+  faults : (g.F.Files.state l.files).faults ≡ (g.F.Files.state l.initial.files).faults;
 }
 
 abbrev pub decreases-loop-bytes : goal.decreases-loop-bytes

@@ -6,7 +6,7 @@ use Rattle.std.specs.Str.Lossy.{utf8_error_len, utf8_lossy, utf8_valid_len}
 use Rattle.form_urlencoded.proofs.OnLiterals.{form_urlencoded_on_literals}
 use Rattle.question.specs.Forms.{zone_of}
 use Rattle.question.specs.Questions.{question_of, with_item, with_items}
-use Rattle.tide_answer.specs.Faults.{ask_line, line_of}
+use Rattle.tide_fault.specs.Faults.{ask_line, line_of}
 use Rattle.tide_server.specs.Queries.{said_by}
 use Rattle.tide_server.specs.Replies.{asking_reply, question_reply}
 use Rattle.tide_server.specs.Responses.{status_of}

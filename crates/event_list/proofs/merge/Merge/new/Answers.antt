@@ -10,9 +10,9 @@ invariant_of-result g c =
       turn = rw c.new.ensures.left (ahead-ascending (Some c.args.turn));
       slack = rw c.new-2.ensures.left (ahead-ascending c.args.slack);
       mark = rw c.new-3.ensures.left (ahead-ascending c.args.mark);
-      turn_given = omega arith;
-      slack_given = omega arith;
-      mark_given = omega arith;
+      turn_counted = rw (c.new.ensures.waiting, c.new.ensures.cells, c.new.ensures.all) (omega arith);
+      slack_counted = rw (c.new-2.ensures.waiting, c.new-2.ensures.cells, c.new-2.ensures.all) (omega arith);
+      mark_counted = rw (c.new-3.ensures.waiting, c.new-3.ensures.cells, c.new-3.ensures.all) (omega arith);
       few = omega arith;
     }
 

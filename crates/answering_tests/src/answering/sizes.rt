@@ -1,0 +1,161 @@
+//! Answers of the sizes that users have: a year, ten constituents, a name of 400 bytes.
+
+ghost use Rattle.std.specs.Prelude.{IfOk};
+ghost use Rattle.harmonics_text.specs.Books.{IsBook};
+ghost use Rattle.tide_answer.specs.Givens.{IsGiven};
+
+use super::asked;
+use decimal_text::Bytes;
+use harmonics_text::{Book, BookFault, read_book};
+use question::Command;
+use station_table::OffsetTable;
+use std::alloc::{AllocError, Global};
+use std::test::Fail;
+use tide_answer::{Given, answer, answer_into, prepare};
+use tide_edge::MemorySink;
+use zone_time::Zone;
+
+// A harbour of ten constituents in the year 2000.
+const FILE: &[u8] =
+    b"10\nM2 28.9841042\nS2 30.0000000\nN2 28.4397295\nK1 15.0410686\nO1 13.9430356\n\
+    Q1 13.3986609\nP1 14.9589314\nK2 30.0821373\nM4 57.9682084\nMS4 58.9841042\n2000\n1\n\
+    M2\n0\nS2\n0\nN2\n0\nK1\n0\nO1\n0\nQ1\n0\nP1\n0\nK2\n0\nM4\n0\nMS4\n0\n*END*\n1\n\
+    M2\n1\nS2\n1\nN2\n1\nK1\n1\nO1\n1\nQ1\n1\nP1\n1\nK2\n1\nM4\n1\nMS4\n1\n*END*\n\
+    \xe9\xe9\xe9\xe9\xe9\xe9\xe9\xe9\xe9\xe9\xe9\xe9\xe9\xe9\xe9\xe9\xe9\xe9\xe9\xe9\
+    \xe9\xe9\xe9\xe9\xe9\xe9\xe9\xe9\xe9\xe9\xe9\xe9\xe9\xe9\xe9\xe9\xe9\xe9\xe9\xe9\
+    \xe9\xe9\xe9\xe9\xe9\xe9\xe9\xe9\xe9\xe9\xe9\xe9\xe9\xe9\xe9\xe9\xe9\xe9\xe9\xe9\
+    \xe9\xe9\xe9\xe9\xe9\xe9\xe9\xe9\xe9\xe9\xe9\xe9\xe9\xe9\xe9\xe9\xe9\xe9\xe9\xe9\
+    \xe9\xe9\xe9\xe9\xe9\xe9\xe9\xe9\xe9\xe9\xe9\xe9\xe9\xe9\xe9\xe9\xe9\xe9\xe9\xe9\
+    \xe9\xe9\xe9\xe9\xe9\xe9\xe9\xe9\xe9\xe9\xe9\xe9\xe9\xe9\xe9\xe9\xe9\xe9\xe9\xe9\
+    \xe9\xe9\xe9\xe9\xe9\xe9\xe9\xe9\xe9\xe9\xe9\xe9\xe9\xe9\xe9\xe9\xe9\xe9\xe9\xe9\
+    \xe9\xe9\xe9\xe9\xe9\xe9\xe9\xe9\xe9\xe9\xe9\xe9\xe9\xe9\xe9\xe9\xe9\xe9\xe9\xe9\
+    \xe9\xe9\xe9\xe9\xe9\xe9\xe9\xe9\xe9\xe9\xe9\xe9\xe9\xe9\xe9\xe9\xe9\xe9\xe9\xe9\
+    \xe9\xe9\xe9\xe9\xe9\xe9\xe9\xe9\xe9\xe9\xe9\xe9\xe9\xe9\xe9\xe9\xe9\xe9\xe9\xe9\
+    \n0:00 :UTC\n5 feet\n\
+    M2 3.1 120.5\nS2 0.9 140\nN2 0.7 100.2\nK1 1.2 200\nO1 0.8 180.4\n\
+    Q1 0.15 170\nP1 0.35 198\nK2 0.25 139\nM4 0.12 10\nMS4 0.05 20\n";
+
+// Its name, of 200 letters in the file and of 400 bytes in an answer.
+const NAME: &str = "éééééééééééééééééééééééééééééééééééééééé\
+    éééééééééééééééééééééééééééééééééééééééé\
+    éééééééééééééééééééééééééééééééééééééééé\
+    éééééééééééééééééééééééééééééééééééééééé\
+    éééééééééééééééééééééééééééééééééééééééé";
+
+fn harbour(alloc: Global) -> Result<Book, BookFault>
+    ensures { IfOk result IsBook }
+{
+    read_book(alloc, FILE)
+}
+
+// Universal time, a certificate's text, and three o'clock on 2000-01-10.
+fn given(alloc: Global, certificate: &[u8]) -> Result<Given, AllocError>
+    ensures { IfOk result IsGiven }
+{
+    if certificate.len() > 400_000_000 {
+        return Err(AllocError);
+    }
+    Ok(Given {
+        zone: Zone::Utc,
+        certificate: Bytes::from_vec(Vec::from_slice(alloc, certificate)?),
+        now: 15_791_220,
+    })
+}
+
+// A command's line about the year, with more words.
+fn line_of(alloc: Global, command: &str, more: &str) -> Result<String, AllocError> {
+    let mut line = String::from_str(alloc, command)?;
+    line.push_str("|file=f|station=")?;
+    line.push_str(NAME)?;
+    line.push_str(more)?;
+    Ok(line)
+}
+
+// The answer's text.
+fn answered(alloc: Global, line: &str, certificate: &[u8]) -> Result<Bytes, Fail> {
+    let book = harbour(alloc)?;
+    let table = OffsetTable::new(alloc);
+    let question = asked(alloc, line)?;
+    let given = given(alloc, certificate)?;
+    match answer(alloc, &book, &table, &question, &given) {
+        Ok(answer) => Ok(answer.text),
+        Err(_) => Err(Fail::from(AllocError)),
+    }
+}
+
+// The text that is written as it is found.
+fn streamed(alloc: Global, line: &str) -> Result<MemorySink, Fail> {
+    let book = harbour(alloc)?;
+    let table = OffsetTable::new(alloc);
+    let question = asked(alloc, line)?;
+    let given = given(alloc, b"")?;
+    if !matches!(question.command, Command::Predict | Command::Certify) {
+        return Err(Fail::from(AllocError));
+    }
+    let Ok(ready) = prepare(alloc, &book, &table, &question, &given) else {
+        return Err(Fail::from(AllocError));
+    };
+    let mut sink = MemorySink::new(alloc, 65_536, 4_000_000, Vec::new(alloc))?;
+    if ready.streams() {
+        let _written = answer_into(&ready, &mut sink);
+    }
+    Ok(sink)
+}
+
+const YEAR: &str = "|begin=2000-01-01T00:00Z|end=2001-01-01T00:00Z";
+
+// Commands, and the lines of their answers.
+const LINES: &[(&str, &str, usize)] = &[
+    ("heights", "", 8786),
+    ("heights", "|layout=csv", 8786),
+    ("calendar", "", 367),
+];
+
+#[test]
+fn a_year_of_ten_constituents_is_answered(rt: HostRuntime) -> Result<(), Fail> {
+    let alloc = rt.alloc();
+    for &(command, more, lines) in LINES {
+        let mut line = line_of(alloc, command, YEAR)?;
+        line.push_str(more)?;
+        let text = answered(alloc, line.as_str(), b"")?;
+        assert_eq!(rt;
+            text.as_slice().iter().filter(|b| **b == b'\n').count(),
+            lines
+        );
+    }
+    let clock = line_of(alloc, "clock", "")?;
+    assert!(rt; !answered(alloc, clock.as_str(), b"")?.as_slice().is_empty());
+    Ok(())
+}
+
+// A year is predicted, certified and checked, at once and as it is found.
+#[test]
+fn a_year_of_ten_constituents_is_certified(rt: HostRuntime) -> Result<(), Fail> {
+    let alloc = rt.alloc();
+    let predict = line_of(
+        alloc,
+        "predict",
+        "|mark=6|begin=2000-01-01T00:00Z|end=2001-01-01T00:00Z",
+    )?;
+    let certify = line_of(
+        alloc,
+        "certify",
+        "|mark=6|begin=2000-01-01T00:00Z|end=2001-01-01T00:00Z",
+    )?;
+    let listing = answered(alloc, predict.as_str(), b"")?;
+    let certificate = answered(alloc, certify.as_str(), b"")?;
+    let accepted = answered(alloc, "check|file=f|certificate=c", certificate.as_slice())?;
+    assert!(rt; listing.as_slice().len() > 100_000);
+    assert!(rt; accepted.as_slice().starts_with(b"Accepted\n"));
+    assert!(rt; accepted.as_slice().ends_with(listing.as_slice()));
+    assert_eq!(rt; accepted.as_slice().len(), listing.as_slice().len() + 9);
+    assert_eq!(rt;
+        streamed(alloc, predict.as_str())?.bytes(),
+        listing.as_slice()
+    );
+    assert_eq!(rt;
+        streamed(alloc, certify.as_str())?.bytes(),
+        certificate.as_slice()
+    );
+    Ok(())
+}

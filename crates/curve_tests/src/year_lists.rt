@@ -1,0 +1,90 @@
+//! A year of events and of levels, listed below a long name.
+
+ghost use Rattle.std.specs.Prelude.{All, IfOk};
+ghost use Rattle.event_text.specs.Lines.{IsListed};
+ghost use Rattle.zone_time.specs.Zones.{InZoneYears};
+
+use crate::lists::{events_of, rows_of};
+use calendar_sheet::calendar_text;
+use curve_law::{Events, Kind};
+use decimal_text::Text;
+use harmonics_text::Units;
+use listing::{Rows, clock_text, csv_events, csv_heights, plain_events, plain_heights};
+use std::alloc::{AllocError, Global};
+use std::test::Fail;
+use zone_time::Zone;
+
+// From 2000-01-01T00:00Z to 2001-01-01T00:00Z.
+const BEGIN: i64 = 15_778_080;
+
+const END: i64 = 16_305_120;
+
+// 400 bytes.
+const NAME: &str =
+    "0123456789abcdefghijklmnopqrstuvwxyz0123456789abcdefghijklmnopqrstuvwxyz01234567\
+    0123456789abcdefghijklmnopqrstuvwxyz0123456789abcdefghijklmnopqrstuvwxyz01234567\
+    0123456789abcdefghijklmnopqrstuvwxyz0123456789abcdefghijklmnopqrstuvwxyz01234567\
+    0123456789abcdefghijklmnopqrstuvwxyz0123456789abcdefghijklmnopqrstuvwxyz01234567\
+    0123456789abcdefghijklmnopqrstuvwxyz0123456789abcdefghijklmnopqrstuvwxyz01234567";
+
+// A low and a high water after the other, 1,412 of them, one foot below and above 0.
+fn events_of_year(alloc: Global) -> Result<Events, AllocError>
+    ensures { IfOk result (All (IsListed Units.Feet)) }
+{
+    let mut items = Vec::new(alloc);
+    for place in 0..1412_u16 {
+        let minute = BEGIN + i64::from(place) * 373;
+        if place % 2 == 0 {
+            items.push((minute, Kind::Low, -1_000_000))?;
+        } else {
+            items.push((minute, Kind::High, 1_000_000))?;
+        }
+    }
+    events_of(alloc, Units::Feet, items.as_slice())
+}
+
+// The same levels from hour to hour, 8,784 of them.
+fn rows_of_year(alloc: Global) -> Result<Rows, AllocError>
+    ensures { IfOk result (All (λ row. InZoneYears row.minute)) }
+{
+    let mut items = Vec::new(alloc);
+    for place in 0..8784_u16 {
+        let level = if place % 2 == 0 {
+            -1_000_000
+        } else {
+            1_000_000
+        };
+        items.push((BEGIN + i64::from(place) * 60, level))?;
+    }
+    rows_of(alloc, items.as_slice())
+}
+
+#[test]
+fn years_are_listed_below_a_long_name(rt: HostRuntime) -> Result<(), Fail> {
+    let alloc = rt.alloc();
+    let name = Text::from_str(alloc, NAME)?;
+    let events = events_of_year(alloc)?;
+    let rows = rows_of_year(alloc)?;
+    let plain = plain_events(alloc, &name, Units::Feet, &events, &Zone::Utc)?;
+    assert_eq!(rt; plain.as_slice().len(), 67_471);
+    let csv = csv_events(alloc, &name, Units::Feet, &events, &Zone::Utc)?;
+    assert_eq!(rt; csv.as_slice().len(), 649_559);
+    let heights = plain_heights(alloc, &name, Units::Feet, &rows, &Zone::Utc)?;
+    assert_eq!(rt; heights.as_slice().len(), 325_409);
+    let records = csv_heights(alloc, &name, Units::Feet, &rows, &Zone::Utc)?;
+    assert_eq!(rt; records.as_slice().len(), 3_957_225);
+    let clock = clock_text(
+        alloc,
+        &name,
+        Units::Feet,
+        BEGIN,
+        0,
+        false,
+        &events,
+        &Zone::Utc,
+    )?;
+    assert_eq!(rt; clock.as_slice().len(), 67_521);
+    let calendar = calendar_text(alloc, &name, Units::Feet, &events, &Zone::Utc, BEGIN, END)?;
+    assert_eq!(rt; calendar.as_slice().len(), 35_491);
+    Ok(())
+}

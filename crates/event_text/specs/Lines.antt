@@ -1,0 +1,46 @@
+-- The lines of events and levels (the layout of XTide's plain listings; this project).
+use Rattle.std.specs.Prelude.{ℕ, ◌-◌, ℤ, IsTrue, List, ◌++◌, length, replicate, codes}
+use Rattle.harmonics_text.specs.declared.book.Units.{Units}
+use Rattle.harmonics_text.specs.declared.book.Units.TheVariants.{Feet, Meters, Knots, KnotsSquared}
+use Rattle.curve_law.specs.declared.event.Event.{Event}
+use Rattle.event_text.specs.Words.{has_word, word_of, word_text}
+use Rattle.zone_time.specs.declared.local.Local.{Local}
+use Rattle.zone_time.specs.declared.zone.Zone.{Zone}
+use Rattle.zone_time.specs.Locals.{local_text}
+use Rattle.zone_time.specs.Zones.{InZoneYears, local_in}
+use Rattle.decimal_text.specs.Rounding.{rounded_of}
+use Rattle.decimal_text.specs.Writing.{write_of}
+
+unfoldable pub text_of_unit : Units → List ℕ
+text_of_unit Feet = codes "feet"
+text_of_unit Meters = codes "meters"
+text_of_unit Knots = codes "knots"
+text_of_unit KnotsSquared = codes "knots^2"
+
+-- a level, given in millionths, in hundredths of its unit: it is rounded first, so what rounds to 0 has no sign
+abbrev pub level_text : ℤ → List ℕ
+level_text level = write_of (rounded_of level 10000) 2
+
+-- a text right in that many places, or whole where it is longer
+unfoldable pub padded : ℕ → List ℕ → List ℕ
+padded places text = replicate (places - length text) 32 ++ text
+
+-- a local time, the level there and its unit
+unfoldable pub height_line_of : Local → ℤ → Units → List ℕ
+height_line_of local level units =
+    local_text local ++ codes "  " ++ padded 9 (level_text level) ++ codes " " ++ text_of_unit units
+
+-- the same of an event, and its name
+unfoldable pub event_line_of : Local → Event → Units → List ℕ
+event_line_of local event units =
+    height_line_of local event.level units ++ codes "  "
+    ++ word_text (word_of units event.kind event.level) ++ codes "\n"
+
+-- an event that has a line by the clock of each zone
+pub record IsListed (units : Units) (event : Event) : Type 0 where
+  pub minute : InZoneYears event.minute
+  pub named : IsTrue (has_word units event.kind)
+
+-- an event's line by the clock of a zone
+abbrev pub event_line_in : Zone → Units → Event → List ℕ
+event_line_in zone units event = event_line_of (local_in zone event.minute) event units

@@ -1,0 +1,40 @@
+//! The names of events.
+
+/// The name of an event in tide tables.
+#[derive(Clone, Copy, Debug, PartialEq, Eq)]
+pub enum EventWord {
+    HighTide,
+    LowTide,
+    MaxFlood,
+    MinFlood,
+    MaxEbb,
+    MinEbb,
+    SlackFloodBegins,
+    SlackEbbBegins,
+    MarkRising,
+    MarkFalling,
+}
+
+impl EventWord {
+    ghost use Rattle.std.specs.Prelude.{◌≡◌, ◌≤◌, length};
+    ghost use Rattle.event_text.specs.Words.{word_text};
+
+    /// The name as it is printed, in ASCII and at most 18 bytes.
+    pub fn text(self) -> &'static str
+        ensures text { result.now ≡ word_text self }
+        ensures short { length result.now ≤ 18 }
+    {
+        match self {
+            EventWord::HighTide => "High Tide",
+            EventWord::LowTide => "Low Tide",
+            EventWord::MaxFlood => "Max Flood",
+            EventWord::MinFlood => "Min Flood",
+            EventWord::MaxEbb => "Max Ebb",
+            EventWord::MinEbb => "Min Ebb",
+            EventWord::SlackFloodBegins => "Slack Flood Begins",
+            EventWord::SlackEbbBegins => "Slack Ebb Begins",
+            EventWord::MarkRising => "Mark Rising",
+            EventWord::MarkFalling => "Mark Falling",
+        }
+    }
+}

@@ -1,0 +1,56 @@
+//! Levels as text.
+
+ghost use Rattle.std.specs.Prelude.{◌≡◌, ◌+◌, ◌≤◌, [], ◌++◌, length, replicate};
+ghost use Rattle.arrayvec.specs.ArrayString.{array_string_len};
+ghost use Rattle.decimal_text.specs.Rounding.{rounded_of};
+ghost use Rattle.event_text.specs.Lines.{level_text, padded};
+
+use arrayvec::ArrayString;
+use decimal_text::{rounded, write};
+
+/// Writes a level, given in millionths, in hundredths, as `-1.00`. It takes no memory.
+pub fn write_level(level: i64, out: &mut ArrayString<24>)
+    requires { out.old.bytes ≡ [] }
+    ensures { out.new.bytes ≡ level_text level }
+{
+    write(hundredths(level), 2, out);
+}
+
+/// Appends the same right in 9 places.
+pub(crate) fn push_level(level: i64, out: &mut ArrayString<96>)
+    requires { array_string_len out.old + 24 ≤ 96 }
+    ensures bytes { out.new.bytes ≡ out.old.bytes ++ padded 9 (level_text level) }
+    ensures short { array_string_len out.new ≤ array_string_len out.old + 24 }
+{
+    let mut text = ArrayString::new();
+    write_level(level, &mut text);
+    push_right(text.as_str(), out);
+}
+
+#[tactic(auto, unfolding(crate::specs::Lines::padded))]
+fn push_right(text: &str, out: &mut ArrayString<96>)
+    requires short { length text.now ≤ 24 }
+    requires room { array_string_len out.old + 24 ≤ 96 }
+    ensures bytes { out.new.bytes ≡ out.old.bytes ++ padded 9 text.now }
+    ensures short { array_string_len out.new ≤ array_string_len out.old + 24 }
+{
+    push_spaces(9usize.saturating_sub(text.len()), out);
+    out.push_str(text);
+}
+
+fn push_spaces(count: usize, out: &mut ArrayString<96>)
+    requires { array_string_len out.old + count ≤ 96 }
+    ensures bytes { out.new.bytes ≡ out.old.bytes ++ replicate count 32 }
+    ensures len { array_string_len out.new ≡ array_string_len out.old + count }
+{
+    for _place in 0..count {
+        out.push(' ');
+    }
+}
+
+// The hundredths nearest to a number of millionths, where a half goes away from 0.
+fn hundredths(level: i64) -> i64
+    ensures { result ≡ rounded_of level 10000 }
+{
+    rounded(level as i128, 10000) as i64
+}

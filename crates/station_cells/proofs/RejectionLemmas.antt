@@ -1,0 +1,125 @@
+-- What follows where nothing is wrong with tracks, and what curves that agree find on them.
+use Rattle.std.proofs.Common.{◌≡◌, ℕ, ◌+◌, ◌^◌, ◌<◌, ◌≤◌, ◌==◌, ℤ, pos, Bool, true, false, List, [], ◌∷◌, ◌++◌, map, length, length-append, Option, Some, None, is_some, option_map, Result, Ok, Err, All, refl, sym, ap, ◌∙◌, arith}
+use Rattle.std.specs.Prelude.{unsigned_abs, IfOk, IfSome, flat_map, option_to_list}
+use Rattle.std.specs.Option.{ForSome, option_or}
+use Rattle.std.proofs.lemmas.Bool.Decides.{Decides-eqb}
+use Rattle.std.proofs.lemmas.Int.{ints}
+use Rattle.std.proofs.lemmas.List.{length-map}
+use Rattle.cert_text.specs.declared.certificate.Certificate.{Certificate}
+use Rattle.cert_text.specs.declared.fault.CertFault.{CertFault}
+use Rattle.cert_text.specs.declared.fault.CertFault.TheVariants.{NoMemory, NotACertificate}
+use Rattle.cert_text.specs.declared.track_name.TrackName.{TrackName}
+use Rattle.cert_text.specs.declared.track_name.TrackName.TheVariants.{Turn, Slack, Mark}
+use Rattle.cert_text.specs.Certificates.{IsCertificate, IsMark}
+use Rattle.cert_text.specs.Lines.{cell_line_of, last_line, head_lines_of, track_lines_of, lines_if_there, lines_of, ended, joined, certificate_text}
+use Rattle.cert_text.specs.Readings.{certificate_of, wants_memory}
+use Rattle.curve_law.specs.declared.cell.Cell.{Cell}
+use Rattle.curve_law.specs.declared.event.Event.{Event}
+use Rattle.curve_law.specs.declared.tracks.Tracks.{Tracks}
+use Rattle.curve_law.specs.declared.verdict.Verdict.{Verdict}
+use Rattle.curve_law.specs.declared.verdict.Verdict.TheVariants.{Accepted, WrongLength, NotQuiet, WrongStep, WrongLevel}
+use Rattle.curve_law.specs.Cells.{all_minutes}
+use Rattle.curve_law.specs.Meaning.{Meaning}
+use Rattle.curve_law.specs.Track.{plain_list}
+use Rattle.curve_law.specs.Verdicts.{verdict}
+use Rattle.curve_law.proofs.AgreeLemmas.{verdict-agrees}
+use Rattle.event_list.specs.declared.span.Span.{Span}
+use Rattle.event_list.specs.Events.{Followed, IsAccepted, AreAccepted, AgreeIfFollowed, AllAgree, AreShort, minutes_in, events_over, station_events, merged_of}
+use Rattle.event_list.specs.Order.{ordered}
+use Rattle.event_list.specs.Shifts.{IsMovable, widened_of, moved_within, shifted_of}
+use Rattle.event_list.proofs.EventLemmas.{events_of as events_in, events-parts, shifted-events}
+use Rattle.station_cells.specs.declared.rejection.Rejection.{Rejection}
+use Rattle.station_cells.specs.Rejections.{slack_fault, fault_from, track_fault, rejection_of}
+use Rattle.station_cells.specs.Rejections.{HasFewCells}
+use Rattle.station_cells.proofs.CellLemmas.{accepted_if}
+
+-- ---- nothing is wrong
+
+none_of : (a b : Option Rejection) → option_or a b ≡ None → (a ≡ None) × (b ≡ None)
+none_of None b h = (refl, h)
+none_of (Some x) b h = absurd cc
+
+fault_none : (track : TrackName) (v : Verdict) → fault_from track v ≡ None → v ≡ Accepted
+fault_none track Accepted h = refl
+fault_none track (WrongLength covered wanted) h = absurd cc
+fault_none track (NotQuiet cell) h = absurd cc
+fault_none track (WrongStep cell) h = absurd cc
+fault_none track (WrongLevel cell written computed) h = absurd cc
+
+slack_same : (asked there : Bool) → slack_fault asked there ≡ None → asked ≡ there
+slack_same true true h = refl
+slack_same true false h = absurd cc
+slack_same false true h = absurd cc
+slack_same false false h = refl
+
+if_accepted : (s : Span) (track : TrackName) (curve : Option Meaning) (cells : Option (List Cell)) → is_some curve ≡ is_some cells → track_fault s track curve cells ≡ None → IsAccepted s curve cells
+if_accepted s track None None same none = tt
+if_accepted s track None (Some cells) same none = absurd cc
+if_accepted s track (Some c) None same none = absurd cc
+if_accepted s track (Some c) (Some cells) same none = fault_none track (verdict c s.begin (minutes_in s) cells) none
+
+pub all_accepted : (f : Followed) (s : Span) (t : Tracks) → is_some f.mark ≡ is_some t.mark → rejection_of f s t ≡ None → AreAccepted f s t
+unfolding rejection_of
+all_accepted f s t marked none =
+    let mark = none_of _ _ none in
+    let slack = none_of _ _ mark.0 in
+    let turn = none_of _ _ slack.0 in
+    record {
+      turn = fault_none Turn (verdict f.turn s.begin (minutes_in s) t.turn) turn.1;
+      slack = if_accepted s Slack f.slack t.slack (slack_same _ _ turn.0) slack.1;
+      mark = if_accepted s Mark f.mark t.mark marked mark.1;
+    }
+
+-- ---- accepted tracks are short
+
+verdict_minutes : (c : Meaning) (a : ℤ) (n : ℕ) (cells : List Cell) → verdict c a n cells ≡ Accepted → all_minutes cells ≡ n
+unfolding verdict
+verdict_minutes c a n cells ok = (Decides-eqb (all_minutes cells) n).0 (accepted_if (all_minutes cells == n) _ _ (λ e. cc) ok).0
+
+short_if : (s : Span) (curve : Option Meaning) (cells : Option (List Cell)) → minutes_in s ≤ 6000000 → IsAccepted s curve cells → ForSome cells (λ cells. all_minutes cells ≤ 6000000)
+short_if s None (Some cells) few ok x e = absurd ok
+short_if s (Some c) (Some cells) few ok x e =
+    let same : cells ≡ x = cc in
+    let all = verdict_minutes c s.begin (minutes_in s) cells ok in
+    rw (← same) (omega (arith, all, few))
+short_if s None None few ok x e = absurd cc
+short_if s (Some c) None few ok x e = absurd cc
+
+pub tracks_short : (f : Followed) (s : Span) (t : Tracks) → minutes_in s ≤ 6000000 → AreAccepted f s t → AreShort t
+tracks_short f s t few ok =
+    let all = verdict_minutes f.turn s.begin (minutes_in s) t.turn ok.turn in
+    record {
+      turn = omega (arith, all, few);
+      slack = short_if s f.slack t.slack few ok.slack;
+      mark = short_if s f.mark t.mark few ok.mark;
+    }
+
+-- ---- curves that agree
+
+some_alike : (s : Span) (c d : Option Meaning) → AgreeIfFollowed s c d → is_some c ≡ is_some d
+some_alike s None None agree = refl
+some_alike s None (Some d) agree = absurd agree
+some_alike s (Some c) None agree = absurd agree
+some_alike s (Some c) (Some d) agree = refl
+
+fault_alike : (s : Span) (track : TrackName) (c d : Option Meaning) (cells : Option (List Cell)) → AgreeIfFollowed s c d → track_fault s track c cells ≡ track_fault s track d cells
+fault_alike s track None None cells agree = refl
+fault_alike s track None (Some d) cells agree = absurd agree
+fault_alike s track (Some c) None cells agree = absurd agree
+fault_alike s track (Some c) (Some d) None agree = refl
+fault_alike s track (Some c) (Some d) (Some cells) agree = ap (fault_from track) (verdict-agrees c d s.begin (minutes_in s) cells agree)
+
+pub rejection_alike : (f g : Followed) (s : Span) (t : Tracks) → AllAgree f g s → rejection_of f s t ≡ rejection_of g s t
+unfolding rejection_of
+rejection_alike f g s t agree =
+    let fault : Bool → Option Rejection → Option Rejection → Option Rejection → Option Rejection =
+    λ asks turn slack mark. option_or (option_or (option_or (slack_fault asks (is_some t.slack)) turn) slack) mark in
+    let turn = track_fault s Turn (Some f.turn) (Some t.turn) in
+    let turn' = track_fault s Turn (Some g.turn) (Some t.turn) in
+    let slack = track_fault s Slack f.slack t.slack in
+    let slack' = track_fault s Slack g.slack t.slack in
+    let mark = track_fault s Mark f.mark t.mark in
+    ap (λ asks. fault asks turn slack mark) (some_alike s f.slack g.slack agree.slack)
+    ∙ ap (λ x. fault (is_some g.slack) x slack mark) (fault_alike s Turn (Some f.turn) (Some g.turn) (Some t.turn) agree.turn)
+    ∙ ap (λ x. fault (is_some g.slack) turn' x mark) (fault_alike s Slack f.slack g.slack t.slack agree.slack)
+    ∙ ap (λ x. fault (is_some g.slack) turn' slack' x) (fault_alike s Mark f.mark g.mark t.mark agree.mark)

@@ -1,0 +1,109 @@
+use Rattle.std.proofs.Common.{◌≡◌, ◌+◌, ◌*◌, suc, List, [], ◌++◌, length, map, Ok, Err, refl, ap, ◌∙◌, arith}
+use Rattle.std.proofs.lemmas.List.Elements.{All-head, All-tail}
+use Rattle.std.proofs.lemmas.Result.{err_from_is_err_and}
+use Rattle.cert_text.specs.Certificates.{IsCell}
+use Rattle.cert_text.specs.Lines.{cell_line_of, ended, joined}
+use Rattle.curve_law.specs.declared.cell.Cell.{Cell}
+use Rattle.station_cells.specs.Sending.{gone_for, held_after}
+use Rattle.station_cells.proofs.SendLemmas.{page_done, page_length, page_step, sent_below, sends_cut, sends_sum, sends_then, sends_none}
+use Rattle.station_cells.proofs.certifying.send_cells.Goals as goal
+
+pub loop-found-init : goal.loop-found-init
+loop-found-init g c =
+    let empty = c.new-page.ensures in
+    let none : length c.new-page.result.text.bytes ≡ 0 = ap length empty in
+    record {
+      sends = ([], 0, rw empty refl, omega arith, sends_none (g.S.Sink.tells c.args.out.now) (g.S.Sink.taken c.args.out.now) c.args.sent);
+      tells = λ t. t;
+      unfailed = refl;
+      few = omega (arith, none);
+      cells = c.requires.cells;
+    }
+
+pub put_cell-requires-clause-cell : goal.put_cell-requires-clause-cell
+put_cell-requires-clause-cell g c =
+    All-head IsCell c.in-Some.found.cell c.next.new.self.left (rw c.in-Some.ensures.found.1 at c.loop-found.invariant.cells)
+
+pub put_cell-requires-clause-few : goal.put_cell-requires-clause-few
+put_cell-requires-clause-few g c =
+    let few = c.loop-found.invariant.few in
+    let all = c.requires.few in
+    omega (arith, few, all)
+
+pub put_cell-requires-clause-count : goal.put_cell-requires-clause-count
+put_cell-requires-clause-count g c =
+    let count = c.loop-found.invariant.sends.3 in
+    let cells = c.loop-found.invariant.sends.4.1 in
+    let all = c.requires.count in
+    let left : length c.loop-found.search.left ≡ suc (length c.next.new.self.left) = ap length c.in-Some.ensures.found.1 in
+    omega (arith, count, cells, all, left)
+
+pub loop-found-preserved : goal.loop-found-preserved
+loop-found-preserved g c =
+    let so_far = c.loop-found.invariant in
+    let is = c.in-Some.ensures.found.1 in
+    let text = so_far.sends.0 in
+    let n = so_far.sends.1 in
+    let held = c.loop-found.page.text.bytes in
+    let piece = ended (cell_line_of c.in-Some.found.cell) in
+    let now = c.put_cell.new.page.text.bytes in
+    let put = c.in_ok-so_far.ensures.holds in
+    let count = so_far.sends.3 in
+    let bytes = c.in_ok-so_far.ensures.sends.0 in
+    let short = c.put_cell.ensures.short in
+    let few = so_far.few in
+    let long = page_length held piece now put in
+    let left : length c.loop-found.search.left ≡ suc (length c.next.new.self.left) = ap length is in
+    record {
+      sends = (
+        text ++ gone_for held piece,
+        n + 1,
+        page_step (λ (cells : List Cell). joined (map cell_line_of cells)) c.loop-found.search.left c.next.new.self.left c.in-Some.found.cell _ text held piece now is refl put so_far.sends.2,
+        omega (arith, count, left),
+        sends_then (g.S.Sink.tells c.args.out.now) (g.S.Sink.tells c.loop-found.out) (g.S.Sink.taken c.args.out.now) (g.S.Sink.taken c.loop-found.out) (g.S.Sink.taken c.put_cell.new.out)
+            c.args.sent c.loop-found.so_far text (gone_for held piece) n 1 (Ok c.in_ok-so_far.so_far) so_far.tells so_far.sends.4 c.in_ok-so_far.ensures.sends,
+      );
+      tells = λ t. c.put_cell.ensures.still_tells (so_far.tells t);
+      unfailed = c.in_ok-so_far.ensures.counts ∙ so_far.unfailed;
+      few = omega (arith, bytes, short, few, long, left);
+      cells = All-tail IsCell c.in-Some.found.cell c.next.new.self.left (rw is at so_far.cells);
+    }
+
+pub returns-in_err-so_far-clause-sends : goal.returns-in_err-so_far-clause-sends
+returns-in_err-so_far-clause-sends g c =
+    let p = err_from_is_err_and c.from_residual.result c.from_residual.ensures.1 in
+    let so_far = c.loop-found.invariant in
+    let text = so_far.sends.0 in
+    let n = so_far.sends.1 in
+    let held = c.loop-found.page.text.bytes in
+    let piece = ended (cell_line_of c.in-Some.found.cell) in
+    let now = held_after held piece in
+    let rest = joined (map cell_line_of c.next.new.self.left) in
+    let whole = page_step (λ (cells : List Cell). joined (map cell_line_of cells)) c.loop-found.search.left c.next.new.self.left c.in-Some.found.cell _ text held piece now c.in-Some.ensures.found.1 refl refl so_far.sends.2 in
+    rw (p.1, p.2, ← whole) (sends_cut _ _ _ c.args.sent (text ++ gone_for held piece) (now ++ rest) (n + 1) 0 _
+    (sends_then _ _ _ _ _ c.args.sent c.loop-found.so_far text (gone_for held piece) n 1 (Err _) so_far.tells so_far.sends.4 c.in_err-so_far.ensures.sends))
+
+pub end-requires : goal.end-requires
+end-requires g c =
+    let few = c.loop-found.invariant.few in
+    let all = c.requires.few in
+    omega (arith, few, all)
+
+pub returns-clause-sends : goal.returns-clause-sends
+returns-clause-sends g c =
+    let so_far = c.loop-found.invariant in
+    let text = so_far.sends.0 in
+    let n = so_far.sends.1 in
+    let held = c.loop-found.page.text.bytes in
+    let none = c.in_default.ensures.found.0 in
+    let count = so_far.sends.3 in
+    let left : length c.loop-found.search.left ≡ 0 = ap length none in
+    let all : n + 0 ≡ length c.args.search.left = omega (arith, count, left) in
+    let whole = page_done (λ (cells : List Cell). joined (map cell_line_of cells)) c.loop-found.search.left _ text held none refl so_far.sends.2 in
+    rw (← whole) (sends_sum (g.S.Sink.tells c.args.out.now) (g.S.Sink.tells c.loop-found.out) (g.S.Sink.taken c.args.out.now) (g.S.Sink.taken c.loop-found.out) (g.S.Sink.taken c.end.new.out)
+    c.args.sent c.loop-found.so_far text held n 0 (length c.args.search.left) all c.end.result so_far.tells so_far.sends.4 c.end.ensures.sends)
+
+pub returns-clause-short : goal.returns-clause-short
+returns-clause-short g c =
+    let few = c.loop-found.invariant.few in
+    sent_below (g.S.Sink.tells c.loop-found.out) (g.S.Sink.taken c.loop-found.out) (g.S.Sink.taken c.end.new.out) c.loop-found.so_far c.loop-found.page.text.bytes 0 (c.args.sent.bytes + 24 * length c.args.search.left) c.end.result c.end.ensures.sends (omega (arith, few))

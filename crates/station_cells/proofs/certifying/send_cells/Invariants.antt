@@ -1,0 +1,19 @@
+use Rattle.std.proofs.Common.{◌≡◌, ℕ, ◌+◌, ◌*◌, ◌≤◌, List, ◌++◌, length, map, All, Ok}
+use Rattle.cert_text.specs.Certificates.{IsCell}
+use Rattle.cert_text.specs.Lines.{cell_line_of, joined}
+use Rattle.station_cells.specs.Sending.{Sends}
+use Rattle.station_cells.proofs.certifying.send_cells.Given as goal
+
+abbrev pub invariant-loop-found : goal.invariant-loop-found
+invariant-loop-found g l = record {
+  sends : (text : List ℕ) × (n : ℕ) × (text ++ (l.page.text.bytes ++ joined (map cell_line_of l.search.left)) ≡ joined (map cell_line_of l.fn.search.left))
+      × (n + length l.search.left ≡ length l.fn.search.left)
+      × Sends (g.S.Sink.tells l.fn.out) (g.S.Sink.taken l.fn.out) (g.S.Sink.taken l.out) l.fn.sent text n (Ok l.so_far);
+  tells : g.S.Sink.tells l.fn.out → g.S.Sink.tells l.out;
+  unfailed : g.S.Sink.faults l.out ≡ g.S.Sink.faults l.fn.out;
+  few : l.so_far.bytes + length l.page.text.bytes + 24 * length l.search.left ≤ l.fn.sent.bytes + 24 * length l.fn.search.left;
+  cells : All IsCell l.search.left;
+}
+
+abbrev pub decreases-loop-found : goal.decreases-loop-found
+decreases-loop-found g l = length l.search.left

@@ -1,0 +1,70 @@
+-- Why a certificate whose question is in order isn't valid, and the line that tells it (this project).
+use Rattle.std.specs.Prelude.{ℕ, ◌<◌, ◌^◌, Bool, true, false, List, ◌++◌, length, codes, decimal, Option, Some, None, is_some}
+use Rattle.std.specs.Option.{option_or, ForSome}
+use Rattle.std.specs.Fmt.{signed_decimal}
+use Rattle.cert_text.specs.declared.track_name.TrackName.{TrackName}
+use Rattle.cert_text.specs.declared.track_name.TrackName.TheVariants.{Turn, Slack, Mark}
+use Rattle.cert_text.specs.Tracks.{track_word}
+use Rattle.curve_law.specs.declared.cell.Cell.{Cell}
+use Rattle.curve_law.specs.declared.tracks.Tracks.{Tracks}
+use Rattle.curve_law.specs.declared.verdict.Verdict.{Verdict}
+use Rattle.curve_law.specs.declared.verdict.Verdict.TheVariants.{Accepted, WrongLength, NotQuiet, WrongStep, WrongLevel}
+use Rattle.curve_law.specs.Meaning.{Meaning}
+use Rattle.curve_law.specs.Verdicts.{verdict}
+use Rattle.event_list.specs.declared.span.Span.{Span}
+use Rattle.event_list.specs.Events.{Followed, minutes_in}
+use Rattle.station_cells.specs.declared.rejection.Rejection.{Rejection}
+use Rattle.station_cells.specs.declared.rejection.Rejection.TheVariants.{SlackWanted, SlackNotWanted, Track}
+
+-- ---- the line
+
+abbrev pub cell_text : ℕ → List ℕ
+cell_text cell = codes ": cell " ++ decimal cell
+
+-- what is said of a track after its name
+unfoldable pub finding_text : Verdict → List ℕ
+finding_text Accepted = codes ": accepted\n"
+finding_text (WrongLength covered wanted) =
+    (codes ": cells cover " ++ signed_decimal covered) ++ (codes " of " ++ signed_decimal wanted ++ codes " minutes\n")
+finding_text (NotQuiet cell) = cell_text cell ++ codes " is not quiet\n"
+finding_text (WrongStep cell) = cell_text cell ++ codes " has the wrong step\n"
+finding_text (WrongLevel cell written computed) =
+    cell_text cell ++ (codes " has level " ++ signed_decimal written) ++ (codes ", computed " ++ signed_decimal computed ++ codes "\n")
+
+unfoldable pub rejection_line : Rejection → List ℕ
+rejection_line SlackWanted = codes "Rejected: slack track wanted\n"
+rejection_line SlackNotWanted = codes "Rejected: slack track not wanted\n"
+rejection_line (Track track finding) = codes "Rejected: track " ++ track_word track ++ finding_text finding
+
+-- ---- what is wrong first
+
+-- the slack track is there exactly where it is asked
+abbrev pub slack_fault : Bool → Bool → Option Rejection
+slack_fault true false = Some SlackWanted
+slack_fault false true = Some SlackNotWanted
+slack_fault true true = None
+slack_fault false false = None
+
+abbrev pub fault_from : TrackName → Verdict → Option Rejection
+fault_from track Accepted = None
+fault_from track finding = Some (Track track finding)
+
+-- the cells of a track against its curve, over the minutes of the reference that are looked at
+abbrev pub track_fault : Span → TrackName → Option Meaning → Option (List Cell) → Option Rejection
+track_fault span track (Some curve) (Some cells) = fault_from track (verdict curve span.begin (minutes_in span) cells)
+track_fault span track _ _ = None
+
+-- first whether slack water is asked, then the tracks one after the other
+unfoldable pub rejection_of : Followed → Span → Tracks → Option Rejection
+rejection_of curves span tracks =
+    option_or (option_or (option_or
+    (slack_fault (is_some curves.slack) (is_some tracks.slack))
+    (track_fault span Turn (Some curves.turn) (Some tracks.turn)))
+    (track_fault span Slack curves.slack tracks.slack))
+    (track_fault span Mark curves.mark tracks.mark)
+
+-- each track has fewer cells than a number tells
+pub record HasFewCells (tracks : Tracks) : Type 0 where
+  pub turn : length tracks.turn < 2 ^ 32
+  pub slack : ForSome tracks.slack (λ cells. length cells < 2 ^ 32)
+  pub mark : ForSome tracks.mark (λ cells. length cells < 2 ^ 32)

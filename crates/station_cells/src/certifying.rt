@@ -1,0 +1,107 @@
+//! The cells of a track, written as they are found. It takes no memory.
+
+ghost use Rattle.std.specs.Prelude.{◌≡◌, ◌+◌, ◌*◌, ◌<◌, ◌≤◌, ◌^◌, length, map, All, IfOk, OnOk, is_err};
+ghost use Rattle.std.specs.Option.{ForSome};
+ghost use Rattle.cert_text.specs.Certificates.{IsCell};
+ghost use Rattle.cert_text.specs.Lines.{cell_line_of, track_lines_of, lines_if_there, ended, joined};
+ghost use Rattle.event_list.specs.Merging.{cells_left};
+ghost use Rattle.station_cells.specs.Sending.{Sends, gone_for, held_after, left_count};
+ghost use Rattle.tide_edge.specs.Faults.{faults_after};
+
+use crate::page::Page;
+use crate::sending::{Sent, send};
+use arrayvec::ArrayString;
+use cert_text::{TrackName, cell_line, heading_line};
+use curve_law::{Cell, Curve};
+use interval_search::Search;
+use tide_edge::{Sink, WriteFailed};
+
+/// Writes a track, if there is a search for it.
+pub fn send_if_followed<C: Curve + Drop, S: Sink>(
+    out: &mut S,
+    sent: Sent,
+    track: TrackName,
+    search: Option<Search<C>>,
+) -> Result<Sent, WriteFailed>
+    requires cells { ForSome search (λ search. All IsCell search.left) }
+    requires few { sent.bytes + 24 + 24 * left_count search < 2 ^ 64 }
+    requires count { sent.cells + left_count search < 2 ^ 64 }
+    ensures sends { Sends (S.tells out.old) (S.taken out.old) (S.taken out.new) sent (joined (lines_if_there track (cells_left search))) (left_count search) result }
+    ensures short { IfOk result (λ done. done.bytes ≤ sent.bytes + 24 + 24 * left_count search) }
+    ensures still_tells { S.tells out.old → S.tells out.new }
+    ensures counts { S.faults out.new ≡ faults_after (is_err result) (S.faults out.old) }
+{
+    match search {
+        Some(search) => send_track(out, sent, track, search),
+        None => Ok(sent),
+    }
+}
+
+/// Writes a track's heading, and the line of each cell that its search has left.
+pub fn send_track<C: Curve + Drop, S: Sink>(
+    out: &mut S,
+    sent: Sent,
+    track: TrackName,
+    search: Search<C>,
+) -> Result<Sent, WriteFailed>
+    requires cells { All IsCell search.left }
+    requires few { sent.bytes + 24 + 24 * length search.left < 2 ^ 64 }
+    requires count { sent.cells + length search.left < 2 ^ 64 }
+    ensures sends { Sends (S.tells out.old) (S.taken out.old) (S.taken out.new) sent (joined (track_lines_of track search.left)) (length search.left) result }
+    ensures short { IfOk result (λ done. done.bytes ≤ sent.bytes + 24 + 24 * length search.left) }
+    ensures still_tells { S.tells out.old → S.tells out.new }
+    ensures counts { S.faults out.new ≡ faults_after (is_err result) (S.faults out.old) }
+{
+    let mut line = ArrayString::new();
+    heading_line(track, &mut line);
+    let sent = send(out, sent, line.as_str())?;
+    send_cells(out, sent, search)
+}
+
+// Writes the line of each cell that a search has left.
+fn send_cells<C: Curve + Drop, S: Sink>(
+    out: &mut S,
+    sent: Sent,
+    search: Search<C>,
+) -> Result<Sent, WriteFailed>
+    requires cells { All IsCell search.left }
+    requires few { sent.bytes + 24 * length search.left < 2 ^ 64 }
+    requires count { sent.cells + length search.left < 2 ^ 64 }
+    ensures sends { Sends (S.tells out.old) (S.taken out.old) (S.taken out.new) sent (joined (map cell_line_of search.left)) (length search.left) result }
+    ensures short { IfOk result (λ done. done.bytes ≤ sent.bytes + 24 * length search.left) }
+    ensures still_tells { S.tells out.old → S.tells out.new }
+    ensures counts { S.faults out.new ≡ faults_after (is_err result) (S.faults out.old) }
+{
+    let mut search = search;
+    let mut page = Page::new();
+    let mut so_far = sent;
+    while let Some(found) = search.next() {
+        so_far = put_cell(&mut page, out, so_far, &found.cell)?;
+    }
+    page.end(out, so_far)
+}
+
+// Puts the line of a cell on a page, and counts the cell.
+fn put_cell<S: Sink>(
+    page: &mut Page,
+    out: &mut S,
+    sent: Sent,
+    cell: &Cell,
+) -> Result<Sent, WriteFailed>
+    requires cell { IsCell cell.now }
+    requires few { sent.bytes + length page.old.text.bytes < 2 ^ 64 }
+    requires count { sent.cells + 1 < 2 ^ 64 }
+    ensures sends { Sends (S.tells out.old) (S.taken out.old) (S.taken out.new) sent (gone_for page.old.text.bytes (ended (cell_line_of cell.now))) 1 result }
+    ensures holds { OnOk result (page.new.text.bytes ≡ held_after page.old.text.bytes (ended (cell_line_of cell.now))) }
+    ensures short { length (ended (cell_line_of cell.now)) ≤ 24 }
+    ensures still_tells { S.tells out.old → S.tells out.new }
+    ensures counts { S.faults out.new ≡ faults_after (is_err result) (S.faults out.old) }
+{
+    let mut line = ArrayString::<24>::new();
+    cell_line(cell, &mut line);
+    let sent = page.put(out, sent, line.as_str())?;
+    Ok(Sent {
+        bytes: sent.bytes,
+        cells: sent.cells + 1,
+    })
+}

@@ -1,0 +1,93 @@
+//! What is wrong with the tracks of a certificate.
+
+ghost use Rattle.std.specs.Prelude.{◌≡◌, ◌<◌, ◌^◌, length, option_map};
+ghost use Rattle.std.specs.Option.{ForSome};
+ghost use Rattle.curve_law.specs.Verdicts.{verdict};
+ghost use Rattle.event_list.specs.Events.{minutes_in};
+ghost use Rattle.event_list.specs.Telling.{Tells};
+ghost use Rattle.station_cells.specs.Rejections.{slack_fault, fault_from, track_fault, rejection_of, HasFewCells};
+
+use crate::rejection::Rejection;
+use cert_checker::check_track;
+use cert_text::TrackName;
+use curve_law::{Cells, Curve, Tracks, Verdict};
+use event_list::Span;
+
+/// The first thing that is wrong with tracks over a span, by the curves that are followed: whether
+/// slack water is asked, and then the tracks one after the other. No curve was asked for a value, and
+/// each tells the span's minutes. It takes no memory.
+#[tactic(auto, unfolding(crate::specs::Rejections::rejection_of))]
+pub fn rejection_over<A: Curve + Drop, B: Curve + Drop>(
+    turn: A,
+    slack: Option<B>,
+    mark: Option<B>,
+    span: &Span,
+    tracks: &Tracks,
+) -> Option<Rejection>
+    requires turn { Tells span.now (A.meaning turn) (A.count turn) }
+    requires slack { ForSome slack (λ c. Tells span.now (B.meaning c) (B.count c)) }
+    requires mark { ForSome mark (λ c. Tells span.now (B.meaning c) (B.count c)) }
+    requires few { HasFewCells tracks.now }
+    ensures { result ≡ rejection_of (record { turn = A.meaning turn; slack = option_map B.meaning slack; mark = option_map B.meaning mark }) span.now tracks.now }
+{
+    if let Some(fault) = slack_fault(slack.is_some(), tracks.slack.is_some()) {
+        return Some(fault);
+    }
+    if let Some(fault) = track_fault(TrackName::Turn, turn, &tracks.turn, span) {
+        return Some(fault);
+    }
+    if let Some(fault) = fault_if_followed(TrackName::Slack, slack, &tracks.slack, span) {
+        return Some(fault);
+    }
+    fault_if_followed(TrackName::Mark, mark, &tracks.mark, span)
+}
+
+// The slack track is there exactly where it is asked.
+fn slack_fault(is_asked: bool, is_there: bool) -> Option<Rejection>
+    ensures { result ≡ slack_fault is_asked is_there }
+{
+    match (is_asked, is_there) {
+        (true, false) => Some(Rejection::SlackWanted),
+        (false, true) => Some(Rejection::SlackNotWanted),
+        _ => None,
+    }
+}
+
+fn fault_if_followed<C: Curve + Drop>(
+    track: TrackName,
+    curve: Option<C>,
+    cells: &Option<Cells>,
+    span: &Span,
+) -> Option<Rejection>
+    requires tells { ForSome curve (λ c. Tells span.now (C.meaning c) (C.count c)) }
+    requires few { ForSome cells.now (λ cells. length cells < 2 ^ 32) }
+    ensures { result ≡ track_fault span.now track (option_map C.meaning curve) cells.now }
+{
+    match (curve, cells) {
+        (Some(curve), Some(cells)) => track_fault(track, curve, cells, span),
+        _ => None,
+    }
+}
+
+fn track_fault<C: Curve + Drop>(
+    track: TrackName,
+    curve: C,
+    cells: &Cells,
+    span: &Span,
+) -> Option<Rejection>
+    requires tells { Tells span.now (C.meaning curve) (C.count curve) }
+    requires few { length cells.now < 2 ^ 32 }
+    ensures { result ≡ fault_from track (verdict (C.meaning curve) span.now.begin (minutes_in span.now) cells.now) }
+{
+    let mut curve = curve;
+    fault_from(track, check_track(&mut curve, cells, span.begin, span.end))
+}
+
+fn fault_from(track: TrackName, finding: Verdict) -> Option<Rejection>
+    ensures { result ≡ fault_from track finding }
+{
+    match finding {
+        Verdict::Accepted => None,
+        wrong => Some(Rejection::Track(track, wrong)),
+    }
+}

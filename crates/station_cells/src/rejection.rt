@@ -1,0 +1,94 @@
+//! Why a certificate isn't valid.
+
+ghost use Rattle.std.specs.Prelude.{◌≡◌, ◌++◌, codes, decimal, IfOk, string_bytes};
+ghost use Rattle.std.specs.Fmt.{signed_decimal};
+ghost use Rattle.cert_text.specs.Tracks.{track_word};
+ghost use Rattle.station_cells.specs.Rejections.{cell_text, finding_text, rejection_line};
+
+use cert_text::TrackName;
+use curve_law::Verdict;
+use decimal_text::Bytes;
+use std::alloc::{AllocError, Global};
+
+/// The first thing that is wrong with the tracks of a certificate whose question is in order.
+#[derive(Clone, Copy, Debug, PartialEq, Eq)]
+pub enum Rejection {
+    /// Slack water is asked of the station, and its track isn't there.
+    SlackWanted,
+    /// Slack water isn't asked, and its track is there.
+    SlackNotWanted,
+    /// The finding on the cells of a track.
+    Track(TrackName, Verdict),
+}
+
+/// The line that tells it, with its LF.
+#[tactic(auto, unfolding(crate::specs::Rejections::rejection_line))]
+pub fn rejection_line(alloc: Global, rejection: Rejection) -> Result<Bytes, AllocError>
+    ensures { IfOk result (λ line. line ≡ rejection_line rejection) }
+{
+    let text = match rejection {
+        Rejection::SlackWanted => String::from_str(alloc, "Rejected: slack track wanted\n")?,
+        Rejection::SlackNotWanted => {
+            String::from_str(alloc, "Rejected: slack track not wanted\n")?
+        }
+        Rejection::Track(track, finding) => track_text(alloc, track, finding)?,
+    };
+    Ok(Bytes::from_vec(text.into_bytes()))
+}
+
+fn track_text(alloc: Global, track: TrackName, finding: Verdict) -> Result<String, AllocError>
+    ensures { IfOk result (λ text. string_bytes text ≡ codes "Rejected: track " ++ track_word track ++ finding_text finding) }
+{
+    let mut text = String::from_str(alloc, "Rejected: track ")?;
+    text.push_str(track.word())?;
+    let said = finding_text(alloc, finding)?;
+    text.push_str(said.as_str())?;
+    Ok(text)
+}
+
+#[tactic(auto, unfolding(crate::specs::Rejections::finding_text))]
+fn finding_text(alloc: Global, finding: Verdict) -> Result<String, AllocError>
+    ensures { IfOk result (λ text. string_bytes text ≡ finding_text finding) }
+{
+    match finding {
+        Verdict::Accepted => String::from_str(alloc, ": accepted\n"),
+        Verdict::WrongLength { covered, wanted } => length_text(alloc, covered, wanted),
+        Verdict::NotQuiet { cell } => cell_text(alloc, cell, " is not quiet\n"),
+        Verdict::WrongStep { cell } => cell_text(alloc, cell, " has the wrong step\n"),
+        Verdict::WrongLevel {
+            cell,
+            written,
+            computed,
+        } => level_text(alloc, cell, written, computed),
+    }
+}
+
+fn length_text(alloc: Global, covered: i64, wanted: i64) -> Result<String, AllocError>
+    ensures { IfOk result (λ text. string_bytes text
+        ≡ (codes ": cells cover " ++ signed_decimal covered) ++ (codes " of " ++ signed_decimal wanted ++ codes " minutes\n")) }
+{
+    let mut text = format!(in alloc; ": cells cover {covered}")?;
+    let end = format!(in alloc; " of {wanted} minutes\n")?;
+    text.push_str(end.as_str())?;
+    Ok(text)
+}
+
+// A cell by its number, and what is said of it.
+fn cell_text(alloc: Global, cell: u32, said: &str) -> Result<String, AllocError>
+    ensures { IfOk result (λ text. string_bytes text ≡ cell_text cell ++ said.now) }
+{
+    let mut text = format!(in alloc; ": cell {cell}")?;
+    text.push_str(said)?;
+    Ok(text)
+}
+
+fn level_text(alloc: Global, cell: u32, written: i64, computed: i64) -> Result<String, AllocError>
+    ensures { IfOk result (λ text. string_bytes text
+        ≡ cell_text cell ++ (codes " has level " ++ signed_decimal written) ++ (codes ", computed " ++ signed_decimal computed ++ codes "\n")) }
+{
+    let level = format!(in alloc; " has level {written}")?;
+    let end = format!(in alloc; ", computed {computed}\n")?;
+    let mut text = cell_text(alloc, cell, level.as_str())?;
+    text.push_str(end.as_str())?;
+    Ok(text)
+}

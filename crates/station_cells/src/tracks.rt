@@ -1,0 +1,77 @@
+//! The cells of the curves that are followed at a station.
+
+ghost use Rattle.std.specs.Prelude.{◌≡◌, ◌<◌, ◌^◌, length, option_map, option_to_list, sum_by, IfOk};
+ghost use Rattle.std.specs.Option.{ForSome};
+ghost use Rattle.event_list.specs.Events.{cover_over, covers_of, cells_in};
+ghost use Rattle.event_list.specs.Telling.{Tells};
+
+use curve_law::{Cells, Curve, Tracks};
+use event_list::Span;
+use interval_search::search;
+use std::alloc::{AllocError, Global};
+
+/// The cells of each curve over a span. No curve was asked for a value, and each tells the span's
+/// minutes.
+pub fn tracks_over<A: Curve + Drop, B: Curve + Drop>(
+    alloc: Global,
+    turn: A,
+    slack: Option<B>,
+    mark: Option<B>,
+    span: &Span,
+) -> Result<Tracks, AllocError>
+    requires turn { Tells span.now (A.meaning turn) (A.count turn) }
+    requires slack { ForSome slack (λ c. Tells span.now (B.meaning c) (B.count c)) }
+    requires mark { ForSome mark (λ c. Tells span.now (B.meaning c) (B.count c)) }
+    ensures { IfOk result (λ tracks. tracks ≡ covers_of (record { turn = A.meaning turn; slack = option_map B.meaning slack; mark = option_map B.meaning mark }) span.now) }
+{
+    let turn = cells_over(alloc, turn, span)?;
+    let slack = cells_if_followed(alloc, slack, span)?;
+    let mark = cells_if_followed(alloc, mark, span)?;
+    Ok(Tracks { turn, slack, mark })
+}
+
+fn cells_over<C: Curve + Drop>(alloc: Global, curve: C, span: &Span) -> Result<Cells, AllocError>
+    requires { Tells span.now (C.meaning curve) (C.count curve) }
+    ensures { IfOk result (λ cells. cells ≡ cover_over span.now (C.meaning curve)) }
+{
+    let mut curve = curve;
+    search(alloc, &mut curve, span.begin, span.end)
+}
+
+fn cells_if_followed<C: Curve + Drop>(
+    alloc: Global,
+    curve: Option<C>,
+    span: &Span,
+) -> Result<Option<Cells>, AllocError>
+    requires { ForSome curve (λ c. Tells span.now (C.meaning c) (C.count c)) }
+    ensures { IfOk result (λ cells. cells ≡ option_map (λ c. cover_over span.now (C.meaning c)) curve) }
+{
+    match curve {
+        Some(curve) => Ok(Some(cells_over(alloc, curve, span)?)),
+        None => Ok(None),
+    }
+}
+
+/// How many cells the tracks have together.
+#[tactic(auto, unfolding(event_list::specs::Events::cells_in))]
+pub fn cell_count(tracks: &Tracks) -> u64
+    requires { cells_in tracks.now < 2 ^ 64 }
+    ensures { result ≡ cells_in tracks.now }
+{
+    count_of(&tracks.turn) + count_if_followed(&tracks.slack) + count_if_followed(&tracks.mark)
+}
+
+fn count_of(cells: &Cells) -> u64
+    ensures { result ≡ length cells.now }
+{
+    cells.as_slice().len() as u64
+}
+
+fn count_if_followed(cells: &Option<Cells>) -> u64
+    ensures { result ≡ sum_by length (option_to_list cells.now) }
+{
+    match cells {
+        Some(cells) => count_of(cells),
+        None => 0,
+    }
+}

@@ -1,0 +1,84 @@
+-- What the steps of a station's span come to.
+use Rattle.std.proofs.Common.{◌≡◌, ℕ, Bool, true, false, List, [], Some, Result, Ok, Err, slice_get, refl, arith}
+use Rattle.decimal_text.specs.Expected.{◌>>=◌, Excused}
+use Rattle.harmonics_text.specs.declared.book.Book.{Book}
+use Rattle.harmonics_text.specs.declared.book.Station.{Station}
+use Rattle.harmonics_text.specs.declared.book.Units.{Units}
+use Rattle.station_curve.specs.Curves.{curve_of}
+use Rattle.station_curve.specs.Waves.{Tide}
+use Rattle.station_table.specs.declared.basis.Basis.{Basis}
+use Rattle.station_table.specs.declared.offsets.Offsets.{Offsets}
+use Rattle.station_table.specs.Bases.{basis_of}
+use Rattle.station_span.specs.declared.asked.Asked.{Asked}
+use Rattle.station_span.specs.declared.reach.Reach.{Reach}
+use Rattle.tide_fault.specs.declared.refusal.Refusal.{Refusal}
+use Rattle.tide_fault.specs.declared.refusal.Refusal.TheVariants.{NoReference, OutOfYears}
+use Rattle.station_span.specs.declared.station.Found.{Found}
+use Rattle.tide_fault.specs.Faults.{IsToldRefusal}
+use Rattle.station_span.specs.Sites.{Site, basis_from, level_unit, span_in, tide_from, length_in, mark_in, site_at, site_in}
+use Rattle.station_span.specs.Workings.Spans.{FindsIn}
+
+pub excused_then : {A B : Type 0} (memory : Bool) (step : Result A Refusal) (next : A → Result B Refusal) (refusal : Refusal) → Excused memory step refusal → Excused memory (step >>= next) refusal
+excused_then true step next refusal excused = tt
+excused_then false step next refusal excused = rw excused refl
+
+-- ---- the steps behind the curve
+
+-- those that a site has gone through when its curve is made
+pub record HasCurve (reach : Reach) (book : Book) (site : Site) (asked : Asked) (units : Units) (tide : Tide) : Type 0 where
+  pub unit : level_unit site.station.units ≡ Ok units
+  pub span : span_in reach book site.basis asked.begin asked.end ≡ Ok tt
+  pub curve : tide_from (curve_of book site.station) ≡ Ok tide
+
+-- where the span is refused
+pub refused_span : (memory : Bool) (reach : Reach) (book : Book) (site : Site) (asked : Asked) (units : Units) (refusal : Refusal) → level_unit site.station.units ≡ Ok units → Excused memory (span_in reach book site.basis asked.begin asked.end) refusal → Excused memory (site_at reach book site asked) refusal
+unfolding site_at
+refused_span memory reach book site asked units refusal unit excused =
+    rw unit (excused_then memory (span_in reach book site.basis asked.begin asked.end) _ refusal excused)
+
+-- where the tide is
+pub refused_curve : (memory : Bool) (reach : Reach) (book : Book) (site : Site) (asked : Asked) (units : Units) (refusal : Refusal) → level_unit site.station.units ≡ Ok units → span_in reach book site.basis asked.begin asked.end ≡ Ok tt → Excused memory (tide_from (curve_of book site.station)) refusal → Excused memory (site_at reach book site asked) refusal
+unfolding site_at
+refused_curve memory reach book site asked units refusal unit span excused =
+    rw (unit, span) (excused_then memory (tide_from (curve_of book site.station)) _ refusal excused)
+
+-- where the span's length is
+pub refused_length : (memory : Bool) (reach : Reach) (book : Book) (site : Site) (asked : Asked) (units : Units) (tide : Tide) (refusal : Refusal) → HasCurve reach book site asked units tide → Excused memory (length_in asked.begin asked.end) refusal → Excused memory (site_at reach book site asked) refusal
+unfolding site_at
+refused_length memory reach book site asked units tide refusal has excused =
+    rw (has.unit, has.span, has.curve) (excused_then memory (length_in asked.begin asked.end) _ refusal excused)
+
+-- where the mark is
+pub refused_mark : (memory : Bool) (reach : Reach) (book : Book) (site : Site) (asked : Asked) (units : Units) (tide : Tide) (refusal : Refusal) → HasCurve reach book site asked units tide → length_in asked.begin asked.end ≡ Ok tt → Excused memory (mark_in site.basis asked.mark) refusal → Excused memory (site_at reach book site asked) refusal
+unfolding site_at
+refused_mark memory reach book site asked units tide refusal has few excused =
+    rw (has.unit, has.span, has.curve, few) (excused_then memory (mark_in site.basis asked.mark) _ refusal excused)
+
+-- where nothing is
+pub found_whole : (reach : Reach) (book : Book) (site : Site) (asked : Asked) (units : Units) (tide : Tide) → HasCurve reach book site asked units tide → length_in asked.begin asked.end ≡ Ok tt → mark_in site.basis asked.mark ≡ Ok tt → site_at reach book site asked ≡ Ok site
+unfolding site_at
+found_whole reach book site asked units tide has few mark = rw (has.unit, has.span, has.curve, few, mark) refl
+
+-- ---- a station by its name
+
+found_by : (reach : Reach) (book : Book) (table : List Offsets) (name : List ℕ) (asked : Asked) (basis : Basis) (station : Station) → basis_from (basis_of book table name) ≡ Ok basis → slice_get book.stations basis.station ≡ Some station → site_in reach book table name asked ≡ site_at reach book (record { basis = basis; station = station }) asked
+unfolding site_in
+found_by reach book table name asked basis station from is = rw (from, is) refl
+
+pub finds_by : (reach : Reach) (book : Book) (table : List Offsets) (name : List ℕ) (asked : Asked) (basis : Basis) (station : Station) (result : Result Found Refusal) → basis_from (basis_of book table name) ≡ Ok basis → slice_get book.stations basis.station ≡ Some station → FindsIn reach book asked (site_at reach book (record { basis = basis; station = station }) asked) result → FindsIn reach book asked (site_in reach book table name asked) result
+finds_by reach book table name asked basis station result from is finds = rw (found_by reach book table name asked basis station from is) finds
+
+-- where the name is refused
+pub excused_by : {A : Type 0} (memory : Bool) (expected : Result A Refusal) (refusal : Refusal) → expected ≡ Err refusal → Excused memory expected refusal
+excused_by true expected refusal e = tt
+excused_by false expected refusal e = e
+
+pub refused_name : (memory : Bool) (reach : Reach) (book : Book) (table : List Offsets) (name : List ℕ) (asked : Asked) (refusal : Refusal) → basis_from (basis_of book table name) ≡ Err refusal → Excused memory (site_in reach book table name asked) refusal
+unfolding site_in
+refused_name memory reach book table name asked refusal from = excused_by memory _ refusal (rw from refl)
+
+-- what is told of no table is told of any
+pub told_any : (rows : List Offsets) (refusal : Refusal) → IsToldRefusal [] refusal → IsToldRefusal rows refusal
+told_any rows (NoReference place) told = absurd (omega (arith, told))
+told_any rows (OutOfYears first last) told = told
+told_any rows _ told = tt

@@ -1,0 +1,106 @@
+-- What is known of the levels of a site.
+use Rattle.std.proofs.Common.{◌≡◌, ℕ, zero, suc, [], ◌∷◌, ◌++◌, ◌+◌, ◌*◌, ◌/◌, ◌<◌, ◌≤◌, ℤ, pos, negsuc, ◌+ℤ◌, ◌-ℤ◌, ◌*ℤ◌, ◌≤ℤ◌, unsigned_abs, List, length, refl, ap, sym, arith}
+use Rattle.std.specs.Prelude.{All, map, IsTrue}
+use Rattle.std.specs.List.{range_with_len}
+use Rattle.std.proofs.lemmas.Int.{ints, fold-int_max_bounds, fold-int_min_bounds}
+use Rattle.std.proofs.lemmas.List.Elements.{All-append, All-cons}
+use Rattle.std.proofs.lemmas.List.FromFn.{map-range_with_len_more}
+use Rattle.std.proofs.Math.Nat.{div-mul-le_self, mul-le-mul_right}
+use Rattle.event_list.specs.Shifts.{greatest_add, least_add, slack_adds}
+use Rattle.harmonics_text.specs.declared.book.Book.{Book}
+use Rattle.station_curve.specs.Curves.{Predicts}
+use Rattle.station_table.specs.declared.basis.Basis.{Basis}
+use Rattle.station_table.specs.Bases.{is_equal}
+use Rattle.year_blend.specs.Places.{AreYears, InDomain}
+use Rattle.zone_time.specs.Zones.{InZoneYears}
+use Rattle.station_span.specs.declared.asked.Asked.{Asked}
+use Rattle.station_span.specs.declared.reach.Reach.TheVariants.{Events, Levels}
+use Rattle.station_span.specs.declared.station.Found.{Found}
+use Rattle.station_span.specs.Levels.{level_at, is_rising_at}
+use Rattle.station_span.specs.Sites.{Site}
+use Rattle.station_span.specs.Workings.Curves.{InTide}
+use Rattle.station_span.specs.Workings.Levels.{source_of, tide_level, is_tide_rising, HasLevel, HasLevelsIn}
+use Rattle.station_span.specs.Workings.Spans.{IsFound}
+use Rattle.station_span.proofs.SpanLemmas.{file_minute}
+
+-- ---- minutes whose level the tide has
+
+pub zone_minute : (found : Found) (minute : ℤ) → HasLevel found minute → InZoneYears minute
+zone_minute found minute has =
+    let file = file_minute found.curve.first_year (length found.curve.years) (source_of found minute) has.years has.inside in
+    let low = file.least in
+    let high = file.most in
+    let least = has.offset.add in
+    record { first = omega (arith, ints); last = omega (arith, ints) }
+
+pub near_minute : (found : Found) (minute : ℤ) → HasLevel found minute → unsigned_abs minute ≤ 20000000000
+near_minute found minute has = let in_years = zone_minute found minute has in omega (arith, ints)
+
+-- the minutes between two such
+pub between : (found : Found) (asked : Asked) (minute : ℤ) → HasLevelsIn found asked → asked.begin ≤ℤ minute → minute ≤ℤ asked.end → HasLevel found minute
+between found asked minute has after before =
+    let least = has.first.inside.least in
+    let most = has.last.inside.most in
+    record {
+      offset = has.first.offset;
+      years = has.first.years;
+      inside = record { least = omega (arith, ints); most = omega (arith, ints) };
+    }
+
+-- ---- what was found of a site
+
+tide_years : (book : Book) (found : Found) → found.curve.first_year ≡ book.first_year → length found.curve.years ≡ book.years → AreYears book.first_year book.years → AreYears found.curve.first_year (length found.curve.years)
+tide_years book found first count are = rw (first, count) are
+
+in_tide : (book : Book) (found : Found) (minute : ℤ) → found.curve.first_year ≡ book.first_year → length found.curve.years ≡ book.years → InDomain book.first_year book.years minute → InTide found.curve minute
+in_tide book found minute first count inside = rw (first, count) inside
+
+in_book : (book : Book) (found : Found) (minute : ℤ) → found.curve.first_year ≡ book.first_year → length found.curve.years ≡ book.years → InTide found.curve minute → InDomain book.first_year book.years minute
+in_book book found minute first count inside = rw (sym first, sym count) inside
+
+-- where levels are asked, the span's
+pub found_levels : (book : Book) (asked : Asked) (site : Site) (found : Found) → IsFound Levels book asked site found → IsTrue (is_equal found.basis) → HasLevelsIn found asked
+found_levels book asked site found is equal =
+    let begins = rw equal at is.span.begins in
+    let ends = rw equal at is.span.ends in
+    let years = tide_years book found is.predicts.first_year is.predicts.years is.years in
+    record {
+      forward = is.span.forward;
+      first = record { offset = is.sound.high; years = years; inside = in_tide book found _ is.predicts.first_year is.predicts.years begins };
+      last = record { offset = is.sound.high; years = years; inside = in_tide book found _ is.predicts.first_year is.predicts.years ends };
+    }
+
+-- where events are, that of the span's first minute
+within_adds : (basis : Basis) → (least_add basis ≤ℤ basis.high.add) × (basis.high.add ≤ℤ greatest_add basis)
+within_adds basis = (
+  (fold-int_min_bounds basis.high.add (basis.low.add ∷ slack_adds basis.slack) _ refl).0,
+  (fold-int_max_bounds basis.high.add (basis.low.add ∷ slack_adds basis.slack) _ refl).0,
+)
+
+pub found_level : (book : Book) (asked : Asked) (site : Site) (found : Found) → IsFound Events book asked site found → HasLevel found asked.begin
+found_level book asked site found is =
+    let adds = within_adds found.basis in
+    let least_first = adds.0 in
+    let greatest_last = adds.1 in
+    let forward = is.span.forward in
+    let least = is.span.begins.least in
+    let most = is.span.ends.most in
+    let inside : InDomain book.first_year book.years (source_of found asked.begin) =
+    record { least = omega (arith, ints); most = omega (arith, ints) } in
+    record {
+      offset = is.sound.high;
+      years = tide_years book found is.predicts.first_year is.predicts.years is.years;
+      inside = in_tide book found _ is.predicts.first_year is.predicts.years inside;
+    }
+
+-- ---- the levels by every constituent of the book
+
+pub site_level : (book : Book) (site : Site) (found : Found) (minute : ℤ) → found.basis ≡ site.basis → Predicts book site.station found.curve → HasLevel found minute → tide_level found minute ≡ level_at book site minute
+site_level book site found minute basis is has =
+    let inside = in_book book found _ is.first_year is.years has.inside in
+    rw (is.millionths (source_of found minute) inside, basis) refl
+
+pub site_rising : (book : Book) (site : Site) (found : Found) (minute : ℤ) → found.basis ≡ site.basis → Predicts book site.station found.curve → HasLevel found minute → is_tide_rising found minute ≡ is_rising_at book site minute
+site_rising book site found minute basis is has =
+    let inside = in_book book found _ is.first_year is.years has.inside in
+    rw (is.slope (source_of found minute) inside, basis) refl

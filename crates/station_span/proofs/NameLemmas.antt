@@ -1,0 +1,153 @@
+-- A name that is found is one that a certificate may have.
+use Rattle.std.proofs.Common.{◌≡◌, ◌≢◌, ℕ, ◌+◌, ◌*◌, ◌/◌, ◌%◌, ◌<◌, ◌≤◌, Bool, List, [], ◌∷◌, length, Option, Some, None, Result, Ok, Err, All, encode_utf8, encode_utf8_all, nat_lt, refl, inl, inr, arith, length-append}
+use lib.Utf8.{encode}
+use Rattle.std.proofs.Math.Utf8.{low_scalar}
+use Rattle.std.specs.List.{position, position_or_len}
+use Rattle.std.specs.Str.{IsUtf8, bytes_eq}
+use Rattle.std.proofs.lemmas.Bool.{lt-ltb, le-ltb}
+use Rattle.std.proofs.lemmas.Bool.Decides.{nat_tests}
+use Rattle.std.proofs.lemmas.List.Elements.{All-nil, All-cons, All-head, All-tail, All-append}
+use Rattle.std.proofs.lemmas.Slice.Eq.{bytes_eq-Decides}
+use Rattle.std.proofs.lemmas.Str.{IsUtf8-append, IsUtf8-encode, IsUtf8-nil, encode_ascii}
+use Rattle.cert_text.specs.Certificates.{IsStationName}
+use Rattle.curve_law.proofs.CoverLemmas.{by_test}
+use Rattle.decimal_text.specs.Expected.{◌>>=◌}
+use Rattle.harmonics_text.specs.declared.book.Book.{Book}
+use Rattle.harmonics_text.specs.declared.book.Station.{Station}
+use Rattle.harmonics_text.specs.Books.{IsBook, IsName, IsNameByte, IsStation}
+use Rattle.station_table.specs.declared.basis.Basis.{Basis}
+use Rattle.station_table.specs.declared.finding.FindFault.{FindFault}
+use Rattle.station_table.specs.declared.offsets.Offsets.{Offsets}
+use Rattle.station_table.specs.Bases.{basis_of, basis_in, station_at, row_at, reference_or}
+use Rattle.station_table.specs.Offsets.{IsTable, IsOffsets, IsTableName}
+use Rattle.station_span.specs.declared.asked.Asked.{Asked}
+use Rattle.station_span.specs.declared.reach.Reach.{Reach}
+use Rattle.tide_fault.specs.declared.refusal.Refusal.{Refusal}
+use Rattle.station_span.specs.Sites.{Site, basis_from, site_in}
+
+-- ---- the names of a book and of a table
+
+-- a byte of a name in a certificate
+abbrev IsPrinted : ℕ → Type 0
+IsPrinted b = (32 ≤ b) × (b ≢ 127)
+
+record IsPrintedText (latin text : List ℕ) : Type 0 where
+  utf8 : IsUtf8 text
+  least : length latin ≤ length text
+  most : length text ≤ 2 * length latin
+  printed : All IsPrinted text
+
+scalar_text : (c : ℕ) → c < 55296 → IsUtf8 (encode_utf8 c)
+scalar_text c low = IsUtf8-encode c (low_scalar c low)
+
+two_bytes : (c : ℕ) → 128 ≤ c → c ≤ 255 → encode_utf8 c ≡ (192 + c / 64) ∷ (128 + c % 64) ∷ []
+unfolding encode
+two_bytes c least most =
+    let wide : c < 2048 = omega arith in
+    let low : c / 64 % 64 ≡ c / 64 = omega arith in
+    rw (le-ltb c 128 least, lt-ltb c 2048 wide) refl
+
+printed_byte : (c : ℕ) → IsNameByte c → IsPrintedText (c ∷ []) (encode_utf8 c)
+printed_byte c (inl ascii) =
+    rw (encode_ascii c (omega (arith, ascii.1))) (record {
+      utf8 = rw (encode_ascii c (omega (arith, ascii.1))) at (scalar_text c (omega (arith, ascii.1)));
+      least = omega arith;
+      most = omega arith;
+      printed = All-cons IsPrinted c [] (ascii.0, λ e. omega (arith, ascii.1, e)) (All-nil IsPrinted);
+    })
+printed_byte c (inr wide) =
+    rw (two_bytes c wide.0 wide.1) (record {
+      utf8 = rw (two_bytes c wide.0 wide.1) at (scalar_text c (omega (arith, wide.1)));
+      least = omega arith;
+      most = omega arith;
+      printed = All-cons IsPrinted (192 + c / 64) ((128 + c % 64) ∷ []) (omega arith, λ e. omega (arith, e)) (All-cons IsPrinted (128 + c % 64) [] (omega arith, λ e. omega (arith, wide.0, wide.1, e)) (All-nil IsPrinted));
+    })
+
+printed_all : (latin : List ℕ) → All IsNameByte latin → IsPrintedText latin (encode_utf8_all latin)
+printed_all [] all = record { utf8 = IsUtf8-nil; least = omega arith; most = omega arith; printed = All-nil IsPrinted }
+printed_all (c ∷ latin) all =
+    let one = printed_byte c (All-head IsNameByte c latin all) in
+    let rest = printed_all latin (All-tail IsNameByte c latin all) in
+    let least = one.least in
+    let most = one.most in
+    let rest_least = rest.least in
+    let rest_most = rest.most in
+    let both = length-append (encode_utf8 c) (encode_utf8_all latin) in
+    record {
+      utf8 = IsUtf8-append (encode_utf8 c) (encode_utf8_all latin) one.utf8 rest.utf8;
+      least = omega (arith, both);
+      most = omega (arith, both);
+      printed = All-append IsPrinted (encode_utf8 c) (encode_utf8_all latin) one.printed rest.printed;
+    }
+
+station_name : (name : List ℕ) → IsName 200 name → IsStationName name
+station_name name is =
+    let printed = printed_all is.latin is.printable in
+    let some = is.some in
+    let short = is.short in
+    let least = printed.least in
+    let most = printed.most in
+    rw is.spelled (record { text = printed.utf8; some = omega arith; short = omega arith; printed = printed.printed })
+
+row_name : (name : List ℕ) → IsTableName name → IsStationName name
+row_name name is = record { text = is.text; some = is.some; short = is.short; printed = is.printable }
+
+-- ---- a name that an entry has
+
+named_within : (T : Type 0) (name_of : T → List ℕ) (name : List ℕ) (xs : List T) → All (λ x. IsStationName (name_of x)) xs → position_or_len (λ x. bytes_eq (name_of x) name) xs < length xs → IsStationName name
+named_within T name_of name [] all within = absurd (omega arith)
+named_within T name_of name (x ∷ xs) all within = by_test (bytes_eq (name_of x) name)
+    (λ same.
+    let is = (bytes_eq-Decides (name_of x) name).0 same in
+    rw (← is) (All-head (λ (y : T). IsStationName (name_of y)) x xs all))
+    (λ other.
+    let more = rw other at within in
+    named_within T name_of name xs (All-tail (λ (y : T). IsStationName (name_of y)) x xs all) (omega (arith, more)))
+
+none_some : (k : ℕ) → (let o : Option ℕ = None in o) ≡ Some k → ⊥
+none_some k e = cc
+
+named_at : (T : Type 0) (name_of : T → List ℕ) (name : List ℕ) (xs : List T) (place : ℕ) → All (λ x. IsStationName (name_of x)) xs → position (λ x. bytes_eq (name_of x) name) xs ≡ Some place → IsStationName name
+named_at T name_of name xs place all is =
+    let test : T → Bool = λ x. bytes_eq (name_of x) name in
+    by_test (nat_lt (position_or_len test xs) (length xs))
+    (λ within. named_within T name_of name xs all (grind (arith, nat_tests)))
+    (λ beyond. absurd (none_some place (rw beyond at is)))
+
+stations_named : (count : ℕ) (stations : List Station) → All (IsStation count) stations → All (λ (s : Station). IsStationName s.name) stations
+stations_named count [] all = All-nil (λ (s : Station). IsStationName s.name)
+stations_named count (s ∷ stations) all =
+    All-cons (λ (t : Station). IsStationName t.name) s stations
+    (station_name s.name (All-head (IsStation count) s stations all).name)
+    (stations_named count stations (All-tail (IsStation count) s stations all))
+
+rows_named : (rows : List Offsets) → All IsOffsets rows → All (λ (o : Offsets). IsStationName o.name) rows
+rows_named [] all = All-nil (λ (o : Offsets). IsStationName o.name)
+rows_named (o ∷ rows) all =
+    All-cons (λ (p : Offsets). IsStationName p.name) o rows
+    (row_name o.name (All-head IsOffsets o rows all).name)
+    (rows_named rows (All-tail IsOffsets o rows all))
+
+-- ---- a name with a site
+
+of_row : (book : Book) (table : List Offsets) (name : List ℕ) (basis : Basis) (place : Option ℕ) → IsTable table → row_at table name ≡ place → basis_in book table name ≡ Ok basis → IsStationName name
+unfolding basis_in
+of_row book table name basis (Some place) is found ok = named_at Offsets (λ (o : Offsets). o.name) name table place (rows_named table is.each) found
+of_row book table name basis None is found ok = absurd (let none = rw found at ok in cc)
+
+of_station : (book : Book) (table : List Offsets) (name : List ℕ) (basis : Basis) (place : Option ℕ) → IsBook book → IsTable table → station_at book name ≡ place → reference_or (basis_in book table name) place ≡ Ok basis → IsStationName name
+of_station book table name basis (Some place) is rows found ok =
+    named_at Station (λ (s : Station). s.name) name book.stations place (stations_named _ book.stations is.stations) found
+of_station book table name basis None is rows found ok = of_row book table name basis (row_at table name) rows refl ok
+
+of_basis : (book : Book) (table : List Offsets) (name : List ℕ) (basis : Basis) → IsBook book → IsTable table → basis_of book table name ≡ Ok basis → IsStationName name
+unfolding basis_of
+of_basis book table name basis is rows ok = of_station book table name basis (station_at book name) is rows refl ok
+
+named_by : (book : Book) (table : List Offsets) (name : List ℕ) (next : Basis → Result Site Refusal) (site : Site) (found : Result Basis FindFault) → IsBook book → IsTable table → basis_of book table name ≡ found → (basis_from found >>= next) ≡ Ok site → IsStationName name
+named_by book table name next site (Ok basis) is rows found ok = of_basis book table name basis is rows found
+named_by book table name next site (Err fault) is rows found ok = absurd cc
+
+pub site_name : (reach : Reach) (book : Book) (table : List Offsets) (name : List ℕ) (asked : Asked) (site : Site) → IsBook book → IsTable table → site_in reach book table name asked ≡ Ok site → IsStationName name
+unfolding site_in
+site_name reach book table name asked site is rows ok = named_by book table name _ site (basis_of book table name) is rows refl ok

@@ -1,0 +1,250 @@
+-- A site that was found has a tide that predicts it.
+use Rattle.std.proofs.Common.{◌≡◌, ℕ, zero, suc, ◌<◌, ◌≤◌, nat_lt, ℤ, pos, negsuc, ◌-ℤ◌, ◌≤ℤ◌, int_lt, unsigned_abs, Bool, true, false, IsTrue, List, [], ◌∷◌, length, Option, Some, None, Result, Ok, Err, All, slice_get, fold, refl, subst, arith}
+use Rattle.std.specs.Int.{int_max, int_min}
+use Rattle.std.specs.List.{position, position_or_len}
+use Rattle.std.specs.Option.{ForSome, ok_or}
+use Rattle.std.specs.Str.{bytes_eq}
+use Rattle.std.proofs.lemmas.Bool.Decides.{nat_tests}
+use Rattle.std.proofs.lemmas.Int.{ints, clamps}
+use Rattle.std.proofs.lemmas.List.Elements.{All-head, All-tail}
+use Rattle.curve_law.proofs.CoverLemmas.{by_test}
+use Rattle.decimal_text.specs.Expected.{◌>>=◌}
+use Rattle.event_list.specs.Shifts.{HasOffsets, slack_adds, greatest_add, least_add}
+use Rattle.harmonics_text.specs.declared.book.Book.{Book}
+use Rattle.harmonics_text.specs.declared.book.Station.{Station}
+use Rattle.harmonics_text.specs.declared.book.Units.{Units}
+use Rattle.harmonics_text.specs.declared.book.Units.TheVariants.{Feet, Meters, Knots, KnotsSquared}
+use Rattle.harmonics_text.specs.Books.{IsBook, IsStation}
+use Rattle.station_curve.specs.declared.fault.CurveFault.{CurveFault}
+use Rattle.station_curve.specs.Curves.{is_hydraulic, first_fault, tide_or, tide_of, curve_of}
+use Rattle.station_curve.specs.Waves.{Tide}
+use Rattle.station_curve.proofs.Gentle.{gentle_tide}
+use Rattle.station_curve.proofs.Predicting.{predicts_tide}
+use Rattle.station_table.specs.declared.basis.Basis.{Basis}
+use Rattle.station_table.specs.declared.finding.FindFault.{FindFault}
+use Rattle.station_table.specs.declared.finding.FindFault.TheVariants as find
+use Rattle.station_table.specs.declared.offset.Slack.{Slack}
+use Rattle.station_table.specs.declared.offsets.Offsets.{Offsets}
+use Rattle.station_table.specs.Bases.{IsBasis, usual, is_equal, station_at, row_at, reference_or, basis_over, basis_in, basis_of}
+use Rattle.station_table.specs.Offsets.{IsTable, IsOffset, IsOffsets, IsSlack}
+use Rattle.station_span.specs.declared.asked.Asked.{Asked}
+use Rattle.station_span.specs.declared.reach.Reach.{Reach}
+use Rattle.station_span.specs.declared.reach.Reach.TheVariants.{Events}
+use Rattle.tide_fault.specs.declared.refusal.Refusal.TheVariants.{NoStation}
+use Rattle.station_span.specs.declared.station.Found.{Found}
+use Rattle.station_span.specs.Sites.{Site, basis_from, level_unit, reached, has_span, span_in, tide_from, length_in, mark_in, span_limit, site_at, site_in}
+use Rattle.station_span.specs.Workings.Spans.{HasLevels, IsBeside, IsFound, IsNear, IsNearSpan, IsReached}
+use Rattle.station_span.proofs.FoundLemmas.{HasCurve}
+use Rattle.station_span.proofs.SpanLemmas.{book_years, has_offsets, reached_span}
+
+-- ---- what the steps of a site came to
+
+pub then_ok : {A B E : Type 0} (step : Result A E) (next : A → Result B E) (b : B) → (step >>= next) ≡ Ok b → (a : A) × (step ≡ Ok a) × (next a ≡ Ok b)
+then_ok (Ok a) next b ok = (a, refl, ok)
+then_ok (Err fault) next b ok = absurd cc
+
+record WentThrough (reach : Reach) (book : Book) (site : Site) (asked : Asked) : Type 0 where
+  pub units : Units
+  pub tide : Tide
+  pub curve : HasCurve reach book site asked units tide
+  pub few : length_in asked.begin asked.end ≡ Ok tt
+  pub mark : mark_in site.basis asked.mark ≡ Ok tt
+
+site_steps : (reach : Reach) (book : Book) (site result : Site) (asked : Asked) → site_at reach book site asked ≡ Ok result → WentThrough reach book site asked × (site ≡ result)
+unfolding site_at
+site_steps reach book site result asked ok =
+    let unit = then_ok (level_unit site.station.units) _ result ok in
+    let span = then_ok (span_in reach book site.basis asked.begin asked.end) _ result unit.2 in
+    let curve = then_ok (tide_from (curve_of book site.station)) _ result span.2 in
+    let few = then_ok (length_in asked.begin asked.end) _ result curve.2 in
+    let mark = then_ok (mark_in site.basis asked.mark) _ result few.2 in
+    let same : site ≡ result = (let last = mark.2 in cc) in (
+      record {
+        units = unit.0;
+        tide = curve.0;
+        curve = record { unit = unit.1; span = span.1; curve = curve.1 };
+        few = few.1;
+        mark = mark.1;
+      },
+      same,
+    )
+
+record WasFound (reach : Reach) (book : Book) (table : List Offsets) (name : List ℕ) (asked : Asked) (site : Site) : Type 0 where
+  pub basis : basis_from (basis_of book table name) ≡ Ok site.basis
+  pub station : slice_get book.stations site.basis.station ≡ Some site.station
+  pub steps : WentThrough reach book site asked
+
+got_ok : {T E : Type 0} (o : Option T) (fault : E) (x : T) → ok_or o fault ≡ Ok x → o ≡ Some x
+got_ok (Some y) fault x ok = cc
+got_ok None fault x ok = absurd cc
+
+was_found : (reach : Reach) (book : Book) (table : List Offsets) (name : List ℕ) (asked : Asked) (site : Site) → site_in reach book table name asked ≡ Ok site → WasFound reach book table name asked site
+unfolding site_in
+was_found reach book table name asked site ok =
+    let basis = then_ok (basis_from (basis_of book table name)) _ site ok in
+    let station = then_ok (ok_or (slice_get book.stations basis.0.station) NoStation) _ site basis.2 in
+    let steps = site_steps reach book (record { basis = basis.0; station = station.0 }) site asked station.2 in
+    subst (WasFound reach book table name asked) steps.1
+    (record { basis = basis.1; station = got_ok _ NoStation station.0 station.1; steps = steps.0 })
+
+-- ---- each step
+
+unit_levels : (units same : Units) → level_unit units ≡ Ok same → HasLevels units
+unit_levels Feet same ok = tt
+unit_levels Meters same ok = tt
+unit_levels Knots same ok = tt
+unit_levels KnotsSquared same ok = absurd cc
+
+no_fault : (tide : Tide) (fault : Option CurveFault) (same : Tide) → tide_from (tide_or tide fault) ≡ Ok same → fault ≡ None
+no_fault tide None same ok = refl
+no_fault tide (Some fault) same ok = absurd cc
+
+curve_none : (book : Book) (station : Station) (hydraulic : Bool) (tide : Tide) → is_hydraulic station.units ≡ hydraulic → tide_from (curve_of book station) ≡ Ok tide → first_fault book station book.years ≡ None
+unfolding curve_of
+curve_none book station true tide is ok = absurd (let none = rw is at ok in cc)
+curve_none book station false tide is ok = no_fault (tide_of book station) _ tide (rw is at ok)
+
+few_minutes : (begin end : ℤ) → length_in begin end ≡ Ok tt → (end -ℤ begin) ≤ℤ span_limit
+unfolding length_in
+few_minutes begin end ok = by_test (int_lt span_limit (end -ℤ begin))
+    (λ long. absurd (let none = rw long at ok in cc))
+    (λ short. grind (arith, ints))
+
+mark_here : (basis : Basis) (mark : Option ℤ) → mark_in basis mark ≡ Ok tt → ForSome mark (λ level. IsTrue (is_equal basis))
+mark_here basis None ok level is = absurd cc
+mark_here basis (Some mark) ok level is = by_test (is_equal basis)
+    (λ equal. rw equal refl)
+    (λ other. absurd (let none = rw other at ok in cc))
+
+span_tests : (reach : Reach) (book : Book) (basis : Basis) (begin end : ℤ) → span_in reach book basis begin end ≡ Ok tt → (int_lt end begin ≡ false) × (has_span book (reached reach basis begin end) ≡ true)
+unfolding span_in
+span_tests reach book basis begin end ok = by_test (int_lt end begin)
+    (λ backward. absurd (let none = rw backward at ok in cc))
+    (λ forward. by_test (has_span book (reached reach basis begin end))
+    (λ inside. (forward, inside))
+    (λ outside. absurd (let none = rw (forward, outside) at ok in cc)))
+
+-- ---- the basis
+
+placed : {T : Type 0} (test : T → Bool) (xs : List T) (place : ℕ) → position test xs ≡ Some place → place < length xs
+placed test xs place is = by_test (nat_lt (position_or_len test xs) (length xs))
+    (λ within.
+    let same : position_or_len test xs ≡ place = (let some = rw within at is in cc) in
+    rw (← same) (grind (arith, nat_tests)))
+    (λ beyond. absurd (let none = rw beyond at is in cc))
+
+each_got : {T : Type 0} (P : T → Type 0) (xs : List T) (place : ℕ) (x : T) → All P xs → slice_get xs place ≡ Some x → P x
+each_got P [] place x all got = absurd cc
+each_got P (y ∷ ys) zero x all got = let same : y ≡ x = cc in subst P same (All-head P y ys all)
+each_got P (y ∷ ys) (suc place) x all got = each_got P ys place x (All-tail P y ys all) got
+
+usual_offset : IsOffset usual
+usual_offset = record {
+  add = record { least = omega (arith, ints); most = omega (arith, ints) };
+  times = record { least = omega (arith, ints); most = omega (arith, ints) };
+  plus = record { least = omega (arith, ints); most = omega (arith, ints) };
+}
+
+no_slack : ForSome None IsSlack
+no_slack slack is = absurd cc
+
+over_sound : (book : Book) (row : ℕ) (offsets : Offsets) (basis : Basis) (place : Option ℕ) → IsOffsets offsets → station_at book offsets.reference ≡ place → basis_over book row offsets ≡ Ok basis → IsBasis (length book.stations) basis
+unfolding basis_over
+over_sound book row offsets basis (Some station) sound found ok =
+    let same : record { station = station; row = Some row; high = offsets.high; low = offsets.low; slack = offsets.slack } ≡ basis = (let some = rw found at ok in cc) in
+    subst (IsBasis (length book.stations)) same (record {
+      station = placed (λ (s : Station). bytes_eq s.name offsets.reference) book.stations station found;
+      high = sound.high;
+      low = sound.low;
+      slack = sound.slack;
+    })
+over_sound book row offsets basis None sound found ok = absurd (let none = rw found at ok in cc)
+
+in_sound : (book : Book) (table : List Offsets) (name : List ℕ) (basis : Basis) → IsTable table → basis_in book table name ≡ Ok basis → IsBasis (length book.stations) basis
+unfolding basis_in
+in_sound book table name basis is ok =
+    let row = then_ok (ok_or (row_at table name) find.NoStation) _ basis ok in
+    let offsets = then_ok (ok_or (slice_get table row.0) find.NoStation) _ basis row.2 in
+    over_sound book row.0 offsets.0 basis (station_at book offsets.0.reference)
+    (each_got IsOffsets table row.0 offsets.0 is.each (got_ok _ find.NoStation offsets.0 offsets.1)) refl offsets.2
+
+of_sound : (book : Book) (table : List Offsets) (name : List ℕ) (basis : Basis) (place : Option ℕ) → IsTable table → station_at book name ≡ place → reference_or (basis_in book table name) place ≡ Ok basis → IsBasis (length book.stations) basis
+of_sound book table name basis (Some station) is found ok =
+    let same : record { station = station; row = None; high = usual; low = usual; slack = None } ≡ basis = cc in
+    subst (IsBasis (length book.stations)) same (record {
+      station = placed (λ (s : Station). bytes_eq s.name name) book.stations station found;
+      high = usual_offset;
+      low = usual_offset;
+      slack = no_slack;
+    })
+of_sound book table name basis None is found ok = in_sound book table name basis is ok
+
+basis_ok : (result : Result Basis FindFault) (basis : Basis) → basis_from result ≡ Ok basis → result ≡ Ok basis
+basis_ok (Ok found) basis ok = cc
+basis_ok (Err fault) basis ok = absurd cc
+
+basis_sound : (book : Book) (table : List Offsets) (name : List ℕ) (basis : Basis) → IsTable table → basis_from (basis_of book table name) ≡ Ok basis → IsBasis (length book.stations) basis
+unfolding basis_of
+basis_sound book table name basis is ok =
+    of_sound book table name basis (station_at book name) is refl (basis_ok _ basis ok)
+
+-- ---- the minutes that are looked at
+
+record AreAdds (low high : ℤ) : Type 0 where
+  pub least : negsuc 1439 ≤ℤ low
+  pub ordered : low ≤ℤ high
+  pub most : high ≤ℤ pos 1440
+
+adds_near : (high low : ℤ) (slack : Option Slack) → unsigned_abs high ≤ 1440 → unsigned_abs low ≤ 1440 → ForSome slack IsSlack → AreAdds (fold int_min high (low ∷ slack_adds slack)) (fold int_max high (low ∷ slack_adds slack))
+adds_near high low None h l s = record { least = omega (arith, ints, clamps); ordered = omega (arith, ints, clamps); most = omega (arith, ints, clamps) }
+adds_near high low (Some slack) h l s =
+    let both = s slack refl in
+    let flood = both.flood_add in
+    let ebb = both.ebb_add in
+    record { least = omega (arith, ints, clamps); ordered = omega (arith, ints, clamps); most = omega (arith, ints, clamps) }
+
+basis_adds : (basis : Basis) → HasOffsets basis → AreAdds (least_add basis) (greatest_add basis)
+basis_adds basis has =
+    let high = has.high.add in
+    let low = has.low.add in
+    adds_near basis.high.add basis.low.add basis.slack (omega (arith, ints)) (omega (arith, ints)) has.slack
+
+span_near : (begin end least greatest : ℤ) → begin ≤ℤ end → unsigned_abs begin ≤ 20000000000 → unsigned_abs end ≤ 20000000000 → AreAdds least greatest → IsNearSpan (record { begin = begin -ℤ greatest; end = end -ℤ least }) × IsBeside begin end (record { begin = begin -ℤ greatest; end = end -ℤ least })
+span_near begin end least greatest forward b e adds =
+    let low = adds.least in
+    let mid = adds.ordered in
+    let high = adds.most in (
+      record { forward = omega (arith, ints); begin = omega (arith, ints); end = omega (arith, ints) },
+      record { begins = omega (arith, ints); ends = omega (arith, ints) },
+    )
+
+events_reached : (book : Book) (basis : Basis) (asked : Asked) → HasOffsets basis → IsNear asked → span_in Events book basis asked.begin asked.end ≡ Ok tt → IsReached Events book basis asked.begin asked.end
+events_reached book basis asked has near ok =
+    let tests = span_tests Events book basis asked.begin asked.end ok in
+    let forward : asked.begin ≤ℤ asked.end = (let test = tests.0 in grind (arith, ints)) in
+    let both = span_near asked.begin asked.end (least_add basis) (greatest_add basis) forward near.begin near.end (basis_adds basis has) in
+    reached_span Events book basis asked.begin asked.end tests.0 tests.1 both.0 both.1
+
+-- ---- a site that was found has a tide that predicts it
+
+abbrev pub found_at : Book → Site → Found
+found_at book site = record { basis = site.basis; units = site.station.units; curve = tide_of book site.station }
+
+pub found_of_site : (book : Book) (table : List Offsets) (name : List ℕ) (asked : Asked) (site : Site) → IsBook book → IsTable table → IsNear asked → site_in Events book table name asked ≡ Ok site → IsFound Events book asked site (found_at book site)
+found_of_site book table name asked site is rows near ok =
+    let was = was_found Events book table name asked site ok in
+    let steps = was.steps in
+    let sound = basis_sound book table name site.basis rows was.basis in
+    let station = each_got (IsStation (length book.constituents)) book.stations site.basis.station site.station is.stations was.station in
+    record {
+      basis = refl;
+      sound = sound;
+      units = refl;
+      levels = unit_levels site.station.units steps.units steps.curve.unit;
+      predicts = predicts_tide book site.station is;
+      gentle = gentle_tide book site.station is station (curve_none book site.station _ steps.tide refl steps.curve.curve);
+      years = book_years book is;
+      span = events_reached book site.basis asked (has_offsets _ site.basis sound) near steps.curve.span;
+      few = few_minutes asked.begin asked.end steps.few;
+      mark = mark_here site.basis asked.mark steps.mark;
+    }

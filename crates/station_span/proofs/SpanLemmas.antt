@@ -1,0 +1,71 @@
+-- Where the minutes of a span lie.
+use Rattle.std.proofs.Common.{◌≡◌, ℕ, ℤ, pos, ◌+ℤ◌, int_lt, Bool, true, false, ◌&&◌, refl, arith}
+use Rattle.std.proofs.lemmas.Int.{ints}
+use Rattle.event_list.specs.Shifts.{HasOffsets}
+use Rattle.jiff_core.proofs.SignedLemmas.{signed_arith}
+use Rattle.harmonics_text.specs.declared.book.Book.{Book}
+use Rattle.harmonics_text.specs.Books.{IsBook}
+use Rattle.station_table.specs.declared.basis.Basis.{Basis}
+use Rattle.station_table.specs.Bases.{IsBasis}
+use Rattle.year_blend.specs.Places.{AreYears, InDomain}
+use Rattle.year_blend.specs.Years.{year_start_of}
+use Rattle.year_blend.proofs.YearLemmas.{year_start_of_low, year_start_of_high, year_start_of_mono}
+use Rattle.zone_time.specs.Moments.{IsMoment}
+use Rattle.station_span.specs.declared.reach.Reach.{Reach}
+use Rattle.station_span.specs.Sites.{reached, has_minute, has_span}
+use Rattle.station_span.specs.Workings.Spans.{IsBeside, IsFileMinute, IsNearSpan, IsReached}
+
+-- the minutes of a file's years have dates
+pub file_minute : (first_year : ℤ) (years : ℕ) (m : ℤ) → AreYears first_year years → InDomain first_year years m → IsFileMinute m
+file_minute first_year years m are inside =
+    let low = year_start_of_low first_year are.least in
+    let high = year_start_of_high (first_year +ℤ pos years) (omega (arith, ints)) (omega (arith, ints)) in
+    let least = inside.least in
+    let most = inside.most in
+    record { least = omega (arith, ints); most = omega (arith, ints) }
+
+-- what the tests of a span say
+in_domain : (book : Book) (minute : ℤ) → has_minute book minute ≡ true → InDomain book.first_year book.years minute
+in_domain book minute inside = record { least = grind (arith, ints); most = grind (arith, ints) }
+
+both_true : (a b : Bool) → (a && b) ≡ true → (a ≡ true) × (b ≡ true)
+both_true true true h = (refl, refl)
+both_true true false h = (refl, h)
+both_true false b h = (h, absurd (cc))
+
+pub reached_span : (reach : Reach) (book : Book) (basis : Basis) (begin end : ℤ) → int_lt end begin ≡ false → has_span book (reached reach basis begin end) ≡ true → IsNearSpan (reached reach basis begin end) → IsBeside begin end (reached reach basis begin end) → IsReached reach book basis begin end
+reached_span reach book basis begin end forward inside near beside =
+    let both = both_true _ _ inside in
+    record { forward = grind (arith, ints); begins = in_domain book _ both.0; ends = in_domain book _ both.1; near = near; beside = beside }
+
+pub has_offsets : (stations : ℕ) (basis : Basis) → IsBasis stations basis → HasOffsets basis
+has_offsets stations basis is = record { high = is.high; low = is.low; slack = is.slack }
+
+pub book_years : (book : Book) → IsBook book → AreYears book.first_year book.years
+book_years book is = record {
+  least = is.first_year.least;
+  most = is.first_year.most;
+  some = is.some_years;
+  few = is.few_years;
+}
+
+moment : (first_year : ℤ) (years : ℕ) (m : ℤ) → AreYears first_year years → InDomain first_year years m → IsMoment m
+moment first_year years m are inside =
+    let file = file_minute first_year years m are inside in
+    let least = file.least in
+    let most = file.most in
+    record { first = omega (arith, ints); last = omega (arith, ints) }
+
+pub first_moment : (book : Book) → IsBook book → IsMoment (year_start_of book.first_year)
+first_moment book is =
+    let are = book_years book is in
+    let low = are.least in
+    let later = year_start_of_mono book.first_year (book.first_year +ℤ pos book.years) (omega (arith, signed_arith)) (omega (arith, ints)) in
+    moment book.first_year book.years _ are (record { least = omega (arith, ints); most = later })
+
+pub last_moment : (book : Book) → IsBook book → IsMoment (year_start_of (book.first_year +ℤ pos book.years))
+last_moment book is =
+    let are = book_years book is in
+    let low = are.least in
+    let later = year_start_of_mono book.first_year (book.first_year +ℤ pos book.years) (omega (arith, signed_arith)) (omega (arith, ints)) in
+    moment book.first_year book.years _ are (record { least = later; most = omega (arith, ints) })

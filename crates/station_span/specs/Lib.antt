@@ -1,0 +1,4 @@
+pub mod Following
+pub mod Levels
+pub mod Sites
+pub mod Workings

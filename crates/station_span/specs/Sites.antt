@@ -1,0 +1,104 @@
+-- The steps that every question about a station's span goes through, in the order of refusals (this project).
+use Rattle.std.specs.Prelude.{ℕ, ℤ, pos, ◌+ℤ◌, ◌-ℤ◌, int_lt, int_le, Bool, ◌&&◌, if◌then◌else◌, List, Option, Some, None, Result, Ok, Err, slice_get}
+use Rattle.std.specs.Option.{ok_or}
+use Rattle.decimal_text.specs.Expected.{◌>>=◌}
+use Rattle.event_list.specs.declared.span.Span.{Span}
+use Rattle.event_list.specs.Shifts.{widened_of}
+use Rattle.harmonics_text.specs.declared.book.Book.{Book}
+use Rattle.harmonics_text.specs.declared.book.Station.{Station}
+use Rattle.harmonics_text.specs.declared.book.Units.{Units}
+use Rattle.harmonics_text.specs.declared.book.Units.TheVariants.{Feet, Meters, Knots, KnotsSquared}
+use Rattle.station_curve.specs.declared.fault.CurveFault.{CurveFault}
+use Rattle.station_curve.specs.Curves.{curve_of}
+use Rattle.station_curve.specs.Waves.{Tide}
+use Rattle.station_table.specs.declared.basis.Basis.{Basis}
+use Rattle.station_table.specs.declared.finding.FindFault.{FindFault}
+use Rattle.station_table.specs.declared.offsets.Offsets.{Offsets}
+use Rattle.station_table.specs.Bases.{basis_of, is_equal}
+use Rattle.year_blend.specs.Years.{year_start_of}
+use Rattle.station_span.specs.declared.asked.Asked.{Asked}
+use Rattle.station_span.specs.declared.reach.Reach.{Reach}
+use Rattle.station_span.specs.declared.reach.Reach.TheVariants.{Events, Levels}
+use Rattle.tide_fault.specs.declared.refusal.Refusal.{Refusal}
+use Rattle.tide_fault.specs.declared.refusal.Refusal.TheVariants.{NoStation, Hydraulic, BackwardSpan, OutOfYears, SpanTooLong, MarkNotHere}
+use Rattle.tide_fault.specs.Faults.{refusal_of_curve, refusal_of_find}
+
+-- a station of a book, and the offsets from it
+pub record Site : Type 0 where
+  pub basis : Basis
+  pub station : Station
+
+-- the most minutes of a span
+abbrev pub span_limit : ℤ
+span_limit = pos 5270400
+
+-- ---- each step
+
+-- the basis of a name
+abbrev pub basis_from : Result Basis FindFault → Result Basis Refusal
+basis_from (Ok basis) = Ok basis
+basis_from (Err fault) = Err (refusal_of_find fault)
+
+-- a unit of levels, or of a current's speed; a hydraulic current has no level
+abbrev pub level_unit : Units → Result Units Refusal
+level_unit Feet = Ok Feet
+level_unit Meters = Ok Meters
+level_unit Knots = Ok Knots
+level_unit KnotsSquared = Err Hydraulic
+
+-- the minutes of the reference that are looked at: for events all that offsets can move into the span, and for levels,
+-- where all have one offset, the span itself moved by it
+abbrev pub reached : Reach → Basis → ℤ → ℤ → Span
+reached Events basis begin end = widened_of basis begin end
+reached Levels basis begin end =
+    if is_equal basis then record { begin = begin -ℤ basis.high.add; end = end -ℤ basis.high.add }
+    else widened_of basis begin end
+
+-- whether a minute is one of the file's years, or the one after the last
+abbrev pub has_minute : Book → ℤ → Bool
+has_minute book minute =
+    int_le (year_start_of book.first_year) minute
+    && int_le minute (year_start_of (book.first_year +ℤ pos book.years))
+
+abbrev pub has_span : Book → Span → Bool
+has_span book span = has_minute book span.begin && has_minute book span.end
+
+-- a span that isn't backward, of which the file has the minutes that are looked at
+unfoldable pub span_in : Reach → Book → Basis → ℤ → ℤ → Result (Unit {0}) Refusal
+span_in reach book basis begin end =
+    if int_lt end begin then Err BackwardSpan
+    else if has_span book (reached reach basis begin end) then Ok tt
+    else Err (OutOfYears (year_start_of book.first_year) (year_start_of (book.first_year +ℤ pos book.years)))
+
+-- a tide within the limits
+abbrev pub tide_from : Result Tide CurveFault → Result Tide Refusal
+tide_from (Ok tide) = Ok tide
+tide_from (Err fault) = Err (refusal_of_curve fault)
+
+-- a span that isn't too long
+unfoldable pub length_in : ℤ → ℤ → Result (Unit {0}) Refusal
+length_in begin end =
+    if int_lt span_limit (end -ℤ begin) then Err (SpanTooLong (end -ℤ begin)) else Ok tt
+
+-- a mark is asked only where highs and lows have the same offsets
+abbrev pub mark_in : Basis → Option ℤ → Result (Unit {0}) Refusal
+mark_in basis None = Ok tt
+mark_in basis (Some mark) = if is_equal basis then Ok tt else Err MarkNotHere
+
+-- ---- all of them
+
+unfoldable pub site_at : Reach → Book → Site → Asked → Result Site Refusal
+site_at reach book site asked = do
+  units ← level_unit site.station.units
+  span ← span_in reach book site.basis asked.begin asked.end
+  tide ← tide_from (curve_of book site.station)
+  few ← length_in asked.begin asked.end
+  mark ← mark_in site.basis asked.mark
+  Ok site
+
+-- the station of a name, where what is asked of it has an answer
+unfoldable pub site_in : Reach → Book → List Offsets → List ℕ → Asked → Result Site Refusal
+site_in reach book table name asked = do
+  basis ← basis_from (basis_of book table name)
+  station ← ok_or (slice_get book.stations basis.station) NoStation
+  site_at reach book (record { basis = basis; station = station }) asked

@@ -1,0 +1,4 @@
+pub mod Curves
+pub mod Levels
+pub mod Spans
+pub mod Telling

@@ -1,0 +1,80 @@
+-- What the steps of an answer hand on to each other.
+use Rattle.std.specs.Prelude.{◌≡◌, ℤ, negsuc, pos, ◌-ℤ◌, ◌≤ℤ◌, ◌≤◌, unsigned_abs, length, IsTrue, Result, Ok, Err}
+use Rattle.std.specs.Option.{ForSome}
+use Rattle.decimal_text.specs.Expected.{Excused}
+use Rattle.event_list.specs.declared.span.Span.{Span}
+use Rattle.harmonics_text.specs.declared.book.Book.{Book}
+use Rattle.harmonics_text.specs.declared.book.Units.{Units}
+use Rattle.harmonics_text.specs.declared.book.Units.TheVariants.{Feet, Meters, Knots, KnotsSquared}
+use Rattle.station_curve.specs.Curves.{Predicts}
+use Rattle.station_curve.specs.Limits.{IsGentle}
+use Rattle.station_table.specs.declared.basis.Basis.{Basis}
+use Rattle.station_table.specs.Bases.{IsBasis, is_equal}
+use Rattle.year_blend.specs.Places.{AreYears, InDomain}
+use Rattle.zone_time.specs.Moments.{IsMoment}
+use Rattle.station_span.specs.declared.asked.Asked.{Asked}
+use Rattle.station_span.specs.declared.reach.Reach.{Reach}
+use Rattle.tide_fault.specs.declared.refusal.Refusal.{Refusal}
+use Rattle.station_span.specs.declared.station.Found.{Found}
+use Rattle.tide_fault.specs.Faults.{wants_memory_of_refusal}
+use Rattle.station_span.specs.Sites.{Site, reached, span_limit}
+
+-- a span that a question, a certificate or a clock can name
+pub record IsNear (asked : Asked) : Type 0 where
+  pub begin : unsigned_abs asked.begin ≤ 20000000000
+  pub end : unsigned_abs asked.end ≤ 20000000000
+  pub mark : ForSome asked.mark (λ level. unsigned_abs level ≤ 10000000000)
+
+-- a span that isn't backward or far from 1970
+pub record IsNearSpan (s : Span) : Type 0 where
+  pub forward : s.begin ≤ℤ s.end
+  pub begin : unsigned_abs s.begin ≤ 100000000000
+  pub end : unsigned_abs s.end ≤ 100000000000
+
+-- a span whose ends have a text
+pub record AreMoments (asked : Asked) : Type 0 where
+  pub begin : IsMoment asked.begin
+  pub end : IsMoment asked.end
+
+-- a span whose ends are at most a day from two minutes
+pub record IsBeside (begin end : ℤ) (s : Span) : Type 0 where
+  pub begins : unsigned_abs (s.begin -ℤ begin) ≤ 1440
+  pub ends : unsigned_abs (s.end -ℤ end) ≤ 1440
+
+-- a span that isn't backward, of which the book has the minutes that are looked at
+pub record IsReached (reach : Reach) (book : Book) (basis : Basis) (begin end : ℤ) : Type 0 where
+  pub forward : begin ≤ℤ end
+  pub begins : InDomain book.first_year book.years (reached reach basis begin end).begin
+  pub ends : InDomain book.first_year book.years (reached reach basis begin end).end
+  pub near : IsNearSpan (reached reach basis begin end)
+  pub beside : IsBeside begin end (reached reach basis begin end)
+
+-- any but a hydraulic current has levels
+abbrev pub HasLevels : Units → Type 0
+HasLevels Feet = Unit {0}
+HasLevels Meters = Unit {0}
+HasLevels Knots = Unit {0}
+HasLevels KnotsSquared = ⊥
+
+-- a minute from the begin of the year 2 to that of the year 9300
+pub record IsFileMinute (minute : ℤ) : Type 0 where
+  pub least : negsuc 1035067679 ≤ℤ minute
+  pub most : minute ≤ℤ pos 3855208320
+
+-- what was found of a site: its curve predicts it over the minutes that are looked at
+pub record IsFound (reach : Reach) (book : Book) (asked : Asked) (site : Site) (found : Found) : Type 0 where
+  pub basis : found.basis ≡ site.basis
+  pub sound : IsBasis (length book.stations) found.basis
+  pub units : found.units ≡ site.station.units
+  pub levels : HasLevels found.units
+  pub predicts : Predicts book site.station found.curve
+  pub gentle : IsGentle found.curve
+  pub years : AreYears book.first_year book.years
+  pub span : IsReached reach book found.basis asked.begin asked.end
+  pub few : (asked.end -ℤ asked.begin) ≤ℤ span_limit
+  pub mark : ForSome asked.mark (λ level. IsTrue (is_equal found.basis))
+
+-- the expected site was found, or the expected refusal given
+abbrev pub FindsIn : Reach → Book → Asked → Result Site Refusal → Result Found Refusal → Type 0
+FindsIn reach book asked expected (Ok found) = (site : Site) × (expected ≡ Ok site) × IsFound reach book asked site found
+FindsIn reach book asked expected (Err refusal) = Excused (wants_memory_of_refusal refusal) expected refusal

@@ -1,0 +1,89 @@
+//! The curves of a station, with the rates of a version.
+
+ghost use Rattle.std.specs.Prelude.{◌≡◌, ◌≤◌, unsigned_abs, option_map};
+ghost use Rattle.std.specs.Option.{ForSome};
+ghost use Rattle.event_list.specs.Shifts.{HasOffsets};
+ghost use Rattle.rate_bound.specs.Meanings.{turn_meaning};
+ghost use Rattle.station_span.specs.Following.{asks_slack, slack_times, slack_plus};
+ghost use Rattle.station_span.specs.Workings.Telling.{tide_slack, tide_mark};
+
+use crate::station::Found;
+use curve_law::Curve;
+use harmonics_text::Units;
+use rate_bound::{MarkCurve, TurnCurve, Version};
+use station_table::Basis;
+
+/// High and low waters, or the greatest and least streams.
+pub fn turn_curve<'a>(found: &'a Found, version: Version) -> TurnCurve<'a>
+    ensures meaning { ⟦<TurnCurve<'a> as Curve>⟧.meaning result ≡ turn_meaning version found.now.curve }
+    ensures fresh { ⟦<TurnCurve<'a> as Curve>⟧.count result ≡ 0 }
+{
+    TurnCurve::new(&found.curve, version)
+}
+
+/// Where a current turns, if that is asked.
+pub fn slack_curve<'a>(found: &'a Found, version: Version) -> Option<MarkCurve<'a>>
+    requires { HasOffsets found.now.basis }
+    ensures meaning { option_map ⟦<MarkCurve<'a> as Curve>⟧.meaning result ≡ tide_slack version found.now }
+    ensures fresh { ForSome result (λ curve. ⟦<MarkCurve<'a> as Curve>⟧.count curve ≡ 0) }
+{
+    let basis = &found.basis;
+    if !asks_slack(found.units, basis) {
+        return None;
+    }
+    let times = slack_times(basis);
+    let plus = slack_plus(basis);
+    Some(MarkCurve::new(&found.curve, version, times, plus, 0, true))
+}
+
+/// Where the level passes the mark, if there is one.
+pub fn mark_curve<'a>(
+    found: &'a Found,
+    version: Version,
+    mark: Option<i64>,
+) -> Option<MarkCurve<'a>>
+    requires offsets { HasOffsets found.now.basis }
+    requires mark { ForSome mark (λ level. unsigned_abs level ≤ 10000000000) }
+    ensures meaning { option_map ⟦<MarkCurve<'a> as Curve>⟧.meaning result ≡ tide_mark version found.now mark }
+    ensures fresh { ForSome result (λ curve. ⟦<MarkCurve<'a> as Curve>⟧.count curve ≡ 0) }
+{
+    match mark {
+        Some(level) => {
+            let high = &found.basis.high;
+            Some(MarkCurve::new(&found.curve, version, high.times, high.plus, level, false))
+        }
+        None => None,
+    }
+}
+
+// Whether slack water is asked of a station.
+fn asks_slack(units: Units, basis: &Basis) -> bool
+    ensures { result ≡ asks_slack units basis.now }
+{
+    match units {
+        Units::Knots => basis.slack.is_some() || basis.equal(),
+        _ => false,
+    }
+}
+
+// What a slack's level is of the reference's, in millionths.
+fn slack_times(basis: &Basis) -> i64
+    ensures { result ≡ slack_times basis.now }
+{
+    if basis.slack.is_some() {
+        1_000_000
+    } else {
+        basis.high.times
+    }
+}
+
+// What is added to it.
+fn slack_plus(basis: &Basis) -> i64
+    ensures { result ≡ slack_plus basis.now }
+{
+    if basis.slack.is_some() {
+        0
+    } else {
+        basis.high.plus
+    }
+}

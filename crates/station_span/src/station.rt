@@ -1,0 +1,277 @@
+//! The steps of a question about a station's span, in the order of refusals.
+
+ghost use Rattle.std.specs.Prelude.{◌≡◌, ℕ, ◌<◌, ◌≤◌, pos, ◌+ℤ◌, ◌-ℤ◌, ◌≤ℤ◌, [], length, unsigned_abs, int_lt, IsTrue, Some, IfOk, IfErr, OnOk, slice_get};
+ghost use Rattle.std.specs.Option.{ForSome};
+ghost use Rattle.decimal_text.specs.Expected.{Gives};
+ghost use Rattle.event_list.specs.Shifts.{HasOffsets};
+ghost use Rattle.harmonics_text.specs.Books.{IsBook};
+ghost use Rattle.station_curve.specs.Curves.{curve_of, Predicts};
+ghost use Rattle.station_curve.specs.Limits.{IsGentle};
+ghost use Rattle.station_table.specs.Bases.{IsBasis, basis_of, is_equal};
+ghost use Rattle.station_table.specs.Offsets.{IsTable};
+ghost use Rattle.tide_fault.specs.Faults.{wants_memory_of_refusal, IsToldRefusal};
+ghost use Rattle.station_span.specs.Sites.{basis_from, site_in, site_at, level_unit, reached, has_minute, has_span, span_in, length_in, mark_in, span_limit, tide_from};
+ghost use Rattle.station_span.specs.Workings.Spans.{IsBeside, IsNear, IsNearSpan, HasLevels, IsReached, FindsIn};
+ghost use Rattle.year_blend.specs.Places.{InDomain};
+ghost use Rattle.year_blend.specs.Years.{year_start_of};
+ghost use Rattle.zone_time.specs.Moments.{IsMoment};
+
+use crate::asked::Asked;
+use crate::reach::Reach;
+use decimal_text::Text;
+use event_list::{Span, widened};
+use harmonics_text::{Book, Station, Units};
+use station_curve::StationCurve;
+use station_table::{Basis, OffsetTable, find};
+use std::alloc::Global;
+use tide_fault::Refusal;
+use year_blend::year_start;
+
+/// The most minutes of a span.
+const SPAN_LIMIT: i64 = 5_270_400;
+
+/// A station that is asked about: the offsets from its reference, and the reference's unit and curve.
+#[derive(Debug, Drop)]
+pub struct Found {
+    pub basis: Basis,
+    pub units: Units,
+    pub curve: StationCurve,
+}
+
+/// The station of a name with a span of it that has an answer, or the first refusal: the station, its
+/// unit, the span, the limits, the mark.
+#[tactic(auto, unfolding(crate::specs::Sites::site_in))]
+pub fn find_station(
+    alloc: Global,
+    book: &Book,
+    table: &OffsetTable,
+    reach: Reach,
+    name: &Text,
+    asked: &Asked,
+) -> Result<Found, Refusal>
+    requires book { IsBook book.now }
+    requires table { IsTable table.now }
+    requires near { IsNear asked.now }
+    ensures exact { FindsIn reach book.now asked.now (site_in reach book.now table.now name.now asked.now) result }
+    ensures told { IfErr result (IsToldRefusal table.now) }
+{
+    let basis = find_basis(book, table, name)?;
+    let station = station_at(book, basis.station);
+    find_at(alloc, book, reach, basis, station, asked)
+}
+
+fn find_basis(book: &Book, table: &OffsetTable, name: &Text) -> Result<Basis, Refusal>
+    requires book { IsBook book.now }
+    requires table { IsTable table.now }
+    ensures exact { result ≡ basis_from (basis_of book.now table.now name.now) }
+    ensures sound { IfOk result (IsBasis (length book.now.stations)) }
+    ensures told { IfErr result (IsToldRefusal table.now) }
+{
+    match find(book, table, name) {
+        Ok(basis) => Ok(basis),
+        Err(fault) => Err(Refusal::from(fault)),
+    }
+}
+
+// The same for a station by its basis.
+#[tactic(auto, unfolding(crate::specs::Sites::site_at))]
+fn find_at(
+    alloc: Global,
+    book: &Book,
+    reach: Reach,
+    basis: Basis,
+    station: &Station,
+    asked: &Asked,
+) -> Result<Found, Refusal>
+    requires book { IsBook book.now }
+    requires basis { IsBasis (length book.now.stations) basis }
+    requires place { slice_get book.now.stations basis.station ≡ Some station.now }
+    requires near { IsNear asked.now }
+    ensures exact { FindsIn reach book.now asked.now (site_at reach book.now (record { basis = basis; station = station.now }) asked.now) result }
+    ensures told { IfErr result (IsToldRefusal []) }
+{
+    let units = level_units(station.units)?;
+    check_span(book, reach, &basis, asked)?;
+    let curve = curve_at(alloc, book, basis.station, station)?;
+    check_length(asked)?;
+    check_mark(&basis, asked)?;
+    Ok(Found {
+        basis,
+        units,
+        curve,
+    })
+}
+
+fn station_at(book: &Book, place: u32) -> &Station
+    requires { place < length book.now.stations }
+    ensures { slice_get book.now.stations place ≡ Some result.now }
+{
+    &book.stations.as_slice()[place as usize]
+}
+
+fn level_units(units: Units) -> Result<Units, Refusal>
+    ensures exact { result ≡ level_unit units }
+    ensures levels { IfOk result HasLevels }
+    ensures same { IfOk result (λ same. same ≡ units) }
+    ensures told { IfErr result (IsToldRefusal []) }
+{
+    match units {
+        Units::Feet => Ok(Units::Feet),
+        Units::Meters => Ok(Units::Meters),
+        Units::Knots => Ok(Units::Knots),
+        Units::KnotsSquared => Err(Refusal::Hydraulic),
+    }
+}
+
+#[tactic(auto, unfolding(crate::specs::Sites::span_in))]
+fn check_span(book: &Book, reach: Reach, basis: &Basis, asked: &Asked) -> Result<(), Refusal>
+    requires book { IsBook book.now }
+    requires offsets { HasOffsets basis.now }
+    requires near { IsNear asked.now }
+    ensures exact { result ≡ span_in reach book.now basis.now asked.now.begin asked.now.end }
+    ensures span { OnOk result (IsReached reach book.now basis.now asked.now.begin asked.now.end) }
+    ensures told { IfErr result (IsToldRefusal []) }
+{
+    if is_backward(asked) {
+        return Err(Refusal::BackwardSpan);
+    }
+    let span = reached(reach, basis, asked);
+    let first = first_minute(book);
+    let last = last_minute(book);
+    if has_span(book, &span) {
+        Ok(())
+    } else {
+        Err(Refusal::OutOfYears { first, last })
+    }
+}
+
+fn is_backward(asked: &Asked) -> bool
+    ensures { result ≡ int_lt asked.now.end asked.now.begin }
+{
+    asked.end < asked.begin
+}
+
+/// The minutes of the reference that are looked at.
+pub fn reached(reach: Reach, basis: &Basis, asked: &Asked) -> Span
+    requires offsets { HasOffsets basis.now }
+    requires near { IsNear asked.now }
+    requires forward { asked.now.begin ≤ℤ asked.now.end }
+    ensures exact { result ≡ reached reach basis.now asked.now.begin asked.now.end }
+    ensures forward { result.begin ≤ℤ result.end }
+    ensures near { IsNearSpan result }
+    ensures beside { IsBeside asked.now.begin asked.now.end result }
+{
+    match reach {
+        Reach::Levels if basis.equal() => level_span(basis, asked),
+        _ => widened(basis, asked.begin, asked.end),
+    }
+}
+
+fn level_span(basis: &Basis, asked: &Asked) -> Span
+    requires offsets { HasOffsets basis.now }
+    requires near { IsNear asked.now }
+    requires forward { asked.now.begin ≤ℤ asked.now.end }
+    ensures exact { result ≡ record { begin = asked.now.begin -ℤ basis.now.high.add; end = asked.now.end -ℤ basis.now.high.add } }
+    ensures forward { result.begin ≤ℤ result.end }
+    ensures near { IsNearSpan result }
+    ensures beside { IsBeside asked.now.begin asked.now.end result }
+{
+    Span {
+        begin: earlier(asked.begin, basis.high.add),
+        end: earlier(asked.end, basis.high.add),
+    }
+}
+
+/// A minute less so many.
+pub fn earlier(minute: i64, add: i32) -> i64
+    requires minute { unsigned_abs minute ≤ 20000000000 }
+    requires add { unsigned_abs add ≤ 1440 }
+    ensures { result ≡ minute -ℤ add }
+{
+    minute - i64::from(add)
+}
+
+fn has_span(book: &Book, span: &Span) -> bool
+    requires { IsBook book.now }
+    ensures { result ≡ has_span book.now span.now }
+{
+    has_minute(book, span.begin) && has_minute(book, span.end)
+}
+
+fn has_minute(book: &Book, minute: i64) -> bool
+    requires { IsBook book.now }
+    ensures { result ≡ has_minute book.now minute }
+{
+    first_minute(book) <= minute && minute <= last_minute(book)
+}
+
+fn first_minute(book: &Book) -> i64
+    requires { IsBook book.now }
+    ensures value { result ≡ year_start_of book.now.first_year }
+    ensures moment { IsMoment result }
+{
+    year_start(book.first_year)
+}
+
+// The begin of the year after the last.
+fn last_minute(book: &Book) -> i64
+    requires { IsBook book.now }
+    ensures value { result ≡ year_start_of (book.now.first_year +ℤ pos book.now.years) }
+    ensures moment { IsMoment result }
+{
+    year_start(book.first_year + book.years as i32)
+}
+
+fn curve_at(
+    alloc: Global,
+    book: &Book,
+    place: u32,
+    station: &Station,
+) -> Result<StationCurve, Refusal>
+    requires book { IsBook book.now }
+    requires place { slice_get book.now.stations place ≡ Some station.now }
+    ensures exact { Gives wants_memory_of_refusal (tide_from (curve_of book.now station.now)) result }
+    ensures predicts { IfOk result (Predicts book.now station.now) }
+    ensures gentle { IfOk result IsGentle }
+    ensures told { IfErr result (IsToldRefusal []) }
+{
+    match StationCurve::new(alloc, book, place) {
+        Ok(curve) => {
+            curve.known();
+            Ok(curve)
+        }
+        Err(fault) => Err(Refusal::from(fault)),
+    }
+}
+
+#[tactic(auto, unfolding(crate::specs::Sites::length_in))]
+fn check_length(asked: &Asked) -> Result<(), Refusal>
+    requires { IsNear asked.now }
+    ensures exact { result ≡ length_in asked.now.begin asked.now.end }
+    ensures few { OnOk result ((asked.now.end -ℤ asked.now.begin) ≤ℤ span_limit) }
+    ensures told { IfErr result (IsToldRefusal []) }
+{
+    let minutes = length(asked);
+    if minutes > SPAN_LIMIT {
+        return Err(Refusal::SpanTooLong { minutes });
+    }
+    Ok(())
+}
+
+fn length(asked: &Asked) -> i64
+    requires { IsNear asked.now }
+    ensures { result ≡ asked.now.end -ℤ asked.now.begin }
+{
+    asked.end - asked.begin
+}
+
+fn check_mark(basis: &Basis, asked: &Asked) -> Result<(), Refusal>
+    ensures exact { result ≡ mark_in basis.now asked.now.mark }
+    ensures here { OnOk result (ForSome asked.now.mark (λ level. IsTrue (is_equal basis.now))) }
+    ensures told { IfErr result (IsToldRefusal []) }
+{
+    match asked.mark {
+        Some(_) if !basis.equal() => Err(Refusal::MarkNotHere),
+        _ => Ok(()),
+    }
+}

@@ -1,8 +1,0 @@
-use Rattle.std.proofs.Common.{◌≡◌, ◌++◌, length}
-use Rattle.tide_answer.proofs.following.merged_events.Given as goal
-
-abbrev pub invariant-loop-event : goal.invariant-loop-event
-invariant-loop-event l = record { left : l.events.items ++ l.merge.left ≡ l.initial.merge.left; all : l.merge.all ≡ l.initial.merge.all }
-
-abbrev pub decreases-loop-event : goal.decreases-loop-event
-decreases-loop-event l = length l.merge.left

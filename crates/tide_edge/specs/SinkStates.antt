@@ -1,0 +1,32 @@
+-- What a sink tells, and what is made of it by calls and texts (this project).
+use Rattle.std.specs.Prelude.{◌≡◌, ℕ, ◌<◌, Bool, true, false, if◌then◌else◌, List, ◌++◌, length, take, Result, Ok, Err}
+use Rattle.tide_edge.specs.declared.failed.Failed.{Failed}
+use Rattle.tide_edge.specs.Faults.{counted}
+
+-- whether it is told what was taken; all the bytes taken, where that is told; and how many calls have failed, a count that stays
+-- at the last value of a `u64`
+pub record SinkState : Type 0 where
+  pub tells : Bool
+  pub taken : List ℕ
+  pub faults : ℕ
+
+-- with these bytes behind those taken before
+abbrev pub put : List ℕ → SinkState → SinkState
+put bytes s = record s { taken = (if s.tells then s.taken ++ bytes else s.taken) }
+
+abbrev pub sink_failed : SinkState → SinkState
+sink_failed s = record s { faults = counted s.faults }
+
+abbrev pub sink_after_write : Result ℕ Failed → List ℕ → SinkState → SinkState
+sink_after_write (Ok count) piece s = put (take count piece) s
+sink_after_write (Err failed) piece s = sink_failed s
+
+-- A text was written: it was taken whole, or one write failed, nothing was written after that, and a proper front part was taken.
+abbrev pub Wrote : SinkState → SinkState → Bool → List ℕ → Type 0
+Wrote before after false text = after ≡ put text before
+Wrote before after true text = (count : ℕ) × (count < length text) × (after ≡ sink_failed (put (take count text) before))
+
+-- one text was written, and then another, whether the first was taken whole or not
+abbrev pub WroteBoth : SinkState → SinkState → List ℕ → List ℕ → Type 0
+WroteBoth before after first second =
+    (between : SinkState) × (failed also_failed : Bool) × Wrote before between failed first × Wrote between after also_failed second

@@ -1,0 +1,56 @@
+//! The counts of what was opened and read.
+
+ghost use Rattle.std.specs.Prelude.{◌≡◌};
+
+use crate::count::{more, one_more};
+use std::marker::Model;
+
+/// How many calls of `open` there were, how many of `read` that found the end, and how many bytes came.
+#[derive(Debug, Drop)]
+pub(crate) struct Reads {
+    opens: u64,
+    ends: u64,
+    bytes: u64,
+}
+
+impl Model for Reads {
+    ghost use Rattle.tide_edge.specs.FileStates as spec;
+
+    ghost Value = { spec.Reads };
+
+    ghost view = { λ r. record { opens = r.opens; ends = r.ends; bytes = r.bytes } };
+}
+
+impl Reads {
+    ghost use Rattle.tide_edge.specs.FileStates.{one_opening, one_reading};
+
+    /// Before any call.
+    pub(crate) fn none() -> Reads
+        ensures { result ≡ record { opens = 0; ends = 0; bytes = 0 } }
+    {
+        Reads {
+            opens: 0,
+            ends: 0,
+            bytes: 0,
+        }
+    }
+
+    /// Counts a call of `open`.
+    pub(crate) fn open(&mut self)
+        ensures { self.new ≡ one_opening self.old }
+    {
+        self.opens = one_more(self.opens);
+    }
+
+    /// Counts a call of `read` that gave so many bytes, and answers how many.
+    pub(crate) fn read(&mut self, count: usize) -> usize
+        ensures same { result ≡ count }
+        ensures after { self.new ≡ one_reading count self.old }
+    {
+        if count == 0 {
+            self.ends = one_more(self.ends);
+        }
+        self.bytes = more(count as u64, self.bytes);
+        count
+    }
+}

@@ -1,0 +1,183 @@
+-- Why there is no answer, and how that is told: the status and the line (this project).
+use Rattle.std.specs.Prelude.{ℕ, ℤ, ◌<◌, Bool, true, false, List, [], ◌++◌, length, codes, decimal, slice_get}
+use Rattle.std.specs.Option.{option_map_or}
+use Rattle.std.specs.Fmt.{signed_decimal}
+use Rattle.cert_text.specs.declared.fault.CertFault.{CertFault}
+use Rattle.cert_text.specs.declared.fault.CertFault.TheVariants as cert
+use Rattle.harmonics_text.specs.declared.fault.BookFault.{BookFault}
+use Rattle.harmonics_text.specs.declared.fault.BookFault.TheVariants as form
+use Rattle.harmonics_text.specs.declared.fault.Why.{Why}
+use Rattle.harmonics_text.specs.Whys.{number_of, text_of}
+use Rattle.question.specs.declared.fault.AskFault.{AskFault}
+use Rattle.question.specs.declared.fault.AskFault.TheVariants as ask
+use Rattle.question.specs.Keys.{name_of}
+use Rattle.station_table.specs.declared.fault.OffsetFault.{OffsetFault}
+use Rattle.station_table.specs.declared.fault.OffsetFault.TheVariants as table
+use Rattle.station_table.specs.declared.fault.OffsetWhy.{OffsetWhy}
+use Rattle.station_table.specs.declared.finding.FindFault.{FindFault}
+use Rattle.station_table.specs.declared.finding.FindFault.TheVariants as find
+use Rattle.station_table.specs.declared.offsets.Offsets.{Offsets as Row}
+use Rattle.station_table.specs.Reasons.{number_of as number_of_row, text_of as text_of_row}
+use Rattle.station_curve.specs.declared.fault.CurveFault.{CurveFault}
+use Rattle.station_curve.specs.declared.fault.CurveFault.TheVariants as curve
+use Rattle.zone_time.specs.Moments.{IsMoment, moment_text}
+use Rattle.tide_fault.specs.declared.fault.Fault.{Fault}
+use Rattle.tide_fault.specs.declared.fault.Fault.TheVariants.{Ask, TooLong, Book, Offsets, BadZone, Refused}
+use Rattle.tide_fault.specs.declared.refusal.Refusal.{Refusal}
+use Rattle.tide_fault.specs.declared.refusal.Refusal.TheVariants.{NoMemory, NotBuilt, NotACertificate, BadSample, NoStation, NoReference, Hydraulic, BackwardSpan, OutOfYears, TooLarge, TooSteep, SpanTooLong, MarkNotHere, LevelNotHere, TooManyRows}
+use Rattle.tide_fault.specs.declared.slot.Slot.{Slot}
+use Rattle.tide_fault.specs.declared.slot.Slot.TheVariants as slots
+use Rattle.tide_fault.specs.declared.status.Status.{Status}
+use Rattle.tide_fault.specs.declared.status.Status.TheVariants as status
+
+-- ---- statuses
+
+abbrev pub status_of_ask : AskFault → Status
+status_of_ask ask.NoMemory = status.NoMemory
+status_of_ask _ = status.Words
+
+abbrev pub status_of_form : BookFault → Status
+status_of_form form.NoMemory = status.NoMemory
+status_of_form (form.At line why) = status.FileRefused
+
+abbrev pub status_of_table : OffsetFault → Status
+status_of_table table.NoMemory = status.NoMemory
+status_of_table (table.At row why) = status.FileRefused
+
+abbrev pub status_of_refusal : Refusal → Status
+status_of_refusal NoMemory = status.NoMemory
+status_of_refusal NotBuilt = status.Refused
+status_of_refusal (NotACertificate line) = status.FileRefused
+status_of_refusal (BadSample line why) = status.FileRefused
+status_of_refusal NoStation = status.Refused
+status_of_refusal (NoReference row) = status.Refused
+status_of_refusal Hydraulic = status.Refused
+status_of_refusal BackwardSpan = status.Refused
+status_of_refusal (OutOfYears first last) = status.Refused
+status_of_refusal (TooLarge year) = status.Limit
+status_of_refusal (TooSteep year) = status.Limit
+status_of_refusal (SpanTooLong minutes) = status.Limit
+status_of_refusal MarkNotHere = status.Refused
+status_of_refusal LevelNotHere = status.Refused
+status_of_refusal (TooManyRows rows) = status.Limit
+
+abbrev pub status_of : Fault → Status
+status_of (Ask fault) = status_of_ask fault
+status_of (TooLong slot) = status.FileRefused
+status_of (Book fault) = status_of_form fault
+status_of (Offsets fault) = status_of_table fault
+status_of BadZone = status.FileRefused
+status_of (Refused refusal) = status_of_refusal refusal
+
+-- ---- lines
+
+abbrev pub slot_name : Slot → List ℕ
+slot_name slots.File = codes "file"
+slot_name slots.Offsets = codes "offsets"
+slot_name slots.Zone = codes "zone"
+slot_name slots.Certificate = codes "certificate"
+
+-- of a pair by its number, counted from 1
+abbrev pub pair_line : ℕ → List ℕ → List ℕ
+pair_line pair what = codes "words: pair " ++ decimal pair ++ what
+
+unfoldable pub ask_line : AskFault → List ℕ
+ask_line ask.NoMemory = codes "no memory\n"
+ask_line ask.NoCommand = codes "words: no command\n"
+ask_line ask.UnknownCommand = codes "words: unknown command\n"
+ask_line (ask.NotAPair pair) = pair_line pair (codes " is not key=value\n")
+ask_line (ask.UnknownKey pair) = pair_line pair (codes " has an unknown key\n")
+ask_line (ask.RepeatedKey pair) = pair_line pair (codes " repeats a key\n")
+ask_line (ask.BadValue pair) = pair_line pair (codes " has a bad value\n")
+ask_line (ask.MissingKey key) = codes "words: " ++ name_of key ++ codes " is missing\n"
+
+-- of a line of a file, with the reason and its number
+abbrev pub file_line : ℕ → Why → List ℕ
+file_line line why =
+    (codes "file: line " ++ decimal line ++ codes ": ") ++ text_of why ++ (codes " (" ++ decimal (number_of why) ++ codes ")\n")
+
+unfoldable pub form_line : BookFault → List ℕ
+form_line form.NoMemory = codes "no memory\n"
+form_line (form.At line why) = file_line line why
+
+-- of a row of a table
+abbrev pub row_line : ℕ → OffsetWhy → List ℕ
+row_line row why =
+    (codes "offsets: row " ++ decimal row ++ codes ": ") ++ text_of_row why ++ (codes " (" ++ decimal (number_of_row why) ++ codes ")\n")
+
+unfoldable pub table_line : OffsetFault → List ℕ
+table_line table.NoMemory = codes "no memory\n"
+table_line (table.At row why) = row_line row why
+
+-- the reference of a row of the table, by its place
+abbrev pub reference_at : List Row → ℕ → List ℕ
+reference_at rows place = option_map_or (λ row. row.reference) (slice_get rows place) []
+
+abbrev pub reference_line : List ℕ → List ℕ
+reference_line name = codes "refused: no reference " ++ name ++ codes "\n"
+
+abbrev pub years_line : ℤ → ℤ → List ℕ
+years_line first last =
+    codes "refused: out of years: file has " ++ moment_text first ++ codes " to " ++ moment_text last ++ codes "\n"
+
+unfoldable pub refusal_line : List Row → Refusal → List ℕ
+refusal_line rows NoMemory = codes "no memory\n"
+refusal_line rows NotBuilt = codes "refused: not built\n"
+refusal_line rows (NotACertificate line) = codes "certificate: line " ++ decimal line ++ codes "\n"
+refusal_line rows (BadSample line why) = file_line line why
+refusal_line rows NoStation = codes "refused: no station\n"
+refusal_line rows (NoReference place) = reference_line (reference_at rows place)
+refusal_line rows Hydraulic = codes "refused: hydraulic\n"
+refusal_line rows BackwardSpan = codes "refused: backward span\n"
+refusal_line rows (OutOfYears first last) = years_line first last
+refusal_line rows (TooLarge year) = codes "limit: too large in " ++ signed_decimal year ++ codes "\n"
+refusal_line rows (TooSteep year) = codes "limit: too steep in " ++ signed_decimal year ++ codes "\n"
+refusal_line rows (SpanTooLong minutes) = codes "limit: span of " ++ signed_decimal minutes ++ codes " minutes\n"
+refusal_line rows MarkNotHere = codes "refused: mark not here\n"
+refusal_line rows LevelNotHere = codes "refused: level not here\n"
+refusal_line rows (TooManyRows count) = codes "limit: " ++ signed_decimal count ++ codes " rows\n"
+
+unfoldable pub line_of : List Row → Fault → List ℕ
+line_of rows (Ask fault) = ask_line fault
+line_of rows (TooLong slot) = slot_name slot ++ codes ": too long\n"
+line_of rows (Book fault) = form_line fault
+line_of rows (Offsets fault) = table_line fault
+line_of rows BadZone = codes "zone: bad zone file\n"
+line_of rows (Refused refusal) = refusal_line rows refusal
+
+-- a refusal whose line can be written: its moments are of the years from 1 to 9999, and its row is one of the table
+abbrev pub IsToldRefusal : List Row → Refusal → Type 0
+IsToldRefusal rows (OutOfYears first last) = IsMoment first × IsMoment last
+IsToldRefusal rows (NoReference place) = place < length rows
+IsToldRefusal rows _ = Unit {0}
+
+abbrev pub IsTold : List Row → Fault → Type 0
+IsTold rows (Refused refusal) = IsToldRefusal rows refusal
+IsTold rows _ = Unit {0}
+
+-- ---- want of memory, and faults of the crates below
+
+abbrev pub wants_memory_of_refusal : Refusal → Bool
+wants_memory_of_refusal NoMemory = true
+wants_memory_of_refusal _ = false
+
+abbrev pub is_memory : Status → Bool
+is_memory status.NoMemory = true
+is_memory _ = false
+
+abbrev pub wants_memory : Fault → Bool
+wants_memory fault = is_memory (status_of fault)
+
+abbrev pub refusal_of_cert : CertFault → Refusal
+refusal_of_cert cert.NoMemory = NoMemory
+refusal_of_cert (cert.NotACertificate line) = NotACertificate line
+
+abbrev pub refusal_of_find : FindFault → Refusal
+refusal_of_find find.NoStation = NoStation
+refusal_of_find (find.NoReference row) = NoReference row
+
+abbrev pub refusal_of_curve : CurveFault → Refusal
+refusal_of_curve curve.NoMemory = NoMemory
+refusal_of_curve curve.Hydraulic = Hydraulic
+refusal_of_curve (curve.TooLarge year) = TooLarge year
+refusal_of_curve (curve.TooSteep year) = TooSteep year

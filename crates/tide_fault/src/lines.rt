@@ -1,0 +1,177 @@
+//! The line that tells of a fault. Every such line is made here.
+
+ghost use Rattle.std.specs.Prelude.{◌≡◌, ◌++◌, ◌<◌, codes, length, IfOk, string_bytes};
+ghost use Rattle.tide_fault.specs.Faults.{line_of, slot_name, ask_line, form_line, file_line, table_line, row_line, reference_at, reference_line, refusal_line, years_line, IsTold, IsToldRefusal};
+ghost use Rattle.zone_time.specs.Moments.{IsMoment};
+
+use crate::fault::Fault;
+use crate::refusal::Refusal;
+use crate::slot::Slot;
+use arrayvec::ArrayString;
+use decimal_text::Bytes;
+use harmonics_text::{BookFault, Why};
+use question::{AskFault, Key};
+use station_table::{OffsetFault, OffsetTable, OffsetWhy};
+use std::alloc::{AllocError, Global};
+use zone_time::write_moment;
+
+/// The line that tells of this fault, with its LF. The moments of
+/// [`OutOfYears`](Refusal::OutOfYears) are of the years from 1 to 9999, and the row of
+/// [`NoReference`](Refusal::NoReference) is one of the table.
+pub fn fault_line(alloc: Global, fault: &Fault, table: &OffsetTable) -> Result<Bytes, AllocError>
+    requires { IsTold table.now fault.now }
+    ensures { IfOk result (λ line. line ≡ line_of table.now fault.now) }
+{
+    let text = fault_text(alloc, fault, table)?;
+    Ok(Bytes::from_vec(text.into_bytes()))
+}
+
+#[tactic(auto, unfolding(crate::specs::Faults::line_of))]
+fn fault_text(alloc: Global, fault: &Fault, table: &OffsetTable) -> Result<String, AllocError>
+    requires { IsTold table.now fault.now }
+    ensures { IfOk result (λ text. string_bytes text ≡ line_of table.now fault.now) }
+{
+    match *fault {
+        Fault::Ask(ask) => ask_text(alloc, ask),
+        Fault::TooLong(slot) => long_text(alloc, slot),
+        Fault::Book(form) => form_text(alloc, form),
+        Fault::Offsets(fault) => table_text(alloc, fault),
+        Fault::BadZone => String::from_str(alloc, "zone: bad zone file\n"),
+        Fault::Refused(refusal) => refusal_text(alloc, refusal, table),
+    }
+}
+
+#[tactic(auto, unfolding(crate::specs::Faults::ask_line))]
+fn ask_text(alloc: Global, fault: AskFault) -> Result<String, AllocError>
+    ensures { IfOk result (λ text. string_bytes text ≡ ask_line fault) }
+{
+    match fault {
+        AskFault::NoMemory => String::from_str(alloc, "no memory\n"),
+        AskFault::NoCommand => String::from_str(alloc, "words: no command\n"),
+        AskFault::UnknownCommand => String::from_str(alloc, "words: unknown command\n"),
+        AskFault::NotAPair(pair) => format!(in alloc; "words: pair {pair} is not key=value\n"),
+        AskFault::UnknownKey(pair) => format!(in alloc; "words: pair {pair} has an unknown key\n"),
+        AskFault::RepeatedKey(pair) => format!(in alloc; "words: pair {pair} repeats a key\n"),
+        AskFault::BadValue(pair) => format!(in alloc; "words: pair {pair} has a bad value\n"),
+        AskFault::MissingKey(key) => missing_text(alloc, key),
+    }
+}
+
+#[tactic(auto, unfolding(crate::specs::Faults::ask_line))]
+fn missing_text(alloc: Global, key: Key) -> Result<String, AllocError>
+    ensures { IfOk result (λ text. string_bytes text ≡ ask_line (AskFault.MissingKey key)) }
+{
+    let mut text = String::from_str(alloc, "words: ")?;
+    text.push_str(key.text())?;
+    text.push_str(" is missing\n")?;
+    Ok(text)
+}
+
+fn long_text(alloc: Global, slot: Slot) -> Result<String, AllocError>
+    ensures { IfOk result (λ text. string_bytes text ≡ slot_name slot ++ codes ": too long\n") }
+{
+    let mut text = String::from_str(alloc, slot.text())?;
+    text.push_str(": too long\n")?;
+    Ok(text)
+}
+
+#[tactic(auto, unfolding(crate::specs::Faults::form_line))]
+fn form_text(alloc: Global, fault: BookFault) -> Result<String, AllocError>
+    ensures { IfOk result (λ text. string_bytes text ≡ form_line fault) }
+{
+    match fault {
+        BookFault::NoMemory => String::from_str(alloc, "no memory\n"),
+        BookFault::At { line, why } => file_text(alloc, line, why),
+    }
+}
+
+fn file_text(alloc: Global, line: u32, why: Why) -> Result<String, AllocError>
+    ensures { IfOk result (λ text. string_bytes text ≡ file_line line why) }
+{
+    let mut text = format!(in alloc; "file: line {line}: ")?;
+    text.push_str(why.text())?;
+    let number = why.number();
+    let end = format!(in alloc; " ({number})\n")?;
+    text.push_str(end.as_str())?;
+    Ok(text)
+}
+
+#[tactic(auto, unfolding(crate::specs::Faults::table_line))]
+fn table_text(alloc: Global, fault: OffsetFault) -> Result<String, AllocError>
+    ensures { IfOk result (λ text. string_bytes text ≡ table_line fault) }
+{
+    match fault {
+        OffsetFault::NoMemory => String::from_str(alloc, "no memory\n"),
+        OffsetFault::At { row, why } => row_text(alloc, row, why),
+    }
+}
+
+fn row_text(alloc: Global, row: u32, why: OffsetWhy) -> Result<String, AllocError>
+    ensures { IfOk result (λ text. string_bytes text ≡ row_line row why) }
+{
+    let mut text = format!(in alloc; "offsets: row {row}: ")?;
+    text.push_str(why.text())?;
+    let number = why.number();
+    let end = format!(in alloc; " ({number})\n")?;
+    text.push_str(end.as_str())?;
+    Ok(text)
+}
+
+#[tactic(auto, unfolding(crate::specs::Faults::refusal_line))]
+fn refusal_text(alloc: Global, refusal: Refusal, table: &OffsetTable) -> Result<String, AllocError>
+    requires { IsToldRefusal table.now refusal }
+    ensures { IfOk result (λ text. string_bytes text ≡ refusal_line table.now refusal) }
+{
+    match refusal {
+        Refusal::NoMemory => String::from_str(alloc, "no memory\n"),
+        Refusal::NotBuilt => String::from_str(alloc, "refused: not built\n"),
+        Refusal::NotACertificate { line } => format!(in alloc; "certificate: line {line}\n"),
+        Refusal::BadSample { line, why } => file_text(alloc, line, why),
+        Refusal::NoStation => String::from_str(alloc, "refused: no station\n"),
+        Refusal::NoReference { row } => reference_text(alloc, reference_at(table, row)),
+        Refusal::Hydraulic => String::from_str(alloc, "refused: hydraulic\n"),
+        Refusal::BackwardSpan => String::from_str(alloc, "refused: backward span\n"),
+        Refusal::OutOfYears { first, last } => years_text(alloc, first, last),
+        Refusal::TooLarge { year } => format!(in alloc; "limit: too large in {year}\n"),
+        Refusal::TooSteep { year } => format!(in alloc; "limit: too steep in {year}\n"),
+        Refusal::SpanTooLong { minutes } => {
+            format!(in alloc; "limit: span of {minutes} minutes\n")
+        }
+        Refusal::MarkNotHere => String::from_str(alloc, "refused: mark not here\n"),
+        Refusal::LevelNotHere => String::from_str(alloc, "refused: level not here\n"),
+        Refusal::TooManyRows { rows } => format!(in alloc; "limit: {rows} rows\n"),
+    }
+}
+
+fn reference_at(table: &OffsetTable, row: u32) -> &str
+    requires { row < length table.now }
+    ensures { result.now ≡ reference_at table.now row }
+{
+    table.as_slice()[row as usize].reference.as_str()
+}
+
+fn reference_text(alloc: Global, name: &str) -> Result<String, AllocError>
+    ensures { IfOk result (λ text. string_bytes text ≡ reference_line name.now) }
+{
+    let mut text = String::from_str(alloc, "refused: no reference ")?;
+    text.push_str(name)?;
+    text.push_str("\n")?;
+    Ok(text)
+}
+
+fn years_text(alloc: Global, first: i64, last: i64) -> Result<String, AllocError>
+    requires first { IsMoment first }
+    requires last { IsMoment last }
+    ensures { IfOk result (λ text. string_bytes text ≡ years_line first last) }
+{
+    let mut from = ArrayString::<20>::new();
+    write_moment(first, &mut from);
+    let mut to = ArrayString::<20>::new();
+    write_moment(last, &mut to);
+    let mut text = String::from_str(alloc, "refused: out of years: file has ")?;
+    text.push_str(from.as_str())?;
+    text.push_str(" to ")?;
+    text.push_str(to.as_str())?;
+    text.push_str("\n")?;
+    Ok(text)
+}

@@ -1,0 +1,31 @@
+//! The files of a question.
+
+ghost use Rattle.std.specs.Prelude.{◌≡◌, ◌≤◌, length};
+
+/// What a file is read as.
+#[derive(Clone, Copy, Debug, PartialEq, Eq)]
+pub enum Slot {
+    /// The harmonic constants.
+    File,
+    /// The table of subordinate stations.
+    Offsets,
+    /// A time zone.
+    Zone,
+    Certificate,
+}
+
+impl Slot {
+    ghost use Rattle.tide_fault.specs.Faults.{slot_name};
+
+    /// Its name in the lines that tell of faults.
+    pub fn text(self) -> &'static str
+        ensures { result.now ≡ slot_name self }
+    {
+        match self {
+            Slot::File => "file",
+            Slot::Offsets => "offsets",
+            Slot::Zone => "zone",
+            Slot::Certificate => "certificate",
+        }
+    }
+}
