@@ -9,4 +9,5 @@ pub mod PieceLemmas
 pub mod QueryLemmas
 pub mod ReplyLemmas
 pub mod RowLemmas
+pub mod ServiceLemmas
 pub mod StepLemmas

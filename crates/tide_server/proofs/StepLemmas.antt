@@ -78,7 +78,7 @@ left_next stock first now after clock clock_now some is closes =
     let keeps : IsTrue first.keeps_pieces → IsTrue now.keeps_pieces =
     λ k. tells_on first.keeps_pieces now.keeps_pieces (ap (λ d. d.keeps_pieces) is) k in record {
       left = went.left;
-      door = closes.door ∙ ap door_after_close (unsent_talk now closes.open went.left false true went.door ∙ ap (talked (talk_of went.left [] false true)) is);
+      door = closes.door ∙ ap door_after_close (unsent_talk now closes.still went.left false true went.door ∙ ap (talked (talk_of went.left [] false true)) is);
       clock = went.clock;
       next = λ t. next_of first (some t);
       byte = λ t none. went.byte (tells t) (ap concat (taken_rest first now (next_of first (some t)) t is) ∙ none);

@@ -1,16 +1,17 @@
 //! One connection.
 
-ghost use Rattle.std.specs.Prelude.{ℕ, List, IsTrue, is_err};
+ghost use Rattle.std.specs.Prelude.{◌≡◌, ◌==◌, ◌||◌, ℕ, List, IsTrue, is_err};
 ghost use Rattle.tide_edge.specs.Clocks.{IsClockMinute};
 ghost use Rattle.tide_server.specs.Responses.{rejection_of, unavailable_to};
+ghost use Rattle.tide_server.specs.Rows.{is_settled};
 ghost use Rattle.tide_server.specs.Workings.Connections.{Closed, IsStock, Replies, RowSent, SentBy, WentBy};
 ghost use Rattle.tide_server.specs.Workings.Views.{IsAskingRow, row_seen};
 
 use crate::http_reply::asking_reply;
 use crate::rejection::Rejection;
-use crate::request::{Request, read_request};
+use crate::request::Request;
 use crate::response::{write_rejection, write_unavailable};
-use crate::row::Row;
+use crate::row::{Row, row_for};
 use crate::sent_text::send;
 use crate::stock::Stock;
 use arrayvec::ArrayString;
@@ -29,7 +30,7 @@ pub(crate) fn serve_connection<D: Door, K: Clock>(
     door: &mut D,
     clock: &mut K,
 ) -> Result<(), Failed>
-    requires open { IsTrue (D.state door.old).doorway.is_open }
+    requires is_open { IsTrue (D.state door.old).doorway.is_open }
     requires stock { IsStock stock.now }
     ensures { Closed (is_err result) stock.now
         (record { door = D.state door.old; clock = K.state clock.old }) (record { door = D.state door.new; clock = K.state clock.new }) }
@@ -39,6 +40,8 @@ pub(crate) fn serve_connection<D: Door, K: Clock>(
     answered
 }
 
+// Reads the open connection until its bytes are enough for a reply, or to their end, and no further:
+// a client may wait for its reply before it sends more. The row that reading ended with is answered.
 fn answer_connection<D: Door, K: Clock>(
     alloc: Global,
     stock: &Stock,
@@ -46,16 +49,32 @@ fn answer_connection<D: Door, K: Clock>(
     door: &mut D,
     clock: &mut K,
 ) -> Result<(), Failed>
-    requires open { IsTrue (D.state door.old).doorway.is_open }
+    requires is_open { IsTrue (D.state door.old).doorway.is_open }
     requires stock { IsStock stock.now }
     ensures { WentBy (is_err result) stock.now
         (record { door = D.state door.old; clock = K.state clock.old }) (record { door = D.state door.new; clock = K.state clock.new }) }
 {
-    match read_request(request, door) {
-        Ok(Some(row)) => answer_row(alloc, stock, &row, door, clock),
-        Ok(None) => Ok(()),
-        Err(_) => Ok(()),
+    request.clear();
+    loop {
+        let Ok(count) = request.read_more(door) else {
+            return Ok(());
+        };
+        let bytes = request.as_slice();
+        if bytes.is_empty() {
+            return Ok(());
+        }
+        let row = row_for(bytes);
+        if ends_reading(count, &row) {
+            return answer_row(alloc, stock, &row, door, clock);
+        }
     }
+}
+
+// Whether nothing more is to be read behind so many bytes, which made this row.
+fn ends_reading(count: usize, row: &Row<'_>) -> bool
+    ensures { result ≡ (count == 0 || is_settled (row_seen row.now)) }
+{
+    count == 0 || row.is_settled()
 }
 
 // Answers what was read of a connection, at the present minute.
@@ -66,7 +85,7 @@ fn answer_row<D: Door, K: Clock>(
     door: &mut D,
     clock: &mut K,
 ) -> Result<(), Failed>
-    requires open { IsTrue (D.state door.old).doorway.is_open }
+    requires is_open { IsTrue (D.state door.old).doorway.is_open }
     requires stock { IsStock stock.now }
     requires known { IsAskingRow (row_seen row.now) }
     ensures { RowSent (is_err result) stock.now (row_seen row.now)
@@ -85,7 +104,7 @@ fn send_reply<D: Door>(
     now: i64,
     door: &mut D,
 ) -> Result<(), Failed>
-    requires open { IsTrue (D.state door.old).doorway.is_open }
+    requires is_open { IsTrue (D.state door.old).doorway.is_open }
     requires stock { IsStock stock.now }
     requires known { IsAskingRow (row_seen row.now) }
     requires now { IsClockMinute now }

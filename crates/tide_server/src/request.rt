@@ -1,13 +1,6 @@
 //! The request of the open connection.
 
-ghost use Rattle.std.specs.Prelude.{IsTrue, IfOk, IfSome, is_err};
-ghost use Rattle.std.specs.List.{concat};
-ghost use Rattle.std.specs.Option.{option_map};
-ghost use Rattle.tide_server.specs.Workings.Connections.{HasRead, IsReadAs};
-ghost use Rattle.tide_server.specs.Workings.Views.{IsAskingRow, row_seen};
-
 use crate::limits::{LONGEST, PIECE};
-use crate::row::{Row, row_for};
 use std::alloc::{AllocError, Global};
 use std::marker::Model;
 use tide_edge::{Door, Failed};
@@ -54,14 +47,14 @@ impl Request {
     }
 
     /// Begins a new request.
-    fn clear(&mut self)
+    pub(crate) fn clear(&mut self)
         ensures { self.new ≡ [] }
     {
         self.bytes.clear();
     }
 
     /// Reads the next bytes of the open connection behind those that came so far. It takes no memory.
-    fn read_more<D: Door>(&mut self, door: &mut D) -> Result<usize, Failed>
+    pub(crate) fn read_more<D: Door>(&mut self, door: &mut D) -> Result<usize, Failed>
         requires short { length self.old < LONGEST }
         requires open { IsTrue (D.state door.old).doorway.is_open }
         ensures after { D.state door.new ≡ door_after_read result (D.state door.old) }
@@ -75,35 +68,5 @@ impl Request {
         let count = door.read(&mut self.piece)?;
         self.bytes.extend_from_slice(&self.piece[..count]).unwrap();
         Ok(count)
-    }
-}
-
-/// Reads the open connection until its bytes are enough for a reply, or to their end, and no further:
-/// a client may wait for its reply before it sends more. It takes no memory. The row is that of the
-/// bytes read, if there is one.
-///
-/// # Errors
-/// [`Failed`] where a read failed. Nothing was read after that one.
-pub(crate) fn read_request<'a, D: Door>(
-    request: &'a mut Request,
-    door: &mut D,
-) -> Result<Option<Row<'a>>, Failed>
-    requires { IsTrue (D.state door.old).doorway.is_open }
-    ensures read { HasRead (is_err result) (D.state door.old) (D.state door.new) }
-    ensures row { IsTrue (D.state door.old).tells
-        → IfOk result (λ found. IsReadAs (concat (D.state door.old).traffic.rest) (option_map row_seen found)) }
-    ensures known { IfOk result (λ found. IfSome found (λ row. IsAskingRow (row_seen row))) }
-{
-    request.clear();
-    loop {
-        let count = request.read_more(door)?;
-        let bytes = request.as_slice();
-        if bytes.is_empty() {
-            return Ok(None);
-        }
-        let row = row_for(bytes);
-        if count == 0 || row.is_settled() {
-            return Ok(Some(row));
-        }
     }
 }

@@ -109,6 +109,6 @@ WentBy true stock before after = Stopped before after
 
 -- the same, and the connection was closed
 pub record Closed (failed : Bool) (stock : Stock) (before after : Exchange) : Type 0 where
-  pub open : DoorState
-  pub went : WentBy failed stock before record { door = open; clock = after.clock }
-  pub door : after.door ≡ door_after_close open
+  pub still : DoorState
+  pub went : WentBy failed stock before record { door = still; clock = after.clock }
+  pub door : after.door ≡ door_after_close still

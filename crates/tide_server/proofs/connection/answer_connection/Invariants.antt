@@ -2,7 +2,7 @@ use Rattle.std.proofs.Common.{◌<◌, ◌-◌, length}
 use Rattle.tide_server.specs.declared.limits.TheConstants.{LONGEST}
 use Rattle.tide_server.specs.Serving.{IsEnough}
 use Rattle.tide_server.proofs.ConnectionLemmas.{ReadSoFar}
-use Rattle.tide_server.proofs.request.read_request.Given as goal
+use Rattle.tide_server.proofs.connection.answer_connection.Given as goal
 
 abbrev pub invariant-loop-count : goal.invariant-loop-count
 invariant-loop-count g l = record {
