@@ -3,6 +3,8 @@ use Rattle.std.proofs.Common.{◌≡◌, ℕ, suc, ◌+◌, ◌-◌, ◌<◌, �
 use Rattle.std.specs.Prelude.{IfOk}
 use Rattle.std.proofs.lemmas.List.{take-append-le}
 use Rattle.tide_edge.specs.declared.writing.WriteFailed.{WriteFailed}
+use Rattle.tide_edge.specs.SinkStates.{SinkState, put, sink_failed}
+use Rattle.tide_edge.proofs.WritingLemmas.{put_none, put_put}
 use Rattle.station_cells.specs.declared.sending.Sent.{Sent}
 use Rattle.station_cells.specs.Sending.{Sends, has_room, gone_for, held_after}
 
@@ -13,17 +15,17 @@ take_beyond (x ∷ xs) ys n =
     ap (λ k. take k (x ∷ (xs ++ ys))) e ∙ ap (λ l. x ∷ l) (take_beyond xs ys n)
 
 -- a part that failed is one of the text that goes on
-pub sends_cut : (tells : Type 0) (before after : List ℕ) (sent : Sent) (text rest : List ℕ) (n k : ℕ) (fault : WriteFailed) → Sends tells before after sent text n (Err fault) → Sends tells before after sent (text ++ rest) k (Err fault)
-sends_cut tells before after sent text rest n k fault sends =
+pub sends_cut : (before after : SinkState) (sent : Sent) (text rest : List ℕ) (n k : ℕ) (fault : WriteFailed) → Sends before after sent text n (Err fault) → Sends before after sent (text ++ rest) k (Err fault)
+sends_cut before after sent text rest n k fault sends =
     let least = sends.0 in
     let most = sends.1 in
     let both = length-append text rest in
     let few : fault.sent - sent.bytes ≤ length text = omega (arith, least, most) in
-    (least, omega (arith, most, both), λ t. sends.2 t ∙ ap (λ xs. before ++ xs) (sym (take-append-le (fault.sent - sent.bytes) text rest few)))
+    (least, omega (arith, most, both), sends.2 ∙ ap (λ xs. sink_failed (put xs before)) (sym (take-append-le (fault.sent - sent.bytes) text rest few)))
 
 -- a part after one that was taken whole
-pub sends_then : (tells told : Type 0) (before now after : List ℕ) (sent done : Sent) (text rest : List ℕ) (n k : ℕ) (result : Result Sent WriteFailed) → (tells → told) → Sends tells before now sent text n (Ok done) → Sends told now after done rest k result → Sends tells before after sent (text ++ rest) (n + k) result
-sends_then tells told before now after sent done text rest n k (Ok last) still first second =
+pub sends_then : (before now after : SinkState) (sent done : Sent) (text rest : List ℕ) (n k : ℕ) (result : Result Sent WriteFailed) → Sends before now sent text n (Ok done) → Sends now after done rest k result → Sends before after sent (text ++ rest) (n + k) result
+sends_then before now after sent done text rest n k (Ok last) first second =
     let bytes = first.0 in
     let more = second.0 in
     let cells = first.1 in
@@ -31,28 +33,32 @@ sends_then tells told before now after sent done text rest n k (Ok last) still f
     let both = length-append text rest in (
       omega (arith, bytes, more, both),
       omega (arith, cells, more_cells),
-      λ t. second.2 (still t) ∙ ap (λ xs. xs ++ rest) (first.2 t) ∙ append_assoc before text rest,
+      second.2 ∙ ap (put rest) first.2 ∙ put_put text rest before,
     )
-sends_then tells told before now after sent done text rest n k (Err fault) still first second =
+sends_then before now after sent done text rest n k (Err fault) first second =
     let bytes = first.0 in
     let least = second.0 in
     let most = second.1 in
     let both = length-append text rest in
-    let place : fault.sent - sent.bytes ≡ length text + (fault.sent - done.bytes) = omega (arith, bytes, least) in (
+    let part = fault.sent - done.bytes in
+    let place : fault.sent - sent.bytes ≡ length text + part = omega (arith, bytes, least) in (
       omega (arith, bytes, least),
       omega (arith, bytes, most, both),
-      λ t. second.2 (still t) ∙ ap (λ xs. xs ++ take (fault.sent - done.bytes) rest) (first.2 t)
-          ∙ append_assoc before text (take (fault.sent - done.bytes) rest)
-          ∙ ap (λ xs. before ++ xs) (sym (take_beyond text rest (fault.sent - done.bytes)) ∙ ap (λ m. take m (text ++ rest)) (sym place)),
+      second.2 ∙ ap (λ (s : SinkState). sink_failed (put (take part rest) s)) first.2
+          ∙ ap sink_failed (put_put text (take part rest) before)
+          ∙ ap (λ xs. sink_failed (put xs before)) (sym (take_beyond text rest part) ∙ ap (λ m. take m (text ++ rest)) (sym place)),
     )
 
-pub sends_sum : (tells told : Type 0) (before now after : List ℕ) (sent done : Sent) (text rest : List ℕ) (n k both : ℕ) → n + k ≡ both → (result : Result Sent WriteFailed) → (tells → told) → Sends tells before now sent text n (Ok done) → Sends told now after done rest k result → Sends tells before after sent (text ++ rest) both result
-sends_sum tells told before now after sent done text rest n k both sum result still first second =
-    rw (← sum) (sends_then tells told before now after sent done text rest n k result still first second)
+pub sends_sum : (before now after : SinkState) (sent done : Sent) (text rest : List ℕ) (n k both : ℕ) → n + k ≡ both → (result : Result Sent WriteFailed) → Sends before now sent text n (Ok done) → Sends now after done rest k result → Sends before after sent (text ++ rest) both result
+sends_sum before now after sent done text rest n k both sum result first second =
+    rw (← sum) (sends_then before now after sent done text rest n k result first second)
 
 -- nothing as yet
-pub sends_none : (tells : Type 0) (before : List ℕ) (sent : Sent) → Sends tells before before sent [] 0 (Ok sent)
-sends_none tells before sent = (omega arith, omega arith, λ t. sym (append-nil before))
+pub same_state : (s : SinkState) → s ≡ put [] s
+same_state s = sym (put_none s)
+
+pub sends_none : (before : SinkState) (sent : Sent) → Sends before before sent [] 0 (Ok sent)
+sends_none before sent = (omega arith, omega arith, same_state before)
 
 -- ---- lines on a page
 
@@ -84,15 +90,15 @@ page_done all left whole text held none empty so_far =
 
 -- ---- a text from its first byte on
 
-pub from_first : (tells : Type 0) (before after text : List ℕ) (n : ℕ) (fault : WriteFailed) → Sends tells before after (record { bytes = 0; cells = 0 }) text n (Err fault) → (fault.sent < length text) × (tells → after ≡ before ++ take fault.sent text)
-from_first tells before after text n fault sends =
+pub from_first : (before after : SinkState) (text : List ℕ) (n : ℕ) (fault : WriteFailed) → Sends before after (record { bytes = 0; cells = 0 }) text n (Err fault) → (fault.sent < length text) × (after ≡ sink_failed (put (take fault.sent text) before))
+from_first before after text n fault sends =
     let most = sends.1 in
     let all : fault.sent - 0 ≡ fault.sent = omega arith in
-    (omega (arith, most), λ t. sends.2 t ∙ ap (λ m. before ++ take m text) all)
+    (omega (arith, most), sends.2 ∙ ap (λ m. sink_failed (put (take m text) before)) all)
 
-pub sent_below : (tells : Type 0) (before after : List ℕ) (sent : Sent) (text : List ℕ) (n most : ℕ) (result : Result Sent WriteFailed) → Sends tells before after sent text n result → sent.bytes + length text ≤ most → IfOk result (λ (done : Sent). done.bytes ≤ most)
-sent_below tells before after sent text n most (Ok done) sends small = let bytes = sends.0 in omega (arith, bytes, small)
-sent_below tells before after sent text n most (Err fault) sends small = tt
+pub sent_below : (before after : SinkState) (sent : Sent) (text : List ℕ) (n most : ℕ) (result : Result Sent WriteFailed) → Sends before after sent text n result → sent.bytes + length text ≤ most → IfOk result (λ (done : Sent). done.bytes ≤ most)
+sent_below before after sent text n most (Ok done) sends small = let bytes = sends.0 in omega (arith, bytes, small)
+sent_below before after sent text n most (Err fault) sends small = tt
 
 pub ok_below : (result : Result Sent WriteFailed) (n most : ℕ) → n < most → IfOk result (λ (done : Sent). done.bytes ≤ n) → IfOk result (λ (done : Sent). done.bytes < most)
 ok_below (Ok done) n most few short = omega (arith, few, short)

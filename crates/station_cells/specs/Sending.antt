@@ -2,16 +2,17 @@
 use Rattle.std.specs.Prelude.{◌≡◌, ℕ, ◌+◌, ◌-◌, ◌<◌, ◌≤◌, Bool, if◌then◌else◌, nat_le, List, [], ◌++◌, length, take, Option, Some, None, Result, Ok, Err}
 use Rattle.interval_search.specs.Looking.{Looking}
 use Rattle.tide_edge.specs.declared.writing.WriteFailed.{WriteFailed}
+use Rattle.tide_edge.specs.SinkStates.{SinkState, put, sink_failed}
 use Rattle.station_cells.specs.declared.sending.Sent.{Sent}
 
 -- A part of a text and of its cells, after what was sent before. All of it was taken, or as many of its bytes as were sent
 -- when a write failed.
-abbrev pub Sends : Type 0 → List ℕ → List ℕ → Sent → List ℕ → ℕ → Result Sent WriteFailed → Type 0
-Sends tells before after sent text cells (Ok done) =
-    (done.bytes ≡ sent.bytes + length text) × (done.cells ≡ sent.cells + cells) × (tells → after ≡ before ++ text)
-Sends tells before after sent text cells (Err fault) =
+abbrev pub Sends : SinkState → SinkState → Sent → List ℕ → ℕ → Result Sent WriteFailed → Type 0
+Sends before after sent text cells (Ok done) =
+    (done.bytes ≡ sent.bytes + length text) × (done.cells ≡ sent.cells + cells) × (after ≡ put text before)
+Sends before after sent text cells (Err fault) =
     (sent.bytes ≤ fault.sent) × (fault.sent < sent.bytes + length text)
-    × (tells → after ≡ before ++ take (fault.sent - sent.bytes) text)
+    × (after ≡ sink_failed (put (take (fault.sent - sent.bytes) text) before))
 
 -- whether a line has room on a page after what it holds
 abbrev pub has_room : List ℕ → List ℕ → Bool

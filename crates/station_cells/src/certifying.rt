@@ -1,12 +1,11 @@
 //! The cells of a track, written as they are found. It takes no memory.
 
-ghost use Rattle.std.specs.Prelude.{◌≡◌, ◌+◌, ◌*◌, ◌<◌, ◌≤◌, ◌^◌, length, map, All, IfOk, OnOk, is_err};
+ghost use Rattle.std.specs.Prelude.{◌≡◌, ◌+◌, ◌*◌, ◌<◌, ◌≤◌, ◌^◌, length, map, All, IfOk, OnOk};
 ghost use Rattle.std.specs.Option.{ForSome};
 ghost use Rattle.cert_text.specs.Certificates.{IsCell};
 ghost use Rattle.cert_text.specs.Lines.{cell_line_of, track_lines_of, lines_if_there, ended, joined};
 ghost use Rattle.event_list.specs.Merging.{cells_left};
 ghost use Rattle.station_cells.specs.Sending.{Sends, gone_for, held_after, left_count};
-ghost use Rattle.tide_edge.specs.Faults.{faults_after};
 
 use crate::page::Page;
 use crate::sending::{Sent, send};
@@ -17,6 +16,7 @@ use interval_search::Search;
 use tide_edge::{Sink, WriteFailed};
 
 /// Writes a track, if there is a search for it.
+#[tactic(auto, using(crate::proofs::SendLemmas::same_state))]
 pub fn send_if_followed<C: Curve + Drop, S: Sink>(
     out: &mut S,
     sent: Sent,
@@ -26,10 +26,8 @@ pub fn send_if_followed<C: Curve + Drop, S: Sink>(
     requires cells { ForSome search (λ search. All IsCell search.left) }
     requires few { sent.bytes + 24 + 24 * left_count search < 2 ^ 64 }
     requires count { sent.cells + left_count search < 2 ^ 64 }
-    ensures sends { Sends (S.tells out.old) (S.taken out.old) (S.taken out.new) sent (joined (lines_if_there track (cells_left search))) (left_count search) result }
+    ensures sends { Sends (S.state out.old) (S.state out.new) sent (joined (lines_if_there track (cells_left search))) (left_count search) result }
     ensures short { IfOk result (λ done. done.bytes ≤ sent.bytes + 24 + 24 * left_count search) }
-    ensures still_tells { S.tells out.old → S.tells out.new }
-    ensures counts { S.faults out.new ≡ faults_after (is_err result) (S.faults out.old) }
 {
     match search {
         Some(search) => send_track(out, sent, track, search),
@@ -47,10 +45,8 @@ pub fn send_track<C: Curve + Drop, S: Sink>(
     requires cells { All IsCell search.left }
     requires few { sent.bytes + 24 + 24 * length search.left < 2 ^ 64 }
     requires count { sent.cells + length search.left < 2 ^ 64 }
-    ensures sends { Sends (S.tells out.old) (S.taken out.old) (S.taken out.new) sent (joined (track_lines_of track search.left)) (length search.left) result }
+    ensures sends { Sends (S.state out.old) (S.state out.new) sent (joined (track_lines_of track search.left)) (length search.left) result }
     ensures short { IfOk result (λ done. done.bytes ≤ sent.bytes + 24 + 24 * length search.left) }
-    ensures still_tells { S.tells out.old → S.tells out.new }
-    ensures counts { S.faults out.new ≡ faults_after (is_err result) (S.faults out.old) }
 {
     let mut line = ArrayString::new();
     heading_line(track, &mut line);
@@ -67,10 +63,8 @@ fn send_cells<C: Curve + Drop, S: Sink>(
     requires cells { All IsCell search.left }
     requires few { sent.bytes + 24 * length search.left < 2 ^ 64 }
     requires count { sent.cells + length search.left < 2 ^ 64 }
-    ensures sends { Sends (S.tells out.old) (S.taken out.old) (S.taken out.new) sent (joined (map cell_line_of search.left)) (length search.left) result }
+    ensures sends { Sends (S.state out.old) (S.state out.new) sent (joined (map cell_line_of search.left)) (length search.left) result }
     ensures short { IfOk result (λ done. done.bytes ≤ sent.bytes + 24 * length search.left) }
-    ensures still_tells { S.tells out.old → S.tells out.new }
-    ensures counts { S.faults out.new ≡ faults_after (is_err result) (S.faults out.old) }
 {
     let mut search = search;
     let mut page = Page::new();
@@ -91,11 +85,9 @@ fn put_cell<S: Sink>(
     requires cell { IsCell cell.now }
     requires few { sent.bytes + length page.old.text.bytes < 2 ^ 64 }
     requires count { sent.cells + 1 < 2 ^ 64 }
-    ensures sends { Sends (S.tells out.old) (S.taken out.old) (S.taken out.new) sent (gone_for page.old.text.bytes (ended (cell_line_of cell.now))) 1 result }
+    ensures sends { Sends (S.state out.old) (S.state out.new) sent (gone_for page.old.text.bytes (ended (cell_line_of cell.now))) 1 result }
     ensures holds { OnOk result (page.new.text.bytes ≡ held_after page.old.text.bytes (ended (cell_line_of cell.now))) }
     ensures short { length (ended (cell_line_of cell.now)) ≤ 24 }
-    ensures still_tells { S.tells out.old → S.tells out.new }
-    ensures counts { S.faults out.new ≡ faults_after (is_err result) (S.faults out.old) }
 {
     let mut line = ArrayString::<24>::new();
     cell_line(cell, &mut line);

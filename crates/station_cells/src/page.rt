@@ -1,8 +1,7 @@
 //! Lines that are gathered before they are written, since a call of the system for each is slow.
 
-ghost use Rattle.std.specs.Prelude.{◌≡◌, ◌+◌, ◌<◌, ◌≤◌, ◌^◌, [], length, OnOk, is_err};
+ghost use Rattle.std.specs.Prelude.{◌≡◌, ◌+◌, ◌<◌, ◌≤◌, ◌^◌, [], length, OnOk};
 ghost use Rattle.station_cells.specs.Sending.{Sends, gone_for, held_after};
-ghost use Rattle.tide_edge.specs.Faults.{faults_after};
 
 use crate::sending::{Sent, send};
 use arrayvec::ArrayString;
@@ -24,13 +23,12 @@ impl Page {
     }
 
     /// Puts a line on the page. What is there is written first where the line has no room after it.
+    #[tactic(auto, using(crate::proofs::SendLemmas::same_state))]
     pub fn put<S: Sink>(&mut self, out: &mut S, sent: Sent, line: &str) -> Result<Sent, WriteFailed>
         requires short { length line.now ≤ 4096 }
         requires few { sent.bytes + length self.old.text.bytes < 2 ^ 64 }
-        ensures sends { Sends (S.tells out.old) (S.taken out.old) (S.taken out.new) sent (gone_for self.old.text.bytes line.now) 0 result }
+        ensures sends { Sends (S.state out.old) (S.state out.new) sent (gone_for self.old.text.bytes line.now) 0 result }
         ensures holds { OnOk result (self.new.text.bytes ≡ held_after self.old.text.bytes line.now) }
-        ensures still_tells { S.tells out.old → S.tells out.new }
-        ensures counts { S.faults out.new ≡ faults_after (is_err result) (S.faults out.old) }
     {
         if self.text.len() + line.len() <= self.text.capacity() {
             self.text.push_str(line);
@@ -45,9 +43,7 @@ impl Page {
     /// Writes what is on the page.
     pub fn end<S: Sink>(self, out: &mut S, sent: Sent) -> Result<Sent, WriteFailed>
         requires { sent.bytes + length self.text.bytes < 2 ^ 64 }
-        ensures sends { Sends (S.tells out.old) (S.taken out.old) (S.taken out.new) sent self.text.bytes 0 result }
-        ensures still_tells { S.tells out.old → S.tells out.new }
-        ensures counts { S.faults out.new ≡ faults_after (is_err result) (S.faults out.old) }
+        ensures { Sends (S.state out.old) (S.state out.new) sent self.text.bytes 0 result }
     {
         send(out, sent, self.text.as_str())
     }

@@ -1,8 +1,7 @@
 //! A text that is written part after part. None takes memory.
 
-ghost use Rattle.std.specs.Prelude.{◌≡◌, ◌+◌, ◌<◌, ◌^◌, ◌++◌, length, codes, is_err};
+ghost use Rattle.std.specs.Prelude.{◌≡◌, ◌+◌, ◌<◌, ◌^◌, ◌++◌, length, codes};
 ghost use Rattle.station_cells.specs.Sending.{Sends};
-ghost use Rattle.tide_edge.specs.Faults.{faults_after};
 
 use decimal_text::Text;
 use tide_edge::{Sink, WriteFailed, write_all};
@@ -19,9 +18,7 @@ pub struct Sent {
 /// Writes a piece after what is written before.
 pub fn send<S: Sink>(out: &mut S, sent: Sent, piece: &str) -> Result<Sent, WriteFailed>
     requires { sent.bytes + length piece.now < 2 ^ 64 }
-    ensures sends { Sends (S.tells out.old) (S.taken out.old) (S.taken out.new) sent piece.now 0 result }
-    ensures still_tells { S.tells out.old → S.tells out.new }
-    ensures counts { S.faults out.new ≡ faults_after (is_err result) (S.faults out.old) }
+    ensures { Sends (S.state out.old) (S.state out.new) sent piece.now 0 result }
 {
     match write_all(out, piece.as_bytes()) {
         Ok(()) => Ok(Sent {
@@ -42,9 +39,7 @@ pub fn send_name<S: Sink>(
     name: &Text,
 ) -> Result<Sent, WriteFailed>
     requires { sent.bytes + length front.now + length name.now + 1 < 2 ^ 64 }
-    ensures sends { Sends (S.tells out.old) (S.taken out.old) (S.taken out.new) sent (front.now ++ name.now ++ codes "\n") 0 result }
-    ensures still_tells { S.tells out.old → S.tells out.new }
-    ensures counts { S.faults out.new ≡ faults_after (is_err result) (S.faults out.old) }
+    ensures { Sends (S.state out.old) (S.state out.new) sent (front.now ++ name.now ++ codes "\n") 0 result }
 {
     let sent = send(out, sent, front)?;
     let sent = send(out, sent, name.as_str())?;

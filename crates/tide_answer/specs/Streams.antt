@@ -1,5 +1,5 @@
 -- Answers that are written as they are found (this project).
-use Rattle.std.specs.Prelude.{◌≡◌, ℕ, ◌<◌, Bool, true, false, ◌&&◌, if◌then◌else◌, List, ◌++◌, length, take, Some, None, Result, Ok, Err}
+use Rattle.std.specs.Prelude.{◌≡◌, ℕ, ◌<◌, Bool, true, false, ◌&&◌, if◌then◌else◌, List, length, take, Some, None, Result, Ok, Err}
 use Rattle.decimal_text.specs.Expected.{◌>>=◌}
 use Rattle.harmonics_text.specs.declared.book.Book.{Book}
 use Rattle.question.specs.declared.command.Command.{Command}
@@ -11,6 +11,7 @@ use Rattle.station_table.specs.declared.basis.Basis.{Basis}
 use Rattle.station_table.specs.declared.offsets.Offsets.{Offsets}
 use Rattle.station_table.specs.Bases.{is_plain}
 use Rattle.tide_edge.specs.declared.writing.WriteFailed.{WriteFailed}
+use Rattle.tide_edge.specs.SinkStates.{SinkState, put, sink_failed}
 use Rattle.zone_time.specs.declared.zone.Zone.{Zone}
 use Rattle.zone_time.specs.declared.zone.Zone.TheVariants as zones
 use Rattle.tide_answer.specs.declared.given.Given.{Given}
@@ -50,8 +51,8 @@ prepared book table question given = do
   site ← site_in Events book table name asked
   Ok (record { stream = if streams_by site.basis question.layout given.zone then Some answer else None })
 
--- the text of an answer was written whole, or its first bytes
-abbrev pub Streams : Type 0 → List ℕ → List ℕ → Answer → Result ℕ WriteFailed → Type 0
-Streams tells before after answer (Ok cells) = (cells ≡ answer.cells) × (tells → after ≡ before ++ answer.text)
-Streams tells before after answer (Err fault) =
-    (fault.sent < length answer.text) × (tells → after ≡ before ++ take fault.sent answer.text)
+-- the text of an answer was written whole, or its first bytes, and nothing after a write that failed
+abbrev pub Streams : SinkState → SinkState → Answer → Result ℕ WriteFailed → Type 0
+Streams before after answer (Ok cells) = (cells ≡ answer.cells) × (after ≡ put answer.text before)
+Streams before after answer (Err fault) =
+    (fault.sent < length answer.text) × (after ≡ sink_failed (put (take fault.sent answer.text) before))

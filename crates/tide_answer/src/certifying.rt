@@ -1,6 +1,6 @@
 //! A certificate that is written as its cells are found. It takes no memory.
 
-ghost use Rattle.std.specs.Prelude.{◌≡◌, ◌<◌, ◌≤◌, ◌^◌, ◌++◌, length, IfOk, IfSome, is_err};
+ghost use Rattle.std.specs.Prelude.{◌≡◌, ◌<◌, ◌≤◌, ◌^◌, ◌++◌, length, IfOk, IfSome};
 ghost use Rattle.cert_text.specs.Certificates.{IsMark, IsStationName};
 ghost use Rattle.cert_text.specs.Lines.{begin_line_of, end_line_of, mark_line_of, certificate_text, ended};
 ghost use Rattle.station_cells.specs.Sending.{Sends};
@@ -8,7 +8,6 @@ ghost use Rattle.station_span.specs.Workings.Curves.{tide_cells, IsReady};
 ghost use Rattle.station_span.specs.Workings.Spans.{AreMoments, IsNear};
 ghost use Rattle.tide_answer.specs.Workings.Certifying.{certificate_in};
 ghost use Rattle.tide_answer.specs.Workings.Streaming.{head_text, tide_tracks, tracks_text, HasCells};
-ghost use Rattle.tide_edge.specs.Faults.{faults_after};
 
 use arrayvec::ArrayString;
 use cert_text::{TrackName, begin_line, end_line, mark_line};
@@ -28,10 +27,8 @@ pub fn send_certificate<S: Sink>(
     requires near { IsNear asked.now }
     requires moments { AreMoments asked.now }
     requires name { IsStationName name.now }
-    ensures sends { Sends (S.tells out.old) (S.taken out.old) (S.taken out.new) (record { bytes = 0; cells = 0 })
+    ensures { Sends (S.state out.old) (S.state out.new) (record { bytes = 0; cells = 0 })
         (certificate_text (certificate_in name.now asked.now (tide_tracks found.now asked.now))) (tide_cells found.now asked.now) result }
-    ensures still_tells { S.tells out.old → S.tells out.new }
-    ensures counts { S.faults out.new ≡ faults_after (is_err result) (S.faults out.old) }
 {
     let sent = send_head(out, name, asked)?;
     let sent = send_tracks(out, sent, found, asked)?;
@@ -43,11 +40,9 @@ fn send_head<S: Sink>(out: &mut S, name: &Text, asked: &Asked) -> Result<Sent, W
     requires name { length name.now ≤ 400 }
     requires moments { AreMoments asked.now }
     requires mark { IfSome asked.now.mark IsMark }
-    ensures sends { Sends (S.tells out.old) (S.taken out.old) (S.taken out.new) (record { bytes = 0; cells = 0 })
+    ensures sends { Sends (S.state out.old) (S.state out.new) (record { bytes = 0; cells = 0 })
         (head_text name.now asked.now) 0 result }
     ensures short { IfOk result (λ done. done.bytes ≤ 1000) }
-    ensures still_tells { S.tells out.old → S.tells out.new }
-    ensures counts { S.faults out.new ≡ faults_after (is_err result) (S.faults out.old) }
 {
     let start = Sent { bytes: 0, cells: 0 };
     let sent = send_name(out, start, "tide certificate 2\nstation ", name)?;
@@ -67,11 +62,9 @@ fn send_tracks<S: Sink>(
     requires cells { HasCells (tide_tracks found.now asked.now) }
     requires small { sent.bytes ≤ 1000 }
     requires first { sent.cells ≡ 0 }
-    ensures sends { Sends (S.tells out.old) (S.taken out.old) (S.taken out.new) sent
+    ensures sends { Sends (S.state out.old) (S.state out.new) sent
         (tracks_text (tide_tracks found.now asked.now)) (tide_cells found.now asked.now) result }
     ensures short { IfOk result (λ done. done.bytes < 2 ^ 63) }
-    ensures still_tells { S.tells out.old → S.tells out.new }
-    ensures counts { S.faults out.new ≡ faults_after (is_err result) (S.faults out.old) }
 {
     let span = reached(Reach::Events, &found.basis, asked);
     let sent = send_track(out, sent, TrackName::Turn, turn_search(found, &span))?;

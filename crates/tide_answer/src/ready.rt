@@ -10,7 +10,6 @@ ghost use Rattle.tide_fault.specs.Faults.{wants_memory_of_refusal, IsToldRefusal
 ghost use Rattle.tide_answer.specs.Givens.{IsGiven};
 ghost use Rattle.tide_answer.specs.Streams.{can_stream, prepared, streams_by, Streams};
 ghost use Rattle.tide_answer.specs.Workings.Streaming.{form_of};
-ghost use Rattle.tide_edge.specs.Faults.{faults_after};
 
 use crate::asking::{span_named, station_named};
 use crate::form::Form;
@@ -81,9 +80,7 @@ pub fn prepare(
 /// written after that.
 pub fn answer_into<S: Sink>(ready: &Ready, out: &mut S) -> Result<u64, WriteFailed>
     requires { IsSome ready.now.stream }
-    ensures streams { ForSome ready.now.stream (λ answer. Streams (S.tells out.old) (S.taken out.old) (S.taken out.new) answer result) }
-    ensures still_tells { S.tells out.old → S.tells out.new }
-    ensures counts { S.faults out.new ≡ faults_after (is_err result) (S.faults out.old) }
+    ensures { ForSome ready.now.stream (λ answer. Streams (S.state out.old) (S.state out.new) answer result) }
 {
     match &ready.stream {
         Some(stream) => stream.write(out),

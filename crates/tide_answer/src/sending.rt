@@ -1,11 +1,10 @@
 //! A listing that is written as its events are found. It takes no memory.
 
-ghost use Rattle.std.specs.Prelude.{◌≡◌, ◌+◌, ◌*◌, ◌<◌, ◌≤◌, ◌^◌, ◌++◌, length, codes, All, OnOk, is_err};
+ghost use Rattle.std.specs.Prelude.{◌≡◌, ◌+◌, ◌*◌, ◌<◌, ◌≤◌, ◌^◌, ◌++◌, length, codes, All, OnOk};
 ghost use Rattle.std.specs.List.{flat_map};
 ghost use Rattle.event_text.specs.Lines.{IsListed, event_line_in};
 ghost use Rattle.listing.specs.Listings.{plain_events_of};
 ghost use Rattle.station_cells.specs.Sending.{Sends};
-ghost use Rattle.tide_edge.specs.Faults.{faults_after};
 ghost use Rattle.zone_time.specs.Zones.{IsZone};
 
 use arrayvec::ArrayString;
@@ -30,10 +29,8 @@ pub fn send_events<'a, S: Sink>(
     requires zone { IsZone zone.now }
     requires listed { All (IsListed units) merge.old.left }
     requires few { sent.bytes + 96 * length merge.old.left < 2 ^ 64 }
-    ensures sends { Sends (S.tells out.old) (S.taken out.old) (S.taken out.new) sent (flat_map (event_line_in zone.now units) merge.old.left) 0 result }
+    ensures sends { Sends (S.state out.old) (S.state out.new) sent (flat_map (event_line_in zone.now units) merge.old.left) 0 result }
     ensures cells { OnOk result (merge.new.cells ≡ merge.old.all) }
-    ensures still_tells { S.tells out.old → S.tells out.new }
-    ensures counts { S.faults out.new ≡ faults_after (is_err result) (S.faults out.old) }
 {
     let mut page = Page::new();
     let mut so_far = sent;
@@ -68,10 +65,8 @@ pub fn send_listing<'a, S: Sink>(
     requires zone { IsZone zone.now }
     requires listed { All (IsListed units) merge.old.left }
     requires few { 96 * length merge.old.left < 2 ^ 63 }
-    ensures sends { Sends (S.tells out.old) (S.taken out.old) (S.taken out.new) (record { bytes = 0; cells = 0 }) (plain_events_of name.now units merge.old.left zone.now) 0 result }
+    ensures sends { Sends (S.state out.old) (S.state out.new) (record { bytes = 0; cells = 0 }) (plain_events_of name.now units merge.old.left zone.now) 0 result }
     ensures cells { OnOk result (merge.new.cells ≡ merge.old.all) }
-    ensures still_tells { S.tells out.old → S.tells out.new }
-    ensures counts { S.faults out.new ≡ faults_after (is_err result) (S.faults out.old) }
 {
     let start = Sent { bytes: 0, cells: 0 };
     let sent = send_name(out, start, "", name)?;

@@ -1,9 +1,8 @@
 //! An answer that is written as it is found.
 
-ghost use Rattle.std.specs.Prelude.{◌≡◌, is_err};
+ghost use Rattle.std.specs.Prelude.{◌≡◌};
 ghost use Rattle.tide_answer.specs.Streams.{Streams};
 ghost use Rattle.tide_answer.specs.Workings.Streaming.{stream_answer, IsStream};
-ghost use Rattle.tide_edge.specs.Faults.{faults_after};
 
 use crate::certifying::send_certificate;
 use crate::form::Form;
@@ -53,9 +52,7 @@ impl Stream {
 
     /// Writes the answer's text, and answers its cells. It takes no memory.
     pub fn write<S: Sink>(&self, out: &mut S) -> Result<u64, WriteFailed>
-        ensures streams { Streams (S.tells out.old) (S.taken out.old) (S.taken out.new) self.now result }
-        ensures still_tells { S.tells out.old → S.tells out.new }
-        ensures counts { S.faults out.new ≡ faults_after (is_err result) (S.faults out.old) }
+        ensures { Streams (S.state out.old) (S.state out.new) self.now result }
     {
         match self.form {
             Form::Listing => write_listing(out, &self.found, &self.name, &self.asked, &self.zone),
@@ -78,9 +75,7 @@ fn write_listing<S: Sink>(
     zone: &Zone,
 ) -> Result<u64, WriteFailed>
     requires { IsStream found.now name.now asked.now zone.now }
-    ensures streams { Streams (S.tells out.old) (S.taken out.old) (S.taken out.new) (stream_answer Form.Listing found.now name.now asked.now zone.now) result }
-    ensures still_tells { S.tells out.old → S.tells out.new }
-    ensures counts { S.faults out.new ≡ faults_after (is_err result) (S.faults out.old) }
+    ensures { Streams (S.state out.old) (S.state out.new) (stream_answer Form.Listing found.now name.now asked.now zone.now) result }
 {
     let mut merge = merge_of(found, asked);
     send_listing(out, name, found.units, zone, &mut merge)?;
@@ -95,9 +90,7 @@ fn write_certificate<S: Sink>(
     zone: &Zone,
 ) -> Result<u64, WriteFailed>
     requires { IsStream found.now name.now asked.now zone.now }
-    ensures streams { Streams (S.tells out.old) (S.taken out.old) (S.taken out.new) (stream_answer Form.Certificate found.now name.now asked.now zone.now) result }
-    ensures still_tells { S.tells out.old → S.tells out.new }
-    ensures counts { S.faults out.new ≡ faults_after (is_err result) (S.faults out.old) }
+    ensures { Streams (S.state out.old) (S.state out.new) (stream_answer Form.Certificate found.now name.now asked.now zone.now) result }
 {
     let sent = send_certificate(out, found, name, asked)?;
     Ok(sent.cells)

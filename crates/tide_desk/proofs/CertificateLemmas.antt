@@ -17,10 +17,10 @@ use Rattle.tide_answer.specs.declared.text.Answer.{Answer}
 use Rattle.tide_answer.specs.Answers.{built, certified, checked, predicted, text_by}
 use Rattle.tide_answer.specs.Asking.{asked_in}
 use Rattle.tide_answer.specs.Laws as books
-use Rattle.tide_desk.specs.declared.materials.Materials.{Materials}
+use Rattle.named_files.specs.declared.materials.Materials.{Materials}
 use Rattle.tide_desk.specs.Answers.{answer_of, answered_by}
 use Rattle.tide_desk.specs.Laws.{Asks, NameSameFiles, Subject, subject_in, subject_of, AsksListing, HoldSame, HoldsCertificate, AcceptsWithListing, AcceptsWhatCertifyAnswers, AcceptsOnlyTrueCertificates}
-use Rattle.tide_desk.specs.Readings.{Folder, book_named, table_named, zone_named, certificate_named, minute_for, given_with}
+use Rattle.named_files.specs.Readings.{Folder, book_named, table_named, zone_named, certificate_named, minute_for, given_with}
 use Rattle.tide_desk.proofs.AskedLemmas.{NamesSpan, asked_in_range, askable, goes_over_span, predict_names_none, went_over_span}
 use Rattle.tide_desk.proofs.FileLemmas.{ReadsFiles, WasRead, book_alike, certificate_held, certificate_there, is_answered, named_book, named_table, table_alike, was_answered, words_answer}
 

@@ -19,11 +19,11 @@ use Rattle.tide_answer.specs.declared.text.Answer.{Answer}
 use Rattle.tide_answer.specs.Answers.{answered, answered_alone, built, text_by, text_from}
 use Rattle.station_span.proofs.SiteLemmas.{then_ok}
 use Rattle.tide_edge.specs.declared.read_all_fault.ReadAllFault.TheVariants as reading
-use Rattle.tide_desk.specs.declared.materials.Materials.{Materials}
+use Rattle.named_files.specs.declared.materials.Materials.{Materials}
 use Rattle.tide_desk.specs.Answers.{answer_from, answer_of, answered_by, answered_over, asked_of}
-use Rattle.tide_desk.specs.NoAnswers.{refused_over}
+use Rattle.named_files.specs.NoAnswers.{refused_over}
 use Rattle.tide_desk.specs.Laws.{Holds, HoldSame}
-use Rattle.tide_desk.specs.Readings.{Folder, limit_of, bytes_from, bytes_of, book_from, book_named, table_from, table_named, zone_named, certificate_named, files_in, minute_for, given_with}
+use Rattle.named_files.specs.Readings.{Folder, limit_of, bytes_from, bytes_of, book_from, book_named, table_from, table_named, zone_named, certificate_named, files_in, minute_for, given_with}
 use Rattle.tide_desk.proofs.TableLemmas.{table_sound}
 
 -- ---- the bytes under a name

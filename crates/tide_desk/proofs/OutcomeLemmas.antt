@@ -12,13 +12,13 @@ use Rattle.tide_fault.specs.declared.status.Status.TheVariants.{ReadFault, NoMem
 use Rattle.tide_answer.specs.declared.text.Answer.{Answer}
 use Rattle.tide_fault.specs.Faults.{wants_memory as fault_wants_memory, wants_memory_of_refusal, status_of_refusal, line_of as line_of_fault, ask_line, form_line, table_line, refusal_line as line_of_refusal}
 use Rattle.tide_edge.specs.Excuses.{memory, given}
-use Rattle.tide_desk.specs.declared.no_answer.NoAnswer.{NoAnswer}
-use Rattle.tide_desk.specs.declared.no_answer.NoAnswer.TheVariants.{Unread, Told}
-use Rattle.tide_desk.specs.declared.no_answer.NoAnswer.TheVariants as none_of
-use Rattle.tide_desk.specs.NoAnswers.{status_of, line_of, source_of, wants_memory, is_unread}
+use Rattle.named_files.specs.declared.no_answer.NoAnswer.{NoAnswer}
+use Rattle.named_files.specs.declared.no_answer.NoAnswer.TheVariants.{Unread, Told}
+use Rattle.named_files.specs.declared.no_answer.NoAnswer.TheVariants as none_of
+use Rattle.named_files.specs.NoAnswers.{status_of, line_of, source_of, wants_memory, is_unread}
 use Rattle.tide_desk.specs.Outcomes.{Says, EndsAs, is_read_fault, is_write_fault, output_with, line_with}
 use Rattle.tide_desk.specs.Workings.Meetings.{ExcusesIf}
-use Rattle.tide_desk.specs.Workings.Telling.{Tells}
+use Rattle.named_files.specs.Workings.Telling.{Tells}
 
 -- the status of a fault says the expected answer, its line goes with it, and nothing is to be written
 record Fits (expected : Result Answer NoAnswer) (none : NoAnswer) : Type 0 where

@@ -15,9 +15,9 @@ use Rattle.tide_fault.specs.declared.fault.Fault.TheVariants.{Ask, Refused}
 use Rattle.tide_fault.specs.declared.refusal.Refusal.{Refusal}
 use Rattle.tide_answer.specs.declared.text.Answer.{Answer}
 use Rattle.tide_answer.specs.Answers.{built, answered, answered_alone}
-use Rattle.tide_desk.specs.declared.no_answer.NoAnswer.{NoAnswer}
-use Rattle.tide_desk.specs.NoAnswers.{told, refused_over}
-use Rattle.tide_desk.specs.Readings.{Folder, Folders, files_in, asks_clock, minute_for, given_with}
+use Rattle.named_files.specs.declared.no_answer.NoAnswer.{NoAnswer}
+use Rattle.named_files.specs.NoAnswers.{told, refused_over}
+use Rattle.named_files.specs.Readings.{Folder, Folders, files_in, asks_clock, minute_for, given_with}
 
 -- ---- The words
 

@@ -12,7 +12,7 @@ use Rattle.tide_answer.specs.declared.text.Answer.{Answer}
 use Rattle.tide_answer.specs.Answers.{text_alone}
 use Rattle.tide_answer.specs.Laws.{IsTrueCertificate}
 use Rattle.tide_desk.specs.Answers.{answer_of, answered_by, asked_of}
-use Rattle.tide_desk.specs.Readings.{Folder, book_named, table_named, zone_named}
+use Rattle.named_files.specs.Readings.{Folder, book_named, table_named, zone_named}
 
 -- ---- what is asked
 

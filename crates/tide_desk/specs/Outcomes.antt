@@ -5,8 +5,8 @@ use Rattle.tide_fault.specs.declared.status.Status.{Status}
 use Rattle.tide_fault.specs.declared.status.Status.TheVariants.{Done, Rejected, ReadFault, WriteFault, NoMemory}
 use Rattle.tide_answer.specs.declared.text.Answer.{Answer}
 use Rattle.tide_edge.specs.Faults.{Rose, counted, faults_after}
-use Rattle.tide_desk.specs.declared.no_answer.NoAnswer.{NoAnswer}
-use Rattle.tide_desk.specs.NoAnswers.{status_of, line_of}
+use Rattle.named_files.specs.declared.no_answer.NoAnswer.{NoAnswer}
+use Rattle.named_files.specs.NoAnswers.{status_of, line_of}
 
 abbrev pub is_read_fault : Status → Bool
 is_read_fault ReadFault = true

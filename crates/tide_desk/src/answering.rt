@@ -8,11 +8,11 @@ ghost use Rattle.tide_answer.specs.Answers.{answered, answered_alone};
 ghost use Rattle.tide_edge.specs.Clocks.{IsClockMinute};
 ghost use Rattle.tide_edge.specs.Faults.{faults_after};
 ghost use Rattle.tide_desk.specs.Answers.{AsksClock, HasFiles, NamesFile, answer_from, answer_of, answered_over, asked_of, refused_from};
-ghost use Rattle.tide_desk.specs.NoAnswers.{IsTold, reading_failed, refused_over, source_of, told, wants_memory};
+ghost use Rattle.named_files.specs.NoAnswers.{IsTold, reading_failed, refused_over, source_of, told, wants_memory};
 ghost use Rattle.tide_desk.specs.Outcomes.{ClockFailed, FilesFailed, IsFirm};
-ghost use Rattle.tide_desk.specs.Readings.{Folder, Folders, StopsAtLimit, asks_clock, file_named, files_in, files_named, given_with, minute_for};
-ghost use Rattle.tide_desk.specs.Workings.Materials.{AreMaterials};
-ghost use Rattle.tide_desk.specs.Workings.Meetings.{MeetsIf};
+ghost use Rattle.named_files.specs.Readings.{Folder, Folders, StopsAtLimit, asks_clock, file_named, files_in, files_named, given_with, minute_for};
+ghost use Rattle.named_files.specs.Workings.Materials.{AreMaterials};
+ghost use Rattle.tide_edge.specs.Excuses.{Meets};
 
 use crate::asking::read_words;
 use crate::materials::Materials;

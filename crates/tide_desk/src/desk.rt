@@ -6,8 +6,8 @@ ghost use Rattle.tide_fault.specs.declared.slot.Slot.{Slot};
 ghost use Rattle.tide_fault.specs.declared.status.Status.{Status};
 ghost use Rattle.tide_desk.specs.Answers.{AsksClock, HasFiles, NamesFile, answer_from, answer_of, asked_of};
 ghost use Rattle.tide_desk.specs.Outcomes.{ClockFailed, EndsAs, FilesFailed, IsFirm, IsSilent, IsUntouched, Wrote, is_read_fault};
-ghost use Rattle.tide_desk.specs.declared.no_answer.NoAnswer.{NoAnswer};
-ghost use Rattle.tide_desk.specs.Readings.{Folders, StopsAtLimit, file_named, files_named};
+ghost use Rattle.named_files.specs.declared.no_answer.NoAnswer.{NoAnswer};
+ghost use Rattle.named_files.specs.Readings.{Folders, StopsAtLimit, file_named, files_named};
 
 use crate::answering::answer_words;
 use crate::telling::{refuse, tell};

@@ -1,12 +1,12 @@
 -- What opening a file and reading it on come to.
-use Rattle.std.proofs.Common.{◌≡◌, ℕ, ◌+◌, ◌-◌, ◌^◌, ◌≤◌, Bool, false, true, if◌then◌else◌, IsTrue, List, [], Option, Some, None, IsSome, Result, Ok, Err, unwrap_or, arith, refl}
+use Rattle.std.proofs.Common.{◌≡◌, ℕ, ◌+◌, ◌-◌, ◌^◌, ◌≤◌, Bool, false, true, if◌then◌else◌, IsTrue, List, [], Option, Some, None, IsSome, Result, Ok, Err, unwrap_or, arith, refl, ap, ◌∙◌}
 use Rattle.std.specs.Prelude.{◌==◌}
 use Rattle.tide_edge.specs.declared.failed.Failed.{Failed}
 use Rattle.tide_edge.specs.declared.read_all_fault.ReadAllFault.{ReadAllFault}
 use Rattle.tide_edge.specs.Excuses.{Meets}
-use Rattle.tide_edge.specs.Faults.{counted}
+use Rattle.tide_edge.specs.Faults.{counted, faults_after}
 use Rattle.tide_edge.specs.FileStates.{FilesState, files_after_open}
-use Rattle.tide_edge.specs.Whole.{ReadWithin, one_file, source_of, whole}
+use Rattle.tide_edge.specs.Whole.{Allowance, ReadWithin, both, no_file, one_file, source_of, whole}
 use Rattle.tide_edge.specs.Workings.Reading.{IsReadOn}
 
 counted_most_by : (last : Bool) (count : ℕ) → (count == 2 ^ 64 - 1) ≡ last → counted count ≤ count + 1
@@ -55,4 +55,30 @@ unopened_within T failed limit name s = record {
   ends = omega arith;
   bytes = omega arith;
   faults = refl;
+}
+
+-- where nothing was read
+pub read_none : (s : FilesState) → ReadWithin no_file false s s
+read_none s = record { store = refl; opens = omega arith; ends = omega arith; bytes = omega arith; faults = refl }
+
+-- one reading, and then another
+pub read_then : (a b : Allowance) (failed : Bool) (before between after : FilesState)
+    → ReadWithin a false before between → ReadWithin b failed between after → ReadWithin (both a b) failed before after
+read_then a b failed before between after first second = record {
+  store = second.store ∙ first.store;
+  opens = omega (arith, first.opens, second.opens);
+  ends = omega (arith, first.ends, second.ends);
+  bytes = omega (arith, first.bytes, second.bytes);
+  faults = second.faults ∙ ap (faults_after failed) first.faults;
+}
+
+-- what is within an allowance is within a larger one
+pub read_more : (a b : Allowance) (failed : Bool) (before after : FilesState)
+    → ReadWithin a failed before after → ReadWithin (both a b) failed before after
+read_more a b failed before after read = record {
+  store = read.store;
+  opens = omega (arith, read.opens);
+  ends = omega (arith, read.ends);
+  bytes = omega (arith, read.bytes);
+  faults = read.faults;
 }

@@ -13,9 +13,7 @@ loop-found-init g c =
     let empty = c.new-page.ensures in
     let none : length c.new-page.result.text.bytes ≡ 0 = ap length empty in
     record {
-      sends = ([], 0, rw empty refl, omega arith, sends_none (g.S.Sink.tells c.args.out.now) (g.S.Sink.taken c.args.out.now) c.args.sent);
-      tells = λ t. t;
-      unfailed = refl;
+      sends = ([], 0, rw empty refl, omega arith, sends_none (g.S.Sink.state c.args.out.now) c.args.sent);
       few = omega (arith, none);
       cells = c.requires.cells;
     }
@@ -60,11 +58,9 @@ loop-found-preserved g c =
         n + 1,
         page_step (λ (cells : List Cell). joined (map cell_line_of cells)) c.loop-found.search.left c.next.new.self.left c.in-Some.found.cell _ text held piece now is refl put so_far.sends.2,
         omega (arith, count, left),
-        sends_then (g.S.Sink.tells c.args.out.now) (g.S.Sink.tells c.loop-found.out) (g.S.Sink.taken c.args.out.now) (g.S.Sink.taken c.loop-found.out) (g.S.Sink.taken c.put_cell.new.out)
-            c.args.sent c.loop-found.so_far text (gone_for held piece) n 1 (Ok c.in_ok-so_far.so_far) so_far.tells so_far.sends.4 c.in_ok-so_far.ensures.sends,
+        sends_then (g.S.Sink.state c.args.out.now) (g.S.Sink.state c.loop-found.out) (g.S.Sink.state c.put_cell.new.out)
+            c.args.sent c.loop-found.so_far text (gone_for held piece) n 1 (Ok c.in_ok-so_far.so_far) so_far.sends.4 c.in_ok-so_far.ensures.sends,
       );
-      tells = λ t. c.put_cell.ensures.still_tells (so_far.tells t);
-      unfailed = c.in_ok-so_far.ensures.counts ∙ so_far.unfailed;
       few = omega (arith, bytes, short, few, long, left);
       cells = All-tail IsCell c.in-Some.found.cell c.next.new.self.left (rw is at so_far.cells);
     }
@@ -80,8 +76,8 @@ returns-in_err-so_far-clause-sends g c =
     let now = held_after held piece in
     let rest = joined (map cell_line_of c.next.new.self.left) in
     let whole = page_step (λ (cells : List Cell). joined (map cell_line_of cells)) c.loop-found.search.left c.next.new.self.left c.in-Some.found.cell _ text held piece now c.in-Some.ensures.found.1 refl refl so_far.sends.2 in
-    rw (p.1, p.2, ← whole) (sends_cut _ _ _ c.args.sent (text ++ gone_for held piece) (now ++ rest) (n + 1) 0 _
-    (sends_then _ _ _ _ _ c.args.sent c.loop-found.so_far text (gone_for held piece) n 1 (Err _) so_far.tells so_far.sends.4 c.in_err-so_far.ensures.sends))
+    rw (p.1, p.2, ← whole) (sends_cut _ _ c.args.sent (text ++ gone_for held piece) (now ++ rest) (n + 1) 0 _
+    (sends_then _ _ _ c.args.sent c.loop-found.so_far text (gone_for held piece) n 1 (Err _) so_far.sends.4 c.in_err-so_far.ensures.sends))
 
 pub end-requires : goal.end-requires
 end-requires g c =
@@ -100,10 +96,10 @@ returns-clause-sends g c =
     let left : length c.loop-found.search.left ≡ 0 = ap length none in
     let all : n + 0 ≡ length c.args.search.left = omega (arith, count, left) in
     let whole = page_done (λ (cells : List Cell). joined (map cell_line_of cells)) c.loop-found.search.left _ text held none refl so_far.sends.2 in
-    rw (← whole) (sends_sum (g.S.Sink.tells c.args.out.now) (g.S.Sink.tells c.loop-found.out) (g.S.Sink.taken c.args.out.now) (g.S.Sink.taken c.loop-found.out) (g.S.Sink.taken c.end.new.out)
-    c.args.sent c.loop-found.so_far text held n 0 (length c.args.search.left) all c.end.result so_far.tells so_far.sends.4 c.end.ensures.sends)
+    rw (← whole) (sends_sum (g.S.Sink.state c.args.out.now) (g.S.Sink.state c.loop-found.out) (g.S.Sink.state c.end.new.out)
+    c.args.sent c.loop-found.so_far text held n 0 (length c.args.search.left) all c.end.result so_far.sends.4 c.end.ensures)
 
 pub returns-clause-short : goal.returns-clause-short
 returns-clause-short g c =
     let few = c.loop-found.invariant.few in
-    sent_below (g.S.Sink.tells c.loop-found.out) (g.S.Sink.taken c.loop-found.out) (g.S.Sink.taken c.end.new.out) c.loop-found.so_far c.loop-found.page.text.bytes 0 (c.args.sent.bytes + 24 * length c.args.search.left) c.end.result c.end.ensures.sends (omega (arith, few))
+    sent_below (g.S.Sink.state c.loop-found.out) (g.S.Sink.state c.end.new.out) c.loop-found.so_far c.loop-found.page.text.bytes 0 (c.args.sent.bytes + 24 * length c.args.search.left) c.end.result c.end.ensures (omega (arith, few))

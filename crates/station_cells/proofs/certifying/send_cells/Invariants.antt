@@ -8,9 +8,7 @@ abbrev pub invariant-loop-found : goal.invariant-loop-found
 invariant-loop-found g l = record {
   sends : (text : List ℕ) × (n : ℕ) × (text ++ (l.page.text.bytes ++ joined (map cell_line_of l.search.left)) ≡ joined (map cell_line_of l.fn.search.left))
       × (n + length l.search.left ≡ length l.fn.search.left)
-      × Sends (g.S.Sink.tells l.fn.out) (g.S.Sink.taken l.fn.out) (g.S.Sink.taken l.out) l.fn.sent text n (Ok l.so_far);
-  tells : g.S.Sink.tells l.fn.out → g.S.Sink.tells l.out;
-  unfailed : g.S.Sink.faults l.out ≡ g.S.Sink.faults l.fn.out;
+      × Sends (g.S.Sink.state l.fn.out) (g.S.Sink.state l.out) l.fn.sent text n (Ok l.so_far);
   few : l.so_far.bytes + length l.page.text.bytes + 24 * length l.search.left ≤ l.fn.sent.bytes + 24 * length l.fn.search.left;
   cells : All IsCell l.search.left;
 }

@@ -3,18 +3,18 @@ use Rattle.std.proofs.lemmas.Result.{err_from_is_err_and}
 use Rattle.station_cells.proofs.SendLemmas.{sends_cut, sends_then}
 use Rattle.station_cells.proofs.sending.send_name.Goals as goal
 
-pub returns-in_err-sent-2-clause-sends : goal.returns-in_err-sent-2-clause-sends
-returns-in_err-sent-2-clause-sends g c =
+pub returns-in_err-sent-2 : goal.returns-in_err-sent-2
+returns-in_err-sent-2 g c =
     let p = err_from_is_err_and c.from_residual-in_err-sent-2.result c.from_residual-in_err-sent-2.ensures.1 in
-    let second = rw c.as_str.ensures at c.in_err-sent-2.ensures.sends in
-    rw (p.1, p.2) (sends_cut _ _ _ c.args.sent (c.args.front.now ++ c.args.name.now) (10 ∷ []) 0 0 _
-    (sends_then _ _ _ _ _ c.args.sent c.in_ok-sent.sent c.args.front.now c.args.name.now 0 0 (Err _) c.send.ensures.still_tells c.in_ok-sent.ensures.sends second))
+    let second = rw c.as_str.ensures at c.in_err-sent-2.ensures in
+    rw (p.1, p.2) (sends_cut _ _ c.args.sent (c.args.front.now ++ c.args.name.now) (10 ∷ []) 0 0 _
+    (sends_then _ _ _ c.args.sent c.in_ok-sent.sent c.args.front.now c.args.name.now 0 0 (Err _) c.in_ok-sent.ensures second))
 
-pub returns-clause-sends : goal.returns-clause-sends
-returns-clause-sends g c =
-    let second = rw c.as_str.ensures at c.in_ok-sent-2.ensures.sends in
-    let both = sends_then (g.S.Sink.tells c.args.out.now) (g.S.Sink.tells c.send.new.out) (g.S.Sink.taken c.args.out.now) (g.S.Sink.taken c.send.new.out) (g.S.Sink.taken c.send-2.new.out)
-    c.args.sent c.in_ok-sent.sent c.args.front.now c.args.name.now 0 0 (Ok c.in_ok-sent-2.sent) c.send.ensures.still_tells c.in_ok-sent.ensures.sends second in
-    sends_then (g.S.Sink.tells c.args.out.now) (g.S.Sink.tells c.send-2.new.out) (g.S.Sink.taken c.args.out.now) (g.S.Sink.taken c.send-2.new.out) (g.S.Sink.taken c.send-3.new.out)
+pub returns : goal.returns
+returns g c =
+    let second = rw c.as_str.ensures at c.in_ok-sent-2.ensures in
+    let both = sends_then (g.S.Sink.state c.args.out.now) (g.S.Sink.state c.send.new.out) (g.S.Sink.state c.send-2.new.out)
+    c.args.sent c.in_ok-sent.sent c.args.front.now c.args.name.now 0 0 (Ok c.in_ok-sent-2.sent) c.in_ok-sent.ensures second in
+    sends_then (g.S.Sink.state c.args.out.now) (g.S.Sink.state c.send-2.new.out) (g.S.Sink.state c.send-3.new.out)
     c.args.sent c.in_ok-sent-2.sent (c.args.front.now ++ c.args.name.now) (10 ∷ []) 0 0 c.send-3.result
-    (λ t. c.send-2.ensures.still_tells (c.send.ensures.still_tells t)) both c.send-3.ensures.sends
+    both c.send-3.ensures

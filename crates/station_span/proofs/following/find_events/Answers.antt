@@ -6,6 +6,6 @@ pub returns : goal.returns
 returns c = record {
   units = refl;
   events = c.in_ok-events.ensures;
-  cells = c.cells.ensures ∙ c.in_ok-merged.ensures.cells ∙ c.merge_of-merge.ensures.all;
+  cells = c.cells.ensures.value ∙ c.in_ok-merged.ensures.cells ∙ c.merge_of-merge.ensures.all;
   lines = rw c.in_ok-events.ensures (tide_lines c.args.asked.now c.args.found.now c.requires.ready);
 }

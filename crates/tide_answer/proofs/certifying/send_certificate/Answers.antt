@@ -9,13 +9,13 @@ use Rattle.tide_answer.proofs.certifying.send_certificate.Goals as goal
 pub send_head-requires-clause-mark : goal.send_head-requires-clause-mark
 send_head-requires-clause-mark g c = mark_in_range c.args.asked.now.mark c.requires.ready.mark
 
-pub returns-in_err-sent-clause-sends : goal.returns-in_err-sent-clause-sends
-returns-in_err-sent-clause-sends g c =
+pub returns-in_err-sent : goal.returns-in_err-sent
+returns-in_err-sent g c =
     let p = err_from_is_err_and c.from_residual.result c.from_residual.ensures.1 in
     let tracks = tide_tracks c.args.found.now c.args.asked.now in
     let parts = certificate_parts c.args.name.now c.args.asked.now tracks in
-    rw (p.1, p.2, parts) (sends_cut _ _ _ (record { bytes = 0; cells = 0 }) (head_text c.args.name.now c.args.asked.now ++ tracks_text tracks) (codes "done\n") 0 0 _
-    (sends_cut _ _ _ (record { bytes = 0; cells = 0 }) (head_text c.args.name.now c.args.asked.now) (tracks_text tracks) 0 0 _ c.in_err-sent.ensures.sends))
+    rw (p.1, p.2, parts) (sends_cut _ _ (record { bytes = 0; cells = 0 }) (head_text c.args.name.now c.args.asked.now ++ tracks_text tracks) (codes "done\n") 0 0 _
+    (sends_cut _ _ (record { bytes = 0; cells = 0 }) (head_text c.args.name.now c.args.asked.now) (tracks_text tracks) 0 0 _ c.in_err-sent.ensures.sends))
 
 pub send_tracks-requires-clause-cells : goal.send_tracks-requires-clause-cells
 send_tracks-requires-clause-cells g c =
@@ -24,22 +24,22 @@ send_tracks-requires-clause-cells g c =
 pub send_tracks-requires-clause-first : goal.send_tracks-requires-clause-first
 send_tracks-requires-clause-first g c = let cells = c.in_ok-sent.ensures.sends.1 in omega (arith, cells)
 
-pub returns-in_err-sent-2-clause-sends : goal.returns-in_err-sent-2-clause-sends
-returns-in_err-sent-2-clause-sends g c =
+pub returns-in_err-sent-2 : goal.returns-in_err-sent-2
+returns-in_err-sent-2 g c =
     let p = err_from_is_err_and c.from_residual-in_err-sent-2.result c.from_residual-in_err-sent-2.ensures.1 in
     let tracks = tide_tracks c.args.found.now c.args.asked.now in
     let parts = certificate_parts c.args.name.now c.args.asked.now tracks in
-    rw (p.1, p.2, parts) (sends_cut _ _ _ (record { bytes = 0; cells = 0 }) (head_text c.args.name.now c.args.asked.now ++ tracks_text tracks) (codes "done\n") 0 0 _
-    (sends_sum _ _ _ _ _ (record { bytes = 0; cells = 0 }) c.in_ok-sent.sent (head_text c.args.name.now c.args.asked.now) (tracks_text tracks) 0 0 0 (omega arith) (Err _) c.send_head.ensures.still_tells c.in_ok-sent.ensures.sends c.in_err-sent-2.ensures.sends))
+    rw (p.1, p.2, parts) (sends_cut _ _ (record { bytes = 0; cells = 0 }) (head_text c.args.name.now c.args.asked.now ++ tracks_text tracks) (codes "done\n") 0 0 _
+    (sends_sum _ _ _ (record { bytes = 0; cells = 0 }) c.in_ok-sent.sent (head_text c.args.name.now c.args.asked.now) (tracks_text tracks) 0 0 0 (omega arith) (Err _) c.in_ok-sent.ensures.sends c.in_err-sent-2.ensures.sends))
 
-pub returns-clause-sends : goal.returns-clause-sends
-returns-clause-sends g c =
+pub returns : goal.returns
+returns g c =
     let tracks = tide_tracks c.args.found.now c.args.asked.now in
     let count = tide_cells c.args.found.now c.args.asked.now in
     let parts = certificate_parts c.args.name.now c.args.asked.now tracks in
-    let both = sends_sum (g.S.Sink.tells c.args.out.now) (g.S.Sink.tells c.send_head.new.out) (g.S.Sink.taken c.args.out.now) (g.S.Sink.taken c.send_head.new.out) (g.S.Sink.taken c.send_tracks.new.out)
+    let both = sends_sum (g.S.Sink.state c.args.out.now) (g.S.Sink.state c.send_head.new.out) (g.S.Sink.state c.send_tracks.new.out)
     (record { bytes = 0; cells = 0 }) c.in_ok-sent.sent (head_text c.args.name.now c.args.asked.now) (tracks_text tracks) 0 count count (omega arith) (Ok c.in_ok-sent-2.sent)
-    c.send_head.ensures.still_tells c.in_ok-sent.ensures.sends c.in_ok-sent-2.ensures.sends in
-    rw parts (sends_sum (g.S.Sink.tells c.args.out.now) (g.S.Sink.tells c.send_tracks.new.out) (g.S.Sink.taken c.args.out.now) (g.S.Sink.taken c.send_tracks.new.out) (g.S.Sink.taken c.send.new.out)
+    c.in_ok-sent.ensures.sends c.in_ok-sent-2.ensures.sends in
+    rw parts (sends_sum (g.S.Sink.state c.args.out.now) (g.S.Sink.state c.send_tracks.new.out) (g.S.Sink.state c.send.new.out)
     (record { bytes = 0; cells = 0 }) c.in_ok-sent-2.sent (head_text c.args.name.now c.args.asked.now ++ tracks_text tracks) (codes "done\n") count 0 count (omega arith) c.send.result
-    (λ t. c.send_tracks.ensures.still_tells (c.send_head.ensures.still_tells t)) both c.send.ensures.sends)
+    both c.send.ensures)

@@ -114,8 +114,8 @@ returns-in_err-sent-clause-sends g c =
     let turn = rw c.reached-span.ensures.exact at c.turn_search.ensures.left in
     let t = joined (track_lines_of Turn tracks.turn) in
     let s = joined (lines_if_there Slack tracks.slack) in
-    rw (p.1, p.2) (sends_cut _ _ _ c.args.sent (t ++ s) (joined (lines_if_there Mark tracks.mark)) 0 0 _
-    (sends_cut _ _ _ c.args.sent t s 0 0 _ (rw turn at c.in_err-sent.ensures.sends)))
+    rw (p.1, p.2) (sends_cut _ _ c.args.sent (t ++ s) (joined (lines_if_there Mark tracks.mark)) 0 0 _
+    (sends_cut _ _ c.args.sent t s 0 0 _ (rw turn at c.in_err-sent.ensures.sends)))
 
 pub returns-in_err-sent-2-clause-sends : goal.returns-in_err-sent-2-clause-sends
 unfolding followed_tide
@@ -127,8 +127,8 @@ returns-in_err-sent-2-clause-sends g c =
     let t = joined (track_lines_of Turn tracks.turn) in
     let s = joined (lines_if_there Slack tracks.slack) in
     let n = length tracks.turn in
-    rw (p.1, p.2) (sends_cut _ _ _ c.args.sent (t ++ s) (joined (lines_if_there Mark tracks.mark)) 0 0 _
-    (sends_then _ _ _ _ _ c.args.sent c.in_ok-sent.sent t s n 0 (Err _) c.send_track.ensures.still_tells (rw turn at c.in_ok-sent.ensures.sends) (rw slack at c.in_err-sent-2.ensures.sends)))
+    rw (p.1, p.2) (sends_cut _ _ c.args.sent (t ++ s) (joined (lines_if_there Mark tracks.mark)) 0 0 _
+    (sends_then _ _ _ c.args.sent c.in_ok-sent.sent t s n 0 (Err _) (rw turn at c.in_ok-sent.ensures.sends) (rw slack at c.in_err-sent-2.ensures.sends)))
 
 pub returns-clause-sends : goal.returns-clause-sends
 unfolding followed_tide
@@ -143,12 +143,12 @@ returns-clause-sends g c =
     let t = joined (track_lines_of Turn c.turn_search.result.left) in
     let s = joined (lines_if_there Slack (cells_left c.slack_search.result)) in
     let m = joined (lines_if_there Mark (cells_left c.mark_search-mark.result)) in
-    let both = sends_then (g.S.Sink.tells c.args.out.now) (g.S.Sink.tells c.send_track.new.out) (g.S.Sink.taken c.args.out.now) (g.S.Sink.taken c.send_track.new.out) (g.S.Sink.taken c.send_if_followed.new.out)
-    c.args.sent c.in_ok-sent.sent t s n k (Ok c.in_ok-sent-2.sent) c.send_track.ensures.still_tells c.in_ok-sent.ensures.sends c.in_ok-sent-2.ensures.sends in
-    subst (λ (x : Tracks). Sends (g.S.Sink.tells c.args.out.now) (g.S.Sink.taken c.args.out.now) (g.S.Sink.taken c.send_if_followed-2.new.out) c.args.sent (tracks_text x) (tide_cells c.args.found.now c.args.asked.now) c.send_if_followed-2.result) same
-    (sends_sum (g.S.Sink.tells c.args.out.now) (g.S.Sink.tells c.send_if_followed.new.out) (g.S.Sink.taken c.args.out.now) (g.S.Sink.taken c.send_if_followed.new.out) (g.S.Sink.taken c.send_if_followed-2.new.out)
+    let both = sends_then (g.S.Sink.state c.args.out.now) (g.S.Sink.state c.send_track.new.out) (g.S.Sink.state c.send_if_followed.new.out)
+    c.args.sent c.in_ok-sent.sent t s n k (Ok c.in_ok-sent-2.sent) c.in_ok-sent.ensures.sends c.in_ok-sent-2.ensures.sends in
+    subst (λ (x : Tracks). Sends (g.S.Sink.state c.args.out.now) (g.S.Sink.state c.send_if_followed-2.new.out) c.args.sent (tracks_text x) (tide_cells c.args.found.now c.args.asked.now) c.send_if_followed-2.result) same
+    (sends_sum (g.S.Sink.state c.args.out.now) (g.S.Sink.state c.send_if_followed.new.out) (g.S.Sink.state c.send_if_followed-2.new.out)
     c.args.sent c.in_ok-sent-2.sent (t ++ s) m (n + k) (left_count c.mark_search-mark.result) _ total c.send_if_followed-2.result
-    (λ x. c.send_if_followed.ensures.still_tells (c.send_track.ensures.still_tells x)) both c.send_if_followed-2.ensures.sends)
+    both c.send_if_followed-2.ensures.sends)
 
 pub returns-clause-short : goal.returns-clause-short
 unfolding followed_tide

@@ -13,9 +13,7 @@ loop-event-init g c =
     let few = c.requires.few in
     let none : length c.new-page.result.text.bytes ≡ 0 = ap length empty in
     record {
-      sends = ([], rw empty refl, sends_none (g.S.Sink.tells c.args.out.now) (g.S.Sink.taken c.args.out.now) c.args.sent);
-      tells = λ t. t;
-      unfailed = refl;
+      sends = ([], rw empty refl, sends_none (g.S.Sink.state c.args.out.now) c.args.sent);
       few = omega (arith, few, none);
       listed = c.requires.listed;
       all = refl;
@@ -50,11 +48,9 @@ loop-event-preserved g c =
       sends = (
         text ++ gone_for held piece,
         page_step (flat_map (event_line_in c.args.zone.now c.args.units)) c.loop-event.merge.left c.next.new.self.left c.in-Some.event _ text held piece now is (rw line refl) put so_far.sends.1,
-        sends_then (g.S.Sink.tells c.args.out.now) (g.S.Sink.tells c.loop-event.out) (g.S.Sink.taken c.args.out.now) (g.S.Sink.taken c.loop-event.out) (g.S.Sink.taken c.put.new.out)
-            c.args.sent c.loop-event.so_far text (gone_for held piece) 0 0 (Ok c.in_ok-so_far.so_far) so_far.tells so_far.sends.2 c.in_ok-so_far.ensures.sends,
+        sends_then (g.S.Sink.state c.args.out.now) (g.S.Sink.state c.loop-event.out) (g.S.Sink.state c.put.new.out)
+            c.args.sent c.loop-event.so_far text (gone_for held piece) 0 0 (Ok c.in_ok-so_far.so_far) so_far.sends.2 c.in_ok-so_far.ensures.sends,
       );
-      tells = λ t. c.put.ensures.still_tells (so_far.tells t);
-      unfailed = c.in_ok-so_far.ensures.counts ∙ so_far.unfailed;
       few = omega (arith, bytes, fits, few, long, count);
       listed = All-tail (IsListed c.args.units) c.in-Some.event c.next.new.self.left (rw is at so_far.listed);
       all = c.next.ensures.all ∙ so_far.all;
@@ -71,8 +67,8 @@ returns-in_err-so_far-clause-sends g c =
     let rest = flat_map (event_line_in c.args.zone.now c.args.units) c.next.new.self.left in
     let line = c.as_str.ensures.value ∙ c.line_of-line.ensures in
     let whole = page_step (flat_map (event_line_in c.args.zone.now c.args.units)) c.loop-event.merge.left c.next.new.self.left c.in-Some.event _ text held piece now c.in-Some.ensures.next (rw line refl) refl so_far.sends.1 in
-    rw (p.1, p.2, ← whole) (sends_cut _ _ _ c.args.sent (text ++ gone_for held piece) (now ++ rest) 0 0 _
-    (sends_then _ _ _ _ _ c.args.sent c.loop-event.so_far text (gone_for held piece) 0 0 (Err _) so_far.tells so_far.sends.2 c.in_err-so_far.ensures.sends))
+    rw (p.1, p.2, ← whole) (sends_cut _ _ c.args.sent (text ++ gone_for held piece) (now ++ rest) 0 0 _
+    (sends_then _ _ _ c.args.sent c.loop-event.so_far text (gone_for held piece) 0 0 (Err _) so_far.sends.2 c.in_err-so_far.ensures.sends))
 
 pub end-requires : goal.end-requires
 end-requires g c = let few = c.loop-event.invariant.few in omega (arith, few)
@@ -83,5 +79,5 @@ returns-clause-sends g c =
     let text = so_far.sends.0 in
     let held = c.loop-event.page.text.bytes in
     let whole = page_done (flat_map (event_line_in c.args.zone.now c.args.units)) c.loop-event.merge.left _ text held c.in_default.ensures.next.0 refl so_far.sends.1 in
-    rw (← whole) (sends_then (g.S.Sink.tells c.args.out.now) (g.S.Sink.tells c.loop-event.out) (g.S.Sink.taken c.args.out.now) (g.S.Sink.taken c.loop-event.out) (g.S.Sink.taken c.end.new.out)
-    c.args.sent c.loop-event.so_far text held 0 0 c.end.result so_far.tells so_far.sends.2 c.end.ensures.sends)
+    rw (← whole) (sends_then (g.S.Sink.state c.args.out.now) (g.S.Sink.state c.loop-event.out) (g.S.Sink.state c.end.new.out)
+    c.args.sent c.loop-event.so_far text held 0 0 c.end.result so_far.sends.2 c.end.ensures)

@@ -7,9 +7,7 @@ use Rattle.tide_answer.proofs.sending.send_events.Given as goal
 abbrev pub invariant-loop-event : goal.invariant-loop-event
 invariant-loop-event g l = record {
   sends : (text : List ℕ) × (text ++ (l.page.text.bytes ++ flat_map (event_line_in l.zone l.units) l.merge.left) ≡ flat_map (event_line_in l.zone l.units) l.initial.merge.left)
-      × Sends (g.S.Sink.tells l.initial.out) (g.S.Sink.taken l.initial.out) (g.S.Sink.taken l.out) l.fn.sent text 0 (Ok l.so_far);
-  tells : g.S.Sink.tells l.initial.out → g.S.Sink.tells l.out;
-  unfailed : g.S.Sink.faults l.out ≡ g.S.Sink.faults l.initial.out;
+      × Sends (g.S.Sink.state l.initial.out) (g.S.Sink.state l.out) l.fn.sent text 0 (Ok l.so_far);
   few : l.so_far.bytes + length l.page.text.bytes + 96 * length l.merge.left < 2 ^ 64;
   listed : All (IsListed l.units) l.merge.left;
   all : l.merge.all ≡ l.initial.merge.all;

@@ -10,11 +10,11 @@ pub returns-in_err-sent-clause-sends : goal.returns-in_err-sent-clause-sends
 unfolding plain_events_of
 returns-in_err-sent-clause-sends g c =
     let p = err_from_is_err_and c.from_residual.result c.from_residual.ensures.1 in
-    rw (p.1, p.2) (sends_cut _ _ _ (record { bytes = 0; cells = 0 }) (c.args.name.now ++ 10 ∷ []) (flat_map (event_line_in c.args.zone.now c.args.units) c.args.merge.now.left) 0 0 _ c.in_err-sent.ensures.sends)
+    rw (p.1, p.2) (sends_cut _ _ (record { bytes = 0; cells = 0 }) (c.args.name.now ++ 10 ∷ []) (flat_map (event_line_in c.args.zone.now c.args.units) c.args.merge.now.left) 0 0 _ c.in_err-sent.ensures)
 
 pub send_events-requires-clause-few : goal.send_events-requires-clause-few
 send_events-requires-clause-few g c =
-    let bytes = c.in_ok-sent.ensures.sends.0 in
+    let bytes = c.in_ok-sent.ensures.0 in
     let both = length-append c.args.name.now (10 ∷ []) in
     let short = c.requires.name in
     let few = c.requires.few in
@@ -23,6 +23,6 @@ send_events-requires-clause-few g c =
 pub returns-clause-sends : goal.returns-clause-sends
 unfolding plain_events_of
 returns-clause-sends g c =
-    sends_then (g.S.Sink.tells c.args.out.now) (g.S.Sink.tells c.send_name.new.out) (g.S.Sink.taken c.args.out.now) (g.S.Sink.taken c.send_name.new.out) (g.S.Sink.taken c.send_events.new.out)
+    sends_then (g.S.Sink.state c.args.out.now) (g.S.Sink.state c.send_name.new.out) (g.S.Sink.state c.send_events.new.out)
     (record { bytes = 0; cells = 0 }) c.in_ok-sent.sent (c.args.name.now ++ 10 ∷ []) (flat_map (event_line_in c.args.zone.now c.args.units) c.args.merge.now.left) 0 0 c.send_events.result
-    c.send_name.ensures.still_tells c.in_ok-sent.ensures.sends c.send_events.ensures.sends
+    c.in_ok-sent.ensures c.send_events.ensures.sends

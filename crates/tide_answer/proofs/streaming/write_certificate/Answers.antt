@@ -3,12 +3,12 @@ use Rattle.std.proofs.lemmas.Result.{err_from_is_err_and}
 use Rattle.station_cells.proofs.SendLemmas.{from_first}
 use Rattle.tide_answer.proofs.streaming.write_certificate.Goals as goal
 
-pub returns-in_err-sent-clause-streams : goal.returns-in_err-sent-clause-streams
-returns-in_err-sent-clause-streams g c =
+pub returns-in_err-sent : goal.returns-in_err-sent
+returns-in_err-sent g c =
     let p = err_from_is_err_and c.from_residual.result c.from_residual.ensures.1 in
-    rw (p.1, p.2) (from_first _ _ _ _ 0 _ c.in_err-sent.ensures.sends)
+    rw (p.1, p.2) (from_first _ _ _ 0 _ c.in_err-sent.ensures)
 
-pub returns-clause-streams : goal.returns-clause-streams
-returns-clause-streams g c =
-    let cells = c.in_ok-sent.ensures.sends.1 in
-    (omega (arith, cells), c.in_ok-sent.ensures.sends.2)
+pub returns : goal.returns
+returns g c =
+    let cells = c.in_ok-sent.ensures.1 in
+    (omega (arith, cells), c.in_ok-sent.ensures.2)

@@ -14,14 +14,14 @@ pub send_listing-requires-clause-few : goal.send_listing-requires-clause-few
 send_listing-requires-clause-few g c =
     events_small c.args.asked.now c.args.found.now _ c.requires.ready c.merge_of-merge.ensures.left
 
-pub returns-in_err-send_listing-clause-streams : goal.returns-in_err-send_listing-clause-streams
-returns-in_err-send_listing-clause-streams g c =
+pub returns-in_err-send_listing : goal.returns-in_err-send_listing
+returns-in_err-send_listing g c =
     let p = err_from_is_err_and c.from_residual.result c.from_residual.ensures.1 in
     let whole = plain_is_whole c.args.asked.now c.args.found.now _ c.requires.ready c.merge_of-merge.ensures.left c.requires.plain in
-    rw (p.1, p.2) (from_first _ _ _ _ 0 _ (rw whole at c.in_err-send_listing.ensures.sends))
+    rw (p.1, p.2) (from_first _ _ _ 0 _ (rw whole at c.in_err-send_listing.ensures.sends))
 
-pub returns-clause-streams : goal.returns-clause-streams
-returns-clause-streams g c =
+pub returns : goal.returns
+returns g c =
     let whole = plain_is_whole c.args.asked.now c.args.found.now _ c.requires.ready c.merge_of-merge.ensures.left c.requires.plain in
     let sends = rw whole at c.in_ok-send_listing.ensures.sends in
-    (c.cells.ensures ∙ c.in_ok-send_listing.ensures.cells ∙ c.merge_of-merge.ensures.all, sends.2)
+    (c.cells.ensures.value ∙ c.in_ok-send_listing.ensures.cells ∙ c.merge_of-merge.ensures.all, sends.2)

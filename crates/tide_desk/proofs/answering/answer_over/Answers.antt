@@ -5,8 +5,8 @@ use Rattle.std.proofs.lemmas.Int.{to_z-of_z}
 use Rattle.std.proofs.lemmas.Result.{err_from_is_err_and}
 use Rattle.tide_desk.specs.Answers.{answered_over}
 use Rattle.tide_desk.specs.Outcomes.{IsFirm}
-use Rattle.tide_desk.specs.Readings.{asks_clock, book_named, files_in}
-use Rattle.tide_desk.proofs.ReadingLemmas.{excuses_weaker, meets_at, meets_inside, rose}
+use Rattle.named_files.specs.Readings.{asks_clock, book_named, files_in}
+use Rattle.named_files.proofs.ReadingLemmas.{excuses_weaker, meets_at, meets_inside, rose}
 use Rattle.tide_desk.proofs.answering.answer_over.Goals as goal
 
 pub returns-in_err-read-clause-own : goal.returns-in_err-read-clause-own

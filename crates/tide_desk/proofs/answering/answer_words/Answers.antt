@@ -2,9 +2,9 @@ use Rattle.std.proofs.Common.{None, inl, refl}
 use Rattle.std.specs.Prelude.{pos}
 use Rattle.std.proofs.lemmas.Result.{err_from_is_err_and}
 use Rattle.tide_desk.specs.Answers.{AsksClock, answer_from, asked_of}
-use Rattle.tide_desk.specs.NoAnswers.{told}
+use Rattle.named_files.specs.NoAnswers.{told}
 use Rattle.tide_desk.specs.Outcomes.{IsFirm}
-use Rattle.tide_desk.proofs.ReadingLemmas.{has_files, meets_alone, meets_at, meets_named, names_file, told_excuses}
+use Rattle.named_files.proofs.ReadingLemmas.{has_files, meets_alone, meets_at, meets_named, names_file, told_excuses}
 use Rattle.tide_desk.proofs.answering.answer_words.Goals as goal
 
 pub returns-in_err-question-clause-own : goal.returns-in_err-question-clause-own

@@ -1,0 +1,147 @@
+-- How what was read follows from its steps.
+use Rattle.std.proofs.Common.{◌≡◌, ◌∙◌, ap, sym, ℕ, suc, ◌≤◌, nat_le, Bool, true, false, cond, List, length, Option, Some, None, Result, Ok, Err, refl, subst, arith}
+use Rattle.std.specs.Prelude.{replicate}
+use Rattle.std.specs.Result.{IsErrAnd}
+use Rattle.std.proofs.lemmas.Bool.{le-leb, lt-leb}
+use Rattle.std.proofs.lemmas.List.{length-replicate}
+use Rattle.decimal_text.specs.Expected.{◌>>=◌, Excused, Gives}
+use Rattle.harmonics_text.specs.declared.book.Book.{Book as TheBook}
+use Rattle.harmonics_text.specs.declared.fault.BookFault.TheVariants as form
+use Rattle.harmonics_text.specs.Reading.{At, book_of}
+use Rattle.tide_fault.specs.declared.fault.Fault.{Fault}
+use Rattle.book_loading.specs.declared.loading.LoadFault.{LoadFault}
+use Rattle.book_loading.specs.declared.loading.LoadFault.TheVariants as load
+use Rattle.tide_fault.specs.declared.slot.Slot.{Slot}
+use Rattle.tide_fault.specs.declared.slot.Slot.TheVariants.{File, Offsets, Zone, Certificate}
+use Rattle.tide_fault.specs.Faults.{wants_memory as fault_wants_memory, wants_memory_of_refusal}
+use Rattle.book_loading.specs.Loading.{loaded, bytes_from as load_bytes_from, book_from as load_book_from, source_of as source_of_loading, wants_memory as load_wants_memory}
+use Rattle.tide_edge.specs.declared.read_all_fault.ReadAllFault.{ReadAllFault}
+use Rattle.tide_edge.specs.declared.read_all_fault.ReadAllFault.TheVariants as reading
+use Rattle.tide_edge.specs.Excuses.{Source, memory, outside, given, Excuses, Meets}
+use Rattle.tide_edge.specs.FileStates.{Folder}
+use Rattle.tide_edge.specs.Whole.{whole, source_of as source_of_reading}
+use Rattle.named_files.specs.declared.no_answer.NoAnswer.{NoAnswer}
+use Rattle.named_files.specs.declared.no_answer.NoAnswer.TheVariants.{Unread, Told, Refused}
+use Rattle.named_files.specs.NoAnswers.{is_unread, reading_failed, source_of, told, wants_memory}
+use Rattle.named_files.specs.Readings.{Folders, book_from, book_named, bytes_from, bytes_of, fault_of_loading, fault_of_reading, limit_of}
+
+-- ---- Steps, one after the other
+
+-- a fault of the first step is one of the whole
+excuses_next : {A B : Type 0} (firm : Type 0) (source : Source) (step : Result A NoAnswer) (next : A → Result B NoAnswer) (none : NoAnswer) → Excuses source firm step none → Excuses source firm (step >>= next) none
+excuses_next firm memory step next none excused = tt
+excuses_next firm outside step next none excused = λ f. rw (excused f) refl
+excuses_next firm given step next none excused = rw excused refl
+
+-- a result that is an excused fault meets what is expected
+meets_fault : {A : Type 0} (firm : Type 0) (expected result : Result A NoAnswer) (none : NoAnswer) → IsErrAnd result (λ e. e ≡ none) → Excuses (source_of none) firm expected none → Meets source_of firm expected result
+meets_fault firm expected (Ok value) none is excused = absurd is
+meets_fault firm expected (Err e) none is excused =
+    let P : NoAnswer → Type 0 = λ x. Excuses (source_of x) firm expected x in subst P (sym is) excused
+
+pub meets_at : {A B : Type 0} (firm : Type 0) (step : Result A NoAnswer) (next : A → Result B NoAnswer) (result : Result B NoAnswer) (none : NoAnswer) → IsErrAnd result (λ e. e ≡ none) → Excuses (source_of none) firm step none → Meets source_of firm (step >>= next) result
+meets_at firm step next result none is excused = meets_fault firm (step >>= next) result none is (excuses_next firm (source_of none) step next none excused)
+
+-- whether reading has failed, where a step has
+pub failed_at : {A : Type 0} (result : Result A NoAnswer) (none : NoAnswer) → IsErrAnd result (λ e. e ≡ none) → reading_failed result ≡ is_unread none
+failed_at (Ok value) none is = absurd is
+failed_at (Err e) none is = ap is_unread is
+
+-- ---- What excuses a fault
+
+inside_excuses : {A : Type 0} (firm : Type 0) (memory_wanted : Bool) (expected : Result A NoAnswer) (none : NoAnswer) → Excused memory_wanted expected none → Excuses (cond memory_wanted memory given) firm expected none
+inside_excuses firm true expected none excused = tt
+inside_excuses firm false expected none excused = excused
+
+gives_excuses : {A : Type 0} (firm : Type 0) (expected : Result A NoAnswer) (none : NoAnswer) → Excused (wants_memory none) expected none → Excuses (source_of none) firm expected none
+gives_excuses firm expected Unread excused = λ f. excused
+gives_excuses firm expected (Told fault) excused = inside_excuses firm (fault_wants_memory fault) expected (Told fault) excused
+gives_excuses firm expected (Refused refusal rows) excused = inside_excuses firm (wants_memory_of_refusal refusal) expected (Refused refusal rows) excused
+
+-- a step of which nothing outside is asked
+pub meets_inside : {A : Type 0} (firm : Type 0) (expected result : Result A NoAnswer) → Gives wants_memory expected result → Meets source_of firm expected result
+meets_inside firm expected (Ok value) gives = gives
+meets_inside firm expected (Err none) gives = gives_excuses firm expected none gives
+
+told_inside : {A : Type 0} (firm : Type 0) (memory_wanted : Bool) (step : Result A Fault) (fault : Fault) → Excused memory_wanted step fault → Excuses (cond memory_wanted memory given) firm (told step) (Told fault)
+told_inside firm true step fault excused = tt
+told_inside firm false step fault excused = rw excused refl
+
+pub told_excuses : {A : Type 0} (firm : Type 0) (step : Result A Fault) (fault : Fault) → Excused (fault_wants_memory fault) step fault → Excuses (source_of (Told fault)) firm (told step) (Told fault)
+told_excuses firm step fault excused = told_inside firm (fault_wants_memory fault) step fault excused
+
+pub excuses_weaker : {A : Type 0} (firm weaker : Type 0) (source : Source) (expected : Result A NoAnswer) (none : NoAnswer) → (firm → weaker) → Excuses source weaker expected none → Excuses source firm expected none
+excuses_weaker firm weaker memory expected none implies excused = tt
+excuses_weaker firm weaker outside expected none implies excused = λ f. excused (implies f)
+excuses_weaker firm weaker given expected none implies excused = excused
+
+-- ---- The bytes of a file
+
+long_file : (limit : ℕ) → (file : Option (List ℕ)) × (whole limit file ≡ Err reading.TooLong)
+long_file limit =
+    let bytes : List ℕ = replicate (suc limit) 0 in
+    (Some bytes, rw (lt-leb (length bytes) limit (omega (arith, length-replicate {A = ℕ} (suc limit) 0))) refl)
+
+pub excuses_bytes : (firm : Type 0) (slot : Slot) (file : Option (List ℕ)) (fault : ReadAllFault) → Excuses (source_of_reading fault) firm (whole (limit_of slot) file) fault → Excuses (source_of (fault_of_reading slot fault)) firm (bytes_of slot file) (fault_of_reading slot fault)
+excuses_bytes firm slot file reading.Failed excused = λ s. rw (excused s) refl
+excuses_bytes firm slot file reading.TooLong excused = rw excused refl
+excuses_bytes firm slot file reading.NoMemory excused = tt
+
+pub some_bytes : (slot : Slot) (bytes : List ℕ) → length bytes ≤ limit_of slot → bytes_of slot (Some bytes) ≡ Ok bytes
+some_bytes slot bytes within = rw (le-leb (length bytes) (limit_of slot) within) refl
+
+pub some_fault : (slot : Slot) (fault : ReadAllFault) → (file : Option (List ℕ)) × Excuses (source_of (fault_of_reading slot fault)) (Unit {0}) (bytes_of slot file) (fault_of_reading slot fault)
+some_fault slot reading.Failed = (None, λ f. refl)
+some_fault slot reading.TooLong = let long = long_file (limit_of slot) in (long.0, rw long.1 refl)
+some_fault slot reading.NoMemory = (None, tt)
+
+-- ---- The book, which is loaded in pieces
+
+named_from : Result TheBook LoadFault → Result TheBook NoAnswer
+named_from (Ok book) = Ok book
+named_from (Err fault) = Err (fault_of_loading fault)
+
+same_form : (form : Result TheBook At) → book_from form ≡ named_from (load_book_from form)
+unfolding named_from
+same_form (Ok book) = refl
+same_form (Err at) = refl
+
+same_cut : (short : Bool) (bytes : List ℕ) → (bytes_from File (cond short (Ok bytes) (Err reading.TooLong)) >>= λ bytes. book_from (book_of bytes)) ≡ named_from (load_bytes_from (cond short (Ok bytes) (Err reading.TooLong)) >>= λ bytes. load_book_from (book_of bytes))
+unfolding named_from
+same_cut true bytes = same_form (book_of bytes)
+same_cut false bytes = refl
+
+same_reading : (limit : ℕ) (file : Option (List ℕ)) → (bytes_from File (whole limit file) >>= λ bytes. book_from (book_of bytes)) ≡ named_from (load_bytes_from (whole limit file) >>= λ bytes. load_book_from (book_of bytes))
+unfolding named_from
+same_reading limit None = refl
+same_reading limit (Some bytes) = same_cut (nat_le (length bytes) limit) bytes
+
+named_as_loaded : (folder : Folder) (name : List ℕ) (value : Result TheBook LoadFault) → loaded (limit_of File) (folder name) ≡ value → book_named folder name ≡ named_from value
+unfolding book_named loaded
+named_as_loaded folder name value is = same_reading (limit_of File) (folder name) ∙ ap named_from is
+
+pub named_book : (folder : Folder) (name : List ℕ) (book : TheBook) → loaded (limit_of File) (folder name) ≡ Ok book → book_named folder name ≡ Ok book
+unfolding named_from
+named_book folder name book is = named_as_loaded folder name (Ok book) is
+
+pub excuses_book : (firm : Type 0) (folder : Folder) (name : List ℕ) (fault : LoadFault) → Excuses (source_of_loading fault) firm (loaded (limit_of File) (folder name)) fault → Excuses (source_of (fault_of_loading fault)) firm (book_named folder name) (fault_of_loading fault)
+unfolding named_from
+excuses_book firm folder name load.Failed excused = λ s. named_as_loaded folder name (Err load.Failed) (excused s)
+excuses_book firm folder name load.TooLong excused = named_as_loaded folder name (Err load.TooLong) excused
+excuses_book firm folder name (load.Book form.NoMemory) excused = tt
+excuses_book firm folder name (load.Book (form.At line why)) excused = named_as_loaded folder name (Err (load.Book (form.At line why))) excused
+
+pub some_book : (folder : Folder) (name : List ℕ) (fault : LoadFault) → Excused (load_wants_memory fault) (loaded (limit_of File) (folder name)) fault → Excuses (source_of (fault_of_loading fault)) (Unit {0}) (book_named folder name) (fault_of_loading fault)
+unfolding named_from
+some_book folder name load.Failed excused = λ f. named_as_loaded folder name (Err load.Failed) excused
+some_book folder name load.TooLong excused = named_as_loaded folder name (Err load.TooLong) excused
+some_book folder name (load.Book form.NoMemory) excused = tt
+some_book folder name (load.Book (form.At line why)) excused = named_as_loaded folder name (Err (load.Book (form.At line why))) excused
+
+-- ---- What was read of each file, together
+
+abbrev pub by_slot : Folder → Folder → Folder → Folder → Folders
+by_slot file offsets zone certificate File = file
+by_slot file offsets zone certificate Offsets = offsets
+by_slot file offsets zone certificate Zone = zone
+by_slot file offsets zone certificate Certificate = certificate

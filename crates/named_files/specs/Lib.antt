@@ -1,0 +1,5 @@
+pub mod NoAnswers
+pub mod Readings
+pub mod Telling
+pub mod Worked
+pub mod Workings

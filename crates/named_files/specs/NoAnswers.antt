@@ -1,0 +1,59 @@
+-- Why the words of a run have no answer (this project).
+use Rattle.std.specs.Prelude.{ℕ, Bool, true, false, if◌then◌else◌, Result, Ok, Err, List, [], codes}
+use Rattle.station_table.specs.declared.offsets.Offsets.{Offsets}
+use Rattle.tide_fault.specs.declared.fault.Fault.{Fault}
+use Rattle.tide_fault.specs.declared.fault.Fault.TheVariants as faults
+use Rattle.tide_fault.specs.declared.refusal.Refusal.{Refusal}
+use Rattle.tide_fault.specs.declared.status.Status.{Status}
+use Rattle.tide_fault.specs.declared.status.Status.TheVariants as status
+use Rattle.tide_fault.specs.Faults.{status_of as status_of_fault, status_of_refusal, line_of as line_of_fault, wants_memory as fault_wants_memory, wants_memory_of_refusal, IsTold as IsToldFault, IsToldRefusal}
+use Rattle.tide_edge.specs.Excuses.{Source, memory, outside, given}
+use Rattle.named_files.specs.declared.no_answer.NoAnswer.{NoAnswer}
+use Rattle.named_files.specs.declared.no_answer.NoAnswer.TheVariants.{Unread, Told, Refused}
+
+-- a step of which nothing outside is asked
+abbrev pub told : {A : Type 0} → Result A Fault → Result A NoAnswer
+told (Ok value) = Ok value
+told (Err fault) = Err (Told fault)
+
+-- a step over a table, whose rows go with its refusals
+abbrev pub refused_over : {A : Type 0} → List Offsets → Result A Refusal → Result A NoAnswer
+refused_over rows (Ok value) = Ok value
+refused_over rows (Err refusal) = Err (Refused refusal rows)
+
+abbrev pub status_of : NoAnswer → Status
+status_of Unread = status.ReadFault
+status_of (Told fault) = status_of_fault fault
+status_of (Refused refusal rows) = status_of_refusal refusal
+
+abbrev pub line_of : NoAnswer → List ℕ
+line_of Unread = codes "read fault\n"
+line_of (Told fault) = line_of_fault [] fault
+line_of (Refused refusal rows) = line_of_fault rows (faults.Refused refusal)
+
+-- its line can be written
+abbrev pub IsTold : NoAnswer → Type 0
+IsTold Unread = Unit {0}
+IsTold (Told fault) = IsToldFault [] fault
+IsTold (Refused refusal rows) = IsToldRefusal rows refusal
+
+abbrev pub wants_memory : NoAnswer → Bool
+wants_memory Unread = false
+wants_memory (Told fault) = fault_wants_memory fault
+wants_memory (Refused refusal rows) = wants_memory_of_refusal refusal
+
+-- where it comes from
+abbrev pub source_of : NoAnswer → Source
+source_of Unread = outside
+source_of (Told fault) = if fault_wants_memory fault then memory else given
+source_of (Refused refusal rows) = if wants_memory_of_refusal refusal then memory else given
+
+-- a file or the clock couldn't be read
+abbrev pub is_unread : NoAnswer → Bool
+is_unread Unread = true
+is_unread (Told fault) = false
+is_unread (Refused refusal rows) = false
+
+abbrev pub reading_failed : {A : Type 0} → Result A NoAnswer → Bool
+reading_failed (Ok value) = false
+reading_failed (Err none) = is_unread none

@@ -1,0 +1,132 @@
+-- What a run reads from outside beside its words, a file's reading before its form (this project).
+use Rattle.std.specs.Prelude.{ℕ, List, [], Option, Some, None, Result, Ok, Err}
+use Rattle.decimal_text.specs.Expected.{◌>>=◌}
+use Rattle.harmonics_text.specs.declared.book.Book.{Book as TheBook}
+use Rattle.harmonics_text.specs.declared.fault.BookFault.TheVariants as form
+use Rattle.harmonics_text.specs.Reading.{At, book_of}
+use Rattle.question.specs.declared.question.Question.{Question}
+use Rattle.question.specs.declared.question.ZoneWord.{ZoneWord}
+use Rattle.question.specs.declared.question.ZoneWord.TheVariants as words
+use Rattle.station_table.specs.declared.fault.OffsetFault.{OffsetFault}
+use Rattle.station_table.specs.declared.offsets.Offsets.{Offsets as Row}
+use Rattle.station_table.specs.Table.{table_of}
+use Rattle.tide_fault.specs.declared.fault.Fault.TheVariants.{TooLong, Book, Offsets, BadZone, Refused}
+use Rattle.book_loading.specs.declared.loading.LoadFault.{LoadFault}
+use Rattle.book_loading.specs.declared.loading.LoadFault.TheVariants as load
+use Rattle.tide_fault.specs.declared.refusal.Refusal.TheVariants.{NoMemory}
+use Rattle.tide_fault.specs.declared.slot.Slot.{Slot}
+use Rattle.tide_fault.specs.declared.slot.Slot.TheVariants as slots
+use Rattle.tide_edge.specs.declared.read_all_fault.ReadAllFault.{ReadAllFault}
+use Rattle.tide_edge.specs.declared.read_all_fault.ReadAllFault.TheVariants as reading
+use Rattle.tide_edge.specs.FileStates.{Folder}
+use Rattle.tide_edge.specs.Whole.{Allowance, both, no_file, one_file, whole}
+use Rattle.zone_time.specs.declared.zone.Zone.{Zone}
+use Rattle.zone_time.specs.declared.zone.Zone.TheVariants.{Utc, Fixed}
+use Rattle.zone_time.specs.declared.zone_fault.ZoneFault.{ZoneFault}
+use Rattle.zone_time.specs.declared.zone_fault.ZoneFault.TheVariants as zones
+use Rattle.zone_time.specs.Zones.{zone_of}
+use Rattle.named_files.specs.declared.materials.Materials.{Materials}
+use Rattle.named_files.specs.declared.no_answer.NoAnswer.{NoAnswer}
+use Rattle.named_files.specs.declared.no_answer.NoAnswer.TheVariants.{Unread, Told}
+
+-- ---- The bytes of a file
+
+-- the most bytes of a file, by what it is read as
+abbrev pub limit_of : Slot → ℕ
+limit_of slots.File = 67108864
+limit_of slots.Offsets = 67108864
+limit_of slots.Zone = 1048576
+limit_of slots.Certificate = 400000000
+
+abbrev pub fault_of_reading : Slot → ReadAllFault → NoAnswer
+fault_of_reading slot reading.Failed = Unread
+fault_of_reading slot reading.TooLong = Told (TooLong slot)
+fault_of_reading slot reading.NoMemory = Told (Refused NoMemory)
+
+abbrev pub bytes_from : Slot → Result (List ℕ) ReadAllFault → Result (List ℕ) NoAnswer
+bytes_from slot (Ok bytes) = Ok bytes
+bytes_from slot (Err fault) = Err (fault_of_reading slot fault)
+
+-- of what is under a name: the bytes, or the fault of reading them
+abbrev pub bytes_of : Slot → Option (List ℕ) → Result (List ℕ) NoAnswer
+bytes_of slot file = bytes_from slot (whole (limit_of slot) file)
+
+-- the fault of loading the file, whose form is found while it is read
+abbrev pub fault_of_loading : LoadFault → NoAnswer
+fault_of_loading load.Failed = Unread
+fault_of_loading load.TooLong = Told (TooLong slots.File)
+fault_of_loading (load.Book fault) = Told (Book fault)
+
+-- ---- What they hold
+
+abbrev pub book_from : Result TheBook At → Result TheBook NoAnswer
+book_from (Ok book) = Ok book
+book_from (Err at) = Err (Told (Book (form.At at.line at.why)))
+
+abbrev pub table_from : Result (List Row) OffsetFault → Result (List Row) NoAnswer
+table_from (Ok rows) = Ok rows
+table_from (Err fault) = Err (Told (Offsets fault))
+
+abbrev pub zone_from : Result Zone ZoneFault → Result Zone NoAnswer
+zone_from (Ok zone) = Ok zone
+zone_from (Err zones.BadZone) = Err (Told BadZone)
+zone_from (Err zones.NoMemory) = Err (Told (Refused NoMemory))
+
+-- ---- By the names of a question
+
+unfoldable pub book_named : Folder → List ℕ → Result TheBook NoAnswer
+book_named folder name = do
+  bytes ← bytes_of slots.File (folder name)
+  book_from (book_of bytes)
+
+-- no row where no table is named
+unfoldable pub table_named : Folder → Option (List ℕ) → Result (List Row) NoAnswer
+table_named folder None = Ok []
+table_named folder (Some name) = do
+  bytes ← bytes_of slots.Offsets (folder name)
+  table_from (table_of bytes)
+
+unfoldable pub zone_named : Folder → ZoneWord → Result Zone NoAnswer
+zone_named folder words.Utc = Ok Utc
+zone_named folder (words.Fixed minutes) = Ok (Fixed minutes)
+zone_named folder (words.Named name) = do
+  bytes ← bytes_of slots.Zone (folder name)
+  zone_from (zone_of bytes)
+
+-- no byte where no certificate is named; what it says is judged with the question
+unfoldable pub certificate_named : Folder → Option (List ℕ) → Result (List ℕ) NoAnswer
+certificate_named folder None = Ok []
+certificate_named folder (Some name) = bytes_of slots.Certificate (folder name)
+
+-- a folder for each thing that a file is read as, since a file that is read twice may have changed in between
+abbrev pub Folders : Type 0
+Folders = Slot → Folder
+
+-- all files of a question in their order, the first of this name
+unfoldable pub files_in : Folders → Question → List ℕ → Result Materials NoAnswer
+files_in folders question name = do
+  book ← book_named (folders slots.File) name
+  table ← table_named (folders slots.Offsets) question.offsets
+  zone ← zone_named (folders slots.Zone) question.zone
+  certificate ← certificate_named (folders slots.Certificate) question.certificate
+  Ok (record { book = book; table = table; zone = zone; certificate = certificate })
+
+-- ---- How much of them may be read
+
+-- the file of a zone's word
+abbrev pub zone_file : ZoneWord → Option (List ℕ)
+zone_file words.Utc = None
+zone_file (words.Fixed minutes) = None
+zone_file (words.Named name) = Some name
+
+-- of what is read as this, where it is named
+abbrev pub allowed_for : Slot → Option (List ℕ) → Allowance
+allowed_for slot None = no_file
+allowed_for slot (Some name) = one_file (limit_of slot)
+
+-- of all files of a question that names one
+abbrev pub files_allowed : Question → Allowance
+files_allowed question =
+    both (one_file (limit_of slots.File))
+    (both (allowed_for slots.Offsets question.offsets)
+    (both (allowed_for slots.Zone (zone_file question.zone)) (allowed_for slots.Certificate question.certificate)))

@@ -1,0 +1,218 @@
+//! Reading the files of a question.
+
+ghost use Rattle.std.specs.Prelude.{◌≡◌, ◌≤◌, ℕ, false, IsTrue, length, List, Option, IfOk, IfErr};
+ghost use Rattle.decimal_text.specs.Expected.{Gives};
+ghost use Rattle.harmonics_text.specs.Books.{IsBook};
+ghost use Rattle.question.specs.Asked.{IsAsked, IsZoneWord};
+ghost use Rattle.station_table.specs.Offsets.{IsTable};
+ghost use Rattle.station_table.specs.Table.{table_of};
+ghost use Rattle.zone_time.specs.Zones.{IsZone, zone_of};
+ghost use Rattle.tide_edge.specs.FileStates.{Folder};
+ghost use Rattle.tide_edge.specs.Whole.{ReadWithin, one_file};
+ghost use Rattle.named_files.specs.NoAnswers.{IsTold, reading_failed, source_of, wants_memory};
+ghost use Rattle.named_files.specs.Readings.{Folders, allowed_for, files_allowed, zone_file, limit_of, fault_of_reading, bytes_of, book_named, table_from, table_named, zone_from, zone_named, certificate_named, files_in};
+ghost use Rattle.named_files.specs.Workings.Materials.{AreMaterials};
+ghost use Rattle.tide_edge.specs.Excuses.{Meets};
+
+use crate::materials::Materials;
+use crate::no_answer::NoAnswer;
+use book_loading::{LoadFault, load_book};
+use decimal_text::{Bytes, Text};
+use harmonics_text::Book;
+use question::{Question, ZoneWord};
+use station_table::{OffsetTable, read_offsets};
+use std::alloc::Global;
+use tide_edge::{Files, ReadAllFault, read_all};
+use tide_fault::{Fault, Refusal, Slot};
+use zone_time::{Zone, ZoneFault, read_zone};
+
+/// What the files of a question hold, or the first fault of them in their order: the harmonic
+/// constants, the table, the zone, the certificate, of each its reading before its form.
+#[tactic(auto, unfolding(crate::specs::Readings::files_in))]
+pub fn read_files<F: Files>(
+    alloc: Global,
+    files: &mut F,
+    question: &Question,
+    name: &Text,
+) -> Result<Materials, NoAnswer>
+    requires { IsAsked question.now }
+    ensures own { IsTrue (F.state files.old).store.tells
+        → Meets source_of (IsTrue (F.state files.old).store.is_steady) (files_in (λ slot. (F.state files.old).store.folder) question.now name.now) result }
+    ensures some { (folders : Folders) × Meets source_of (Unit {0}) (files_in folders question.now name.now) result }
+    ensures sound { IfOk result AreMaterials }
+    ensures told { IfErr result IsTold }
+    ensures read { ReadWithin (files_allowed question.now) (reading_failed result) (F.state files.old) (F.state files.new) }
+{
+    let book = read_book(alloc, files, name)?;
+    let table = read_table(alloc, files, &question.offsets)?;
+    let zone = read_zone_named(alloc, files, &question.zone)?;
+    let certificate = read_certificate(alloc, files, &question.certificate)?;
+    Ok(Materials {
+        book,
+        table,
+        zone,
+        certificate,
+    })
+}
+
+/// The book of harmonic constants of a name. A file that is too long isn't read to its end.
+pub fn read_book<F: Files>(alloc: Global, files: &mut F, name: &Text) -> Result<Book, NoAnswer>
+    ensures own { IsTrue (F.state files.old).store.tells
+        → Meets source_of (IsTrue (F.state files.old).store.is_steady) (book_named (F.state files.old).store.folder name.now) result }
+    ensures some { (folder : Folder) × Meets source_of (Unit {0}) (book_named folder name.now) result }
+    ensures sound { IfOk result IsBook }
+    ensures told { IfErr result IsTold }
+    ensures read { ReadWithin (one_file (limit_of Slot.File)) (reading_failed result) (F.state files.old) (F.state files.new) }
+{
+    match load_book(alloc, files, name, limit_of(Slot::File)) {
+        Ok(book) => Ok(book),
+        Err(fault) => Err(NoAnswer::from(fault)),
+    }
+}
+
+/// The table of subordinate stations, which has no row where none is named.
+pub fn read_table<F: Files>(
+    alloc: Global,
+    files: &mut F,
+    name: &Option<Text>,
+) -> Result<OffsetTable, NoAnswer>
+    ensures own { IsTrue (F.state files.old).store.tells
+        → Meets source_of (IsTrue (F.state files.old).store.is_steady) (table_named (F.state files.old).store.folder name.now) result }
+    ensures some { (folder : Folder) × Meets source_of (Unit {0}) (table_named folder name.now) result }
+    ensures sound { IfOk result IsTable }
+    ensures told { IfErr result IsTold }
+    ensures read { ReadWithin (allowed_for Slot.Offsets name.now) (reading_failed result) (F.state files.old) (F.state files.new) }
+{
+    match name {
+        Some(name) => {
+            let bytes = read_file(alloc, files, name, Slot::Offsets)?;
+            table_in(alloc, &bytes)
+        }
+        None => Ok(OffsetTable::new(alloc)),
+    }
+}
+
+fn table_in(alloc: Global, bytes: &Bytes) -> Result<OffsetTable, NoAnswer>
+    requires { length bytes.now ≤ 400000000 }
+    ensures exact { Gives wants_memory (table_from (table_of bytes.now)) result }
+    ensures sound { IfOk result IsTable }
+    ensures told { IfErr result IsTold }
+    ensures read { reading_failed result ≡ false }
+{
+    match read_offsets(alloc, bytes.as_slice()) {
+        Ok(table) => Ok(table),
+        Err(fault) => Err(NoAnswer::Told(Fault::Offsets(fault))),
+    }
+}
+
+// The zone in which times are shown.
+fn read_zone_named<F: Files>(
+    alloc: Global,
+    files: &mut F,
+    word: &ZoneWord,
+) -> Result<Zone, NoAnswer>
+    requires { IsZoneWord word.now }
+    ensures own { IsTrue (F.state files.old).store.tells
+        → Meets source_of (IsTrue (F.state files.old).store.is_steady) (zone_named (F.state files.old).store.folder word.now) result }
+    ensures some { (folder : Folder) × Meets source_of (Unit {0}) (zone_named folder word.now) result }
+    ensures sound { IfOk result IsZone }
+    ensures told { IfErr result IsTold }
+    ensures read { ReadWithin (allowed_for Slot.Zone (zone_file word.now)) (reading_failed result) (F.state files.old) (F.state files.new) }
+{
+    match word {
+        ZoneWord::Utc => Ok(Zone::Utc),
+        ZoneWord::Fixed(minutes) => Ok(Zone::Fixed(*minutes)),
+        ZoneWord::Named(name) => {
+            let bytes = read_file(alloc, files, name, Slot::Zone)?;
+            zone_in(alloc, &bytes)
+        }
+    }
+}
+
+fn zone_in(alloc: Global, bytes: &Bytes) -> Result<Zone, NoAnswer>
+    ensures exact { Gives wants_memory (zone_from (zone_of bytes.now)) result }
+    ensures sound { IfOk result IsZone }
+    ensures told { IfErr result IsTold }
+    ensures read { reading_failed result ≡ false }
+{
+    match read_zone(alloc, bytes.as_slice()) {
+        Ok(zone) => Ok(zone),
+        Err(ZoneFault::BadZone) => Err(NoAnswer::Told(Fault::BadZone)),
+        Err(ZoneFault::NoMemory) => Err(NoAnswer::Told(Fault::Refused(Refusal::NoMemory))),
+    }
+}
+
+// The text of the certificate, which has no byte where none is named.
+fn read_certificate<F: Files>(
+    alloc: Global,
+    files: &mut F,
+    name: &Option<Text>,
+) -> Result<Bytes, NoAnswer>
+    ensures own { IsTrue (F.state files.old).store.tells
+        → Meets source_of (IsTrue (F.state files.old).store.is_steady) (certificate_named (F.state files.old).store.folder name.now) result }
+    ensures some { (folder : Folder) × Meets source_of (Unit {0}) (certificate_named folder name.now) result }
+    ensures within { IfOk result (λ bytes. length bytes ≤ 400000000) }
+    ensures told { IfErr result IsTold }
+    ensures read { ReadWithin (allowed_for Slot.Certificate name.now) (reading_failed result) (F.state files.old) (F.state files.new) }
+{
+    match name {
+        Some(name) => read_file(alloc, files, name, Slot::Certificate),
+        None => Ok(Bytes::from_vec(Vec::new(alloc))),
+    }
+}
+
+// The bytes of a file that is read as this.
+fn read_file<F: Files>(
+    alloc: Global,
+    files: &mut F,
+    name: &Text,
+    slot: Slot,
+) -> Result<Bytes, NoAnswer>
+    ensures own { IsTrue (F.state files.old).store.tells
+        → Meets source_of (IsTrue (F.state files.old).store.is_steady) (bytes_of slot ((F.state files.old).store.folder name.now)) result }
+    ensures some { (file : Option (List ℕ)) × Meets source_of (Unit {0}) (bytes_of slot file) result }
+    ensures within { IfOk result (λ bytes. length bytes ≤ limit_of slot) }
+    ensures told { IfErr result IsTold }
+    ensures read { ReadWithin (one_file (limit_of slot)) (reading_failed result) (F.state files.old) (F.state files.new) }
+{
+    match read_all(alloc, files, name, limit_of(slot)) {
+        Ok(bytes) => Ok(bytes),
+        Err(fault) => Err(fault_of_reading(slot, fault)),
+    }
+}
+
+// The most bytes of a file.
+fn limit_of(slot: Slot) -> u64
+    ensures { result ≡ limit_of slot }
+{
+    match slot {
+        Slot::File | Slot::Offsets => 67_108_864,
+        Slot::Zone => 1_048_576,
+        Slot::Certificate => 400_000_000,
+    }
+}
+
+fn fault_of_reading(slot: Slot, fault: ReadAllFault) -> NoAnswer
+    ensures { result ≡ fault_of_reading slot fault }
+{
+    match fault {
+        ReadAllFault::Failed => NoAnswer::Unread,
+        ReadAllFault::TooLong => NoAnswer::Told(Fault::TooLong(slot)),
+        ReadAllFault::NoMemory => NoAnswer::Told(Fault::Refused(Refusal::NoMemory)),
+    }
+}
+
+impl From<LoadFault> for NoAnswer {
+    ghost use Rattle.std.specs.Prelude.{◌≡◌};
+    ghost use Rattle.named_files.specs.Readings.{fault_of_loading};
+
+    ghost from_gives = { λ load none. none ≡ fault_of_loading load };
+
+    fn from(fault: LoadFault) -> NoAnswer {
+        match fault {
+            LoadFault::Failed => NoAnswer::Unread,
+            LoadFault::TooLong => NoAnswer::Told(Fault::TooLong(Slot::File)),
+            LoadFault::Book(form) => NoAnswer::Told(Fault::Book(form)),
+        }
+    }
+}

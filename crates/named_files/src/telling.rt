@@ -1,0 +1,52 @@
+//! Telling why there is no answer.
+
+ghost use Rattle.std.specs.Prelude.{◌≡◌, Bool};
+ghost use Rattle.tide_fault.specs.Faults.{IsTold as IsToldFault, line_of as line_of_fault, status_of as status_of_fault};
+ghost use Rattle.named_files.specs.NoAnswers.{IsTold};
+ghost use Rattle.tide_edge.specs.SinkStates.{Wrote};
+ghost use Rattle.named_files.specs.Telling.{Tells, TellsFault};
+
+use crate::no_answer::NoAnswer;
+use station_table::OffsetTable;
+use std::alloc::Global;
+use tide_edge::{Sink, write_all};
+use tide_fault::{Fault, Status, fault_line, fault_status};
+
+/// Writes the line of what kept the words from an answer, and answers its status.
+pub fn tell<E: Sink>(alloc: Global, none: NoAnswer, err: &mut E) -> Status
+    requires { IsTold none }
+    ensures { Tells none result (E.state err.old) (E.state err.new) }
+{
+    match none {
+        NoAnswer::Unread => refuse(err, Status::ReadFault, b"read fault\n"),
+        NoAnswer::Told(fault) => {
+            let table = OffsetTable::new(alloc);
+            tell_fault(alloc, &fault, &table, err)
+        }
+        NoAnswer::Refused(refusal, table) => {
+            tell_fault(alloc, &Fault::Refused(refusal), &table, err)
+        }
+    }
+}
+
+fn tell_fault<E: Sink>(alloc: Global, fault: &Fault, table: &OffsetTable, err: &mut E) -> Status
+    requires { IsToldFault table.now fault.now }
+    ensures { TellsFault (status_of_fault fault.now) (line_of_fault table.now fault.now) result (E.state err.old) (E.state err.new) }
+{
+    match fault_line(alloc, fault, table) {
+        Ok(line) => refuse(err, fault_status(fault), line.as_slice()),
+        Err(_) => refuse(err, Status::NoMemory, b"no memory\n"),
+    }
+}
+
+/// Writes a line, and answers the status that goes with it. A failed write changes nothing of the
+/// status, and nothing is tried again.
+pub fn refuse<E: Sink>(err: &mut E, status: Status, line: &[u8]) -> Status
+    ensures same { result ≡ status }
+    ensures line { (failed : Bool) × Wrote (E.state err.old) (E.state err.new) failed line.now }
+{
+    match write_all(err, line) {
+        Ok(()) => status,
+        Err(_) => status,
+    }
+}

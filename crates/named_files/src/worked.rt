@@ -1,0 +1,38 @@
+//! Files and faults that were worked out by hand.
+
+ghost use Rattle.std.specs.Prelude.{◌≡◌, [], codes, Some, Ok, Err};
+ghost use Rattle.harmonics_text.specs.declared.fault.BookFault.{BookFault};
+ghost use Rattle.harmonics_text.specs.declared.fault.Why.{Why};
+ghost use Rattle.harmonics_text.specs.Worked.{pier_book};
+ghost use Rattle.question.specs.declared.command.Command.{Command};
+ghost use Rattle.question.specs.declared.question.ZoneWord.{ZoneWord};
+ghost use Rattle.question.specs.Worked.{bare};
+ghost use Rattle.station_table.specs.Worked.{dock_rows};
+ghost use Rattle.tide_fault.specs.declared.fault.Fault.{Fault};
+ghost use Rattle.tide_fault.specs.declared.refusal.Refusal.{Refusal};
+ghost use Rattle.tide_fault.specs.declared.status.Status.{Status};
+ghost use Rattle.zone_time.specs.declared.zone.Zone.{Zone};
+ghost use Rattle.named_files.specs.NoAnswers.{line_of, status_of};
+ghost use Rattle.named_files.specs.Readings.{files_in};
+ghost use Rattle.named_files.specs.Worked.{pier_alone};
+
+use crate::no_answer::NoAnswer;
+
+/// What is read of files: an empty one under each name, or the pier's alone.
+pub fn worked_files()
+    ensures form_before_table { files_in (λ slot name. Some []) (record (bare Command.Stations) { offsets = Some (codes "o.csv") }) (codes "pier.txt")
+        ≡ Err (NoAnswer.Told (Fault.Book (BookFault.At 1 Why.CutShort))) }
+    ensures alone { files_in pier_alone (bare Command.Stations) (codes "pier.txt")
+        ≡ Ok (record { book = pier_book; table = []; zone = Zone.Utc; certificate = [] }) }
+    ensures absent_table { files_in pier_alone (record (bare Command.Stations) { offsets = Some (codes "o.csv") }) (codes "pier.txt") ≡ Err NoAnswer.Unread }
+    ensures absent_zone { files_in pier_alone (record (bare Command.Clock) { zone = ZoneWord.Named (codes "zone") }) (codes "pier.txt") ≡ Err NoAnswer.Unread }
+    ensures absent_certificate { files_in pier_alone (record (bare Command.Check) { certificate = Some (codes "cert") }) (codes "pier.txt") ≡ Err NoAnswer.Unread }
+{}
+
+/// What is told of faults.
+#[tactic(auto, unfolding(tide_fault::specs::Faults::line_of, tide_fault::specs::Faults::refusal_line))]
+pub fn worked_faults()
+    ensures reference { line_of (NoAnswer.Refused (Refusal.NoReference 2) dock_rows) ≡ codes "refused: no reference Nowhere\n" }
+    ensures refused { status_of (NoAnswer.Refused (Refusal.NoReference 2) dock_rows) ≡ Status.Refused }
+    ensures unread { status_of NoAnswer.Unread ≡ Status.ReadFault }
+{}
