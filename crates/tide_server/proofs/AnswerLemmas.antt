@@ -10,7 +10,7 @@ use Rattle.tide_server.specs.declared.stock.Stock.{Stock}
 use Rattle.tide_server.specs.Heads.{head_end}
 use Rattle.tide_server.specs.Replies.{IsReply}
 use Rattle.tide_server.specs.Rows.{Row, IsRow, is_settled}
-use Rattle.tide_server.specs.Serving.{Answers, AnswersUnlessCut, AsksUnlessCut, Exchange, IsEnough, IsReadAsNeeded, IsUnavailable, has_byte}
+use Rattle.tide_server.specs.Serving.{Answers, AnswersUnlessCut, AsksUnlessCut, IsEnough, IsUnavailable, exchange, has_byte}
 use Rattle.tide_server.specs.Workings.Connections.{HasRead, IsRead, IsReadAs, Replies, RowSent, SentBy, Stopped, Talk, Went, WentBy, read_to, sent, talked}
 use Rattle.tide_server.proofs.ConnectionLemmas.{append_none, not_enough}
 use Rattle.tide_server.proofs.RowLemmas.{one_row_at, settled_stays}
@@ -120,14 +120,11 @@ has_bytes : (bytes : List ℕ) → true ≡ has_byte bytes → ¬ (bytes ≡ [])
 has_bytes [] is = absurd (cc)
 has_bytes (b ∷ bytes) is = λ none. absurd (cc)
 
-abbrev pub over : DoorState → ClockState → Exchange
-over door clock = record { door = door; clock = clock }
-
 -- ---- What came of the open connection
 
 pub went_row : (stock : Stock) (row : Row) (first now after : DoorState) (clock clock_now : ClockState) → HasRead false first now
-    → (IsTrue first.tells → IsReadAs (concat first.traffic.rest) (Some row)) → RowSent false stock row (over now clock) (over after clock_now)
-    → Went stock (over first clock) (over after clock_now)
+    → (IsTrue first.tells → IsReadAs (concat first.traffic.rest) (Some row)) → RowSent false stock row (exchange now clock) (exchange after clock_now)
+    → Went stock (exchange first clock) (exchange after clock_now)
 went_row stock row first now after clock clock_now read found (text, false, made, sends, asked) = record {
   talk = talk_of read.left text false true;
   door = sent_talk first now after read.left text false true read.door sends;
@@ -146,8 +143,8 @@ went_row stock row first now after clock clock_now read found (text, true, made,
 }
 
 pub stopped_row : (stock : Stock) (row : Row) (first now after : DoorState) (clock clock_now : ClockState) → HasRead false first now
-    → (IsTrue first.tells → IsReadAs (concat first.traffic.rest) (Some row)) → RowSent true stock row (over now clock) (over after clock_now)
-    → Stopped (over first clock) (over after clock_now)
+    → (IsTrue first.tells → IsReadAs (concat first.traffic.rest) (Some row)) → RowSent true stock row (exchange now clock) (exchange after clock_now)
+    → Stopped (exchange first clock) (exchange after clock_now)
 stopped_row stock row first now after clock clock_now read found sends = record {
   left = read.left;
   door = sends.0 ∙ read.door;
@@ -158,7 +155,7 @@ stopped_row stock row first now after clock clock_now read found sends = record 
 
 pub went_by_row : (failed : Bool) (stock : Stock) (row : Row) (first now after : DoorState) (clock clock_now : ClockState)
     → HasRead false first now → (IsTrue first.tells → IsReadAs (concat first.traffic.rest) (Some row))
-    → RowSent failed stock row (over now clock) (over after clock_now) → WentBy failed stock (over first clock) (over after clock_now)
+    → RowSent failed stock row (exchange now clock) (exchange after clock_now) → WentBy failed stock (exchange first clock) (exchange after clock_now)
 went_by_row false stock row first now after clock clock_now read found sends =
     went_row stock row first now after clock clock_now read found sends
 went_by_row true stock row first now after clock clock_now read found sends =
@@ -166,7 +163,7 @@ went_by_row true stock row first now after clock clock_now read found sends =
 
 -- no byte came
 pub went_silent : (stock : Stock) (first now : DoorState) (clock : ClockState) → HasRead false first now
-    → (IsTrue first.tells → concat first.traffic.rest ≡ []) → Went stock (over first clock) (over now clock)
+    → (IsTrue first.tells → concat first.traffic.rest ≡ []) → Went stock (exchange first clock) (exchange now clock)
 went_silent stock first now clock read none = record {
   talk = talk_of read.left [] false false;
   door = unsent_talk first now read.left false false read.door;
@@ -178,7 +175,7 @@ went_silent stock first now clock read none = record {
 
 -- a read has failed
 pub went_unread : (stock : Stock) (first now : DoorState) (clock : ClockState) → HasRead true first now
-    → Went stock (over first clock) (over now clock)
+    → Went stock (exchange first clock) (exchange now clock)
 went_unread stock first now clock read = record {
   talk = talk_of read.left [] true false;
   door = unsent_talk first now read.left true false read.door;

@@ -6,11 +6,10 @@ use Rattle.std.proofs.lemmas.Grind.{common_steps}
 use Rattle.tide_edge.specs.Clocks.{ClockState, next_minute}
 use Rattle.tide_edge.specs.Memory.{folder_of}
 use Rattle.tide_fault.specs.declared.status.Status.TheVariants.{Done}
-use Rattle.named_files.specs.declared.no_answer.NoAnswer.{NoAnswer}
 use Rattle.tide_server.specs.declared.stock.Stock.{Stock}
 use Rattle.tide_server.specs.Laws.{AreAnswered, HasAnswered, InMemory, handed_in}
-use Rattle.tide_server.specs.Openings.{EndsAs, HasListened, exchange, stock_of}
-use Rattle.tide_server.specs.Serving.{AnswersUnlessCut, Answers, AreHeld, Conversation, RoseBy, Served, clock_with}
+use Rattle.tide_server.specs.Openings.{EndsAs, stock_of}
+use Rattle.tide_server.specs.Serving.{AnswersUnlessCut, Answers, AreHeld, Conversation, RoseBy, Served, clock_with, exchange}
 
 -- how many were cut short
 abbrev cuts : List Conversation → ℕ
@@ -51,7 +50,8 @@ all_answered stock clock minute (c ∷ more) is none held =
       all_answered stock (clock_with c.is_asked clock) minute more (same_minutes c.is_asked clock minute is) first.1 held.1,
     )
 
-answered_by : (stock : Stock) (before after : InMemory) → Served stock false (exchange (handed_in before)) (exchange (handed_in after))
+answered_by : (stock : Stock) (before after : InMemory) → Served stock false (exchange (handed_in before).door (handed_in before).clock)
+    (exchange (handed_in after).door (handed_in after).clock)
     → HasAnswered stock before after
 answered_by stock before after served =
     let none : served.left ≡ [] = served.last in record {

@@ -14,15 +14,11 @@ use Rattle.tide_server.specs.declared.outage.Outage.{Outage}
 use Rattle.tide_server.specs.declared.outage.Outage.TheVariants as outages
 use Rattle.tide_server.specs.declared.stock.Stock.{Stock}
 use Rattle.tide_server.specs.Openings.{EndedBy, HasListened, notice_of}
-use Rattle.tide_server.specs.Serving.{Exchange, IsOver, Served}
-use Rattle.tide_server.specs.Workings.Ends.{Ended, Unread, handed}
+use Rattle.tide_server.specs.Serving.{Exchange, IsOver, Served, exchange}
+use Rattle.tide_server.specs.Workings.Ends.{Ended, unread, with_files}
 use Rattle.tide_server.specs.Workings.Steps.{IsKept, is_clock_outage, is_door_outage}
-use Rattle.tide_server.proofs.AnswerLemmas.{over}
 use Rattle.tide_server.proofs.OpeningLemmas.{wrote_first, wrote_one}
 use Rattle.tide_server.proofs.StepLemmas.{nobody}
-
-abbrev pub left_over : DoorState → SinkState → ClockState → Unread
-left_over door err clock = record { door = door; err = err; clock = clock }
 
 -- ---- The door listens
 
@@ -34,9 +30,9 @@ pub record Serves (stock : Stock) (failed : Bool) (before after : Exchange) : Ty
   pub served : IsTrue before.door.tells → IsTrue before.clock.tells → Served stock failed before after
 
 pub served_done : (stock : Stock) (door door_after : DoorState) (err err_after : SinkState) (clock clock_after : ClockState) (failed : Bool)
-    → Serves stock false (over door clock) (over door_after clock_after) → IsKept false false (over door clock) (over door_after clock_after)
+    → Serves stock false (exchange door clock) (exchange door_after clock_after) → IsKept false false (exchange door clock) (exchange door_after clock_after)
     → IsOver door_after.doorway → Wrote err err_after failed (notice_of stock.port)
-    → Ended stock Done (left_over door err clock) (left_over door_after err_after clock_after)
+    → Ended stock Done (unread door err clock) (unread door_after err_after clock_after)
 served_done stock door door_after err err_after clock clock_after failed serves kept is_over wrote = record {
   listened = λ files left. record {
     asked = serves.port;
@@ -62,9 +58,9 @@ served_done stock door door_after err err_after clock clock_after failed serves 
 
 -- by the door or by the clock
 by_outage : (outage : Outage) (door door_after : DoorState) (err err_after : SinkState) (clock clock_after : ClockState) (files left : FilesState)
-    → IsKept (is_door_outage {T = Unit {0}} (Err outage)) (is_clock_outage {T = Unit {0}} (Err outage)) (over door clock) (over door_after clock_after)
+    → IsKept (is_door_outage {T = Unit {0}} (Err outage)) (is_clock_outage {T = Unit {0}} (Err outage)) (exchange door clock) (exchange door_after clock_after)
     → left.faults ≡ files.faults
-    → EndedBy true (handed files (left_over door err clock)) (handed left (left_over door_after err_after clock_after))
+    → EndedBy true (with_files files (unread door err clock)) (with_files left (unread door_after err_after clock_after))
 by_outage outages.Door door door_after err err_after clock clock_after files left kept same = record {
   files = false;
   clock = false;
@@ -92,10 +88,10 @@ by_outage outages.Clock door door_after err err_after clock clock_after files le
 
 pub served_failed : (stock : Stock) (outage : Outage) (door door_after : DoorState) (err between err_after : SinkState)
     (clock clock_after : ClockState) (failed also_failed : Bool)
-    → Serves stock true (over door clock) (over door_after clock_after)
-    → IsKept (is_door_outage {T = Unit {0}} (Err outage)) (is_clock_outage {T = Unit {0}} (Err outage)) (over door clock) (over door_after clock_after)
+    → Serves stock true (exchange door clock) (exchange door_after clock_after)
+    → IsKept (is_door_outage {T = Unit {0}} (Err outage)) (is_clock_outage {T = Unit {0}} (Err outage)) (exchange door clock) (exchange door_after clock_after)
     → Wrote err between failed (notice_of stock.port) → Wrote between err_after also_failed (codes "read fault\n")
-    → Ended stock ReadFault (left_over door err clock) (left_over door_after err_after clock_after)
+    → Ended stock ReadFault (unread door err clock) (unread door_after err_after clock_after)
 served_failed stock outage door door_after err between err_after clock clock_after failed also_failed serves kept first second = record {
   listened = λ files left. record {
     asked = serves.port;
@@ -111,7 +107,7 @@ served_failed stock outage door door_after err between err_after clock clock_aft
 -- ---- The door was asked to listen
 
 same_served : (stock : Stock) (failed : Bool) (port : ℕ) (door : DoorState) (clock : ClockState) (after : Exchange)
-    → Served stock failed (over (door_after_listen {T = Unit {0}} (Ok tt) port door) clock) after → Served stock failed (over door clock) after
+    → Served stock failed (exchange (door_after_listen {T = Unit {0}} (Ok tt) port door) clock) after → Served stock failed (exchange door clock) after
 same_served stock failed port door clock after s = record {
   served = s.served;
   left = s.left;
@@ -128,16 +124,16 @@ same_served stock failed port door clock after s = record {
 
 pub ended_listening : (stock : Stock) (status : Status) (door opened door_after : DoorState) (err err_after : SinkState)
     (clock clock_after : ClockState) → opened ≡ door_after_listen {T = Unit {0}} (Ok tt) stock.port door
-    → Ended stock status (left_over opened err clock) (left_over door_after err_after clock_after)
-    → Ended stock status (left_over door err clock) (left_over door_after err_after clock_after)
+    → Ended stock status (unread opened err clock) (unread door_after err_after clock_after)
+    → Ended stock status (unread door err clock) (unread door_after err_after clock_after)
 ended_listening stock status door opened door_after err err_after clock clock_after is behind =
-    let E : DoorState → Type 0 = λ d. Ended stock status (left_over d err clock) (left_over door_after err_after clock_after) in
+    let E : DoorState → Type 0 = λ d. Ended stock status (unread d err clock) (unread door_after err_after clock_after) in
     let e : E (door_after_listen {T = Unit {0}} (Ok tt) stock.port door) = subst E is behind in record {
       listened = λ files left. record {
         asked = (e.listened files left).asked;
         ends = (e.listened files left).ends;
         served = λ t k.
-            same_served stock _ stock.port door clock (over door_after clock_after) ((e.listened files left).served t k);
+            same_served stock _ stock.port door clock (exchange door_after clock_after) ((e.listened files left).served t k);
         wrote = (e.listened files left).wrote;
       };
       done = e.done;
@@ -159,14 +155,14 @@ ended_listening stock status door opened door_after err err_after clock clock_af
 
 unlistening : (stock : Stock) (failed_to : Failed) (door : DoorState) (err err_after : SinkState) (clock : ClockState) (failed : Bool)
     → Wrote err err_after failed (codes "read fault\n")
-    → Ended stock ReadFault (left_over door err clock)
-    (left_over (door_after_listen {T = Unit {0}} (Err failed_to) stock.port door) err_after clock)
+    → Ended stock ReadFault (unread door err clock)
+    (unread (door_after_listen {T = Unit {0}} (Err failed_to) stock.port door) err_after clock)
 unlistening stock failed_to door err err_after clock failed wrote = record {
   listened = λ files left. record {
     asked = refl;
     ends = inr refl;
     served = λ t k.
-        nobody stock true (over door clock) (over (door_after_listen {T = Unit {0}} (Err failed_to) stock.port door) clock) refl refl refl refl;
+        nobody stock true (exchange door clock) (exchange (door_after_listen {T = Unit {0}} (Err failed_to) stock.port door) clock) refl refl refl refl;
     wrote = wrote_one err err_after failed (codes "read fault\n") wrote;
   };
   done = λ is. absurd (cc);
@@ -188,7 +184,7 @@ unlistening stock failed_to door err err_after clock failed wrote = record {
 pub ended_unlistening : (stock : Stock) (failed_to : Failed) (door door_after : DoorState) (err err_after : SinkState) (clock : ClockState)
     (failed : Bool) → door_after ≡ door_after_listen {T = Unit {0}} (Err failed_to) stock.port door
     → Wrote err err_after failed (codes "read fault\n")
-    → Ended stock ReadFault (left_over door err clock) (left_over door_after err_after clock)
+    → Ended stock ReadFault (unread door err clock) (unread door_after err_after clock)
 ended_unlistening stock failed_to door door_after err err_after clock failed is wrote =
-    let E : DoorState → Type 0 = λ d. Ended stock ReadFault (left_over door err clock) (left_over d err_after clock) in
+    let E : DoorState → Type 0 = λ d. Ended stock ReadFault (unread door err clock) (unread d err_after clock) in
     subst E (sym is) (unlistening stock failed_to door err err_after clock failed wrote)

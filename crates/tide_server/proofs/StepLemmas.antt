@@ -14,10 +14,10 @@ use Rattle.tide_edge.specs.Faults.{counted, faults_after}
 use Rattle.tide_server.specs.declared.outage.Outage.{Outage}
 use Rattle.tide_server.specs.declared.outage.Outage.TheVariants as outages
 use Rattle.tide_server.specs.declared.stock.Stock.{Stock}
-use Rattle.tide_server.specs.Serving.{Answers, AnswersUnlessCut, AreHeld, AsksUnlessCut, Conversation, Exchange, IsHeld, IsLastReadAsNeeded, IsReadAsNeeded, MayLeave, RoseBy, Served, clock_after_all, clock_with}
+use Rattle.tide_server.specs.Serving.{Answers, AnswersUnlessCut, AreHeld, AsksUnlessCut, Conversation, Exchange, IsHeld, IsLastReadAsNeeded, IsReadAsNeeded, MayLeave, RoseBy, Served, clock_after_all, clock_with, exchange}
 use Rattle.tide_server.specs.Workings.Connections.{Closed, Talk, talked}
 use Rattle.tide_server.specs.Workings.Steps.{IsKept, IsNext, LeftNext, ServedNext, StepBy, WereServed, after_taking, conversation, door_at_end, door_failed, door_with, is_clock, is_door, serving}
-use Rattle.tide_server.proofs.AnswerLemmas.{over, talk_of, unsent_talk}
+use Rattle.tide_server.proofs.AnswerLemmas.{talk_of, unsent_talk}
 use Rattle.tide_server.proofs.ConnectionLemmas.{append_last, unread_again}
 use Rattle.tide_server.proofs.PieceLemmas.{last_read}
 
@@ -46,7 +46,7 @@ tells_on before after same is = subst (λ (b : Bool). IsTrue b) (sym same) is
 
 pub served_next : (stock : Stock) (first now after : DoorState) (clock clock_now : ClockState)
     → (IsTrue first.tells → 0 < length first.traffic.waiting) → now ≡ door_after_next (Ok true) first
-    → Closed false stock (over now clock) (over after clock_now) → ServedNext stock (over first clock) (over after clock_now)
+    → Closed false stock (exchange now clock) (exchange after clock_now) → ServedNext stock (exchange first clock) (exchange after clock_now)
 served_next stock first now after clock clock_now some is closes =
     let went = closes.went in
     let tells : IsTrue first.tells → IsTrue now.tells = λ t. tells_on first.tells now.tells (ap (λ d. d.tells) is) t in
@@ -71,7 +71,7 @@ served_next stock first now after clock clock_now some is closes =
 
 pub left_next : (stock : Stock) (first now after : DoorState) (clock clock_now : ClockState)
     → (IsTrue first.tells → 0 < length first.traffic.waiting) → now ≡ door_after_next (Ok true) first
-    → Closed true stock (over now clock) (over after clock_now) → LeftNext (over first clock) (over after clock_now)
+    → Closed true stock (exchange now clock) (exchange after clock_now) → LeftNext (exchange first clock) (exchange after clock_now)
 left_next stock first now after clock clock_now some is closes =
     let went = closes.went in
     let tells : IsTrue first.tells → IsTrue now.tells = λ t. tells_on first.tells now.tells (ap (λ d. d.tells) is) t in
@@ -342,7 +342,6 @@ counted_on count few = counted_by (count == 2 ^ 64 - 1) count refl few
 pub next_serving : (port count : ℕ) (after : Doorway) → count < 2 ^ 64 - 1 → after ≡ after_taking (serving port count)
     → after ≡ serving port (count + 1)
 next_serving port count after few is = is ∙ ap (serving port) (counted_on count few)
-
 
 pub failed : (stock : Stock) (outage : Outage) (count : ℕ) (before now after : Exchange) → IsTrue before.door.tells → count < 2 ^ 64 - 1
     → now.door.doorway.taken ≡ count → IsKept false false before now → WereServed stock count before now

@@ -27,7 +27,7 @@ use Rattle.named_files.specs.declared.no_answer.NoAnswer.TheVariants.{Told}
 use Rattle.named_files.specs.NoAnswers.{told, status_of, line_of, source_of}
 use Rattle.named_files.specs.Readings.{Folders, allowed_for, book_named, table_named}
 use Rattle.tide_server.specs.declared.stock.Stock.{Stock}
-use Rattle.tide_server.specs.Serving.{Exchange, Served}
+use Rattle.tide_server.specs.Serving.{Served, exchange}
 
 -- ---- The words
 
@@ -96,8 +96,8 @@ pub record Handed : Type 0 where
   pub err : SinkState
   pub clock : ClockState
 
-abbrev pub exchange : Handed → Exchange
-exchange handed = record { door = handed.door; clock = handed.clock }
+abbrev pub handed : FilesState → DoorState → SinkState → ClockState → Handed
+handed files door err clock = record { files = files; door = door; err = err; clock = clock }
 
 -- Nobody was served, for want of what to serve from: `why` is the expected fault, save that want of memory says nothing, nor does a
 -- fault of reading where the files didn't stand firm. The door was never asked to listen, and the clock never asked.
@@ -125,7 +125,7 @@ pub record HasListened (stock : Stock) (status : Status) (before after : Handed)
   pub asked : after.door.doorway.port ≡ Some stock.port
   pub ends : (status ≡ Done) ⊎ (status ≡ ReadFault)
   pub served : IsTrue before.door.tells → IsTrue before.clock.tells
-      → Served stock (is_read_fault status) (exchange before) (exchange after)
+      → Served stock (is_read_fault status) (exchange before.door before.clock) (exchange after.door after.clock)
   pub wrote : WroteBoth before.err after.err (notice_at stock.port after.door.doorway) (end_line status)
 
 -- it was refused, or has listened for what it was expected to serve from

@@ -91,6 +91,9 @@ pub record Exchange : Type 0 where
   pub door : DoorState
   pub clock : ClockState
 
+abbrev pub exchange : DoorState → ClockState → Exchange
+exchange door clock = record { door = door; clock = clock }
+
 -- a count rose by so many, unless it stands at its last value
 abbrev pub RoseBy : ℕ → ℕ → ℕ → Type 0
 RoseBy more before now = (now ≡ before + more) ⊎ (now ≡ 2 ^ 64 - 1)

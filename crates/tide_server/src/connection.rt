@@ -4,6 +4,7 @@ ghost use Rattle.std.specs.Prelude.{◌≡◌, ◌==◌, ◌||◌, ℕ, List, Is
 ghost use Rattle.tide_edge.specs.Clocks.{IsClockMinute};
 ghost use Rattle.tide_server.specs.Responses.{rejection_of, unavailable_to};
 ghost use Rattle.tide_server.specs.Rows.{is_settled};
+ghost use Rattle.tide_server.specs.Serving.{exchange};
 ghost use Rattle.tide_server.specs.Workings.Connections.{Closed, IsStock, Replies, RowSent, SentBy, WentBy};
 ghost use Rattle.tide_server.specs.Workings.Views.{IsAskingRow, row_seen};
 
@@ -33,7 +34,7 @@ pub(crate) fn serve_connection<D: Door, K: Clock>(
     requires is_open { IsTrue (D.state door.old).doorway.is_open }
     requires stock { IsStock stock.now }
     ensures { Closed (is_err result) stock.now
-        (record { door = D.state door.old; clock = K.state clock.old }) (record { door = D.state door.new; clock = K.state clock.new }) }
+        (exchange (D.state door.old) (K.state clock.old)) (exchange (D.state door.new) (K.state clock.new)) }
 {
     let answered = answer_connection(alloc, stock, request, door, clock);
     door.close();
@@ -52,7 +53,7 @@ fn answer_connection<D: Door, K: Clock>(
     requires is_open { IsTrue (D.state door.old).doorway.is_open }
     requires stock { IsStock stock.now }
     ensures { WentBy (is_err result) stock.now
-        (record { door = D.state door.old; clock = K.state clock.old }) (record { door = D.state door.new; clock = K.state clock.new }) }
+        (exchange (D.state door.old) (K.state clock.old)) (exchange (D.state door.new) (K.state clock.new)) }
 {
     request.clear();
     loop {
@@ -89,7 +90,7 @@ fn answer_row<D: Door, K: Clock>(
     requires stock { IsStock stock.now }
     requires known { IsAskingRow (row_seen row.now) }
     ensures { RowSent (is_err result) stock.now (row_seen row.now)
-        (record { door = D.state door.old; clock = K.state clock.old }) (record { door = D.state door.new; clock = K.state clock.new }) }
+        (exchange (D.state door.old) (K.state clock.old)) (exchange (D.state door.new) (K.state clock.new)) }
 {
     let now = clock.minute()?;
     let _ = send_reply(alloc, stock, row, now, door);
@@ -120,11 +121,7 @@ fn send_reply<D: Door>(
     }
 }
 
-fn send_rejection<D: Door>(
-    rejection: Rejection,
-    bodiless: bool,
-    door: &mut D,
-) -> Result<(), Failed>
+fn send_rejection<D: Door>(rejection: Rejection, bodiless: bool, door: &mut D) -> Result<(), Failed>
     requires { IsTrue (D.state door.old).doorway.is_open }
     ensures { SentBy (is_err result) (rejection_of rejection bodiless) (D.state door.old) (D.state door.new) }
 {

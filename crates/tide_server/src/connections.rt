@@ -2,7 +2,7 @@
 
 ghost use Rattle.std.specs.Prelude.{◌≡◌, false, true, Some, IsTrue, OnOk, is_err};
 ghost use Rattle.tide_edge.specs.Doors.{asked};
-ghost use Rattle.tide_server.specs.Serving.{IsOver, Served};
+ghost use Rattle.tide_server.specs.Serving.{IsOver, Served, exchange};
 ghost use Rattle.tide_server.specs.Workings.Connections.{IsStock};
 ghost use Rattle.tide_server.specs.Workings.Steps.{IsKept, StepBy, is_clock_outage, is_door_outage};
 
@@ -24,9 +24,9 @@ pub(crate) fn serve_all<D: Door, K: Clock>(
     requires listens { (D.state door.old).doorway ≡ asked stock.now.port true }
     requires stock { IsStock stock.now }
     ensures served { IsTrue (D.state door.old).tells → IsTrue (K.state clock.old).tells → Served stock.now (is_err result)
-        (record { door = D.state door.old; clock = K.state clock.old }) (record { door = D.state door.new; clock = K.state clock.new }) }
+        (exchange (D.state door.old) (K.state clock.old)) (exchange (D.state door.new) (K.state clock.new)) }
     ensures kept { IsKept (is_door_outage result) (is_clock_outage result)
-        (record { door = D.state door.old; clock = K.state clock.old }) (record { door = D.state door.new; clock = K.state clock.new }) }
+        (exchange (D.state door.old) (K.state clock.old)) (exchange (D.state door.new) (K.state clock.new)) }
     ensures over { OnOk result (IsOver (D.state door.new).doorway) }
     ensures port { (D.state door.new).doorway.port ≡ Some stock.now.port }
     ensures listens { (D.state door.new).doorway.listens ≡ true }
@@ -53,7 +53,7 @@ fn serve_next<D: Door, K: Clock>(
     requires none_open { (D.state door.old).doorway.is_open ≡ false }
     requires stock { IsStock stock.now }
     ensures steps { StepBy result stock.now
-        (record { door = D.state door.old; clock = K.state clock.old }) (record { door = D.state door.new; clock = K.state clock.new }) }
+        (exchange (D.state door.old) (K.state clock.old)) (exchange (D.state door.new) (K.state clock.new)) }
     ensures unasked { (D.state door.new).doorway.taken ≡ 0 → clock.new ≡ clock.old }
 {
     match door.next() {

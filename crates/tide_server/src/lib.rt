@@ -34,8 +34,8 @@ pub use code::Code;
 pub use deciding::{enough, fixed_reply, unavailable_reply};
 pub use http_reply::reply;
 pub use laws::{
-    fixed_rows_reply, long_requests_are_settled, one_reply, one_row, queries_name_no_file, serve_in_memory,
-    settled_replies_stay, settled_rows_stay,
+    fixed_rows_reply, long_requests_are_settled, one_reply, one_row, queries_name_no_file,
+    serve_in_memory, settled_replies_stay, settled_rows_stay,
 };
 pub use path::Path;
 pub use rejection::Rejection;

@@ -45,7 +45,10 @@ impl Path {
         ensures named { result ≡ path_named text.now }
         ensures same { IfSome result (λ path. text_of path ≡ text.now) }
     {
-        PATHS.iter().copied().find(|path| path.text().as_bytes() == text)
+        PATHS
+            .iter()
+            .copied()
+            .find(|path| path.text().as_bytes() == text)
     }
 
     /// The command that it names, which is its text without the `/`.

@@ -7,10 +7,10 @@ ghost use Rattle.tide_edge.specs.SinkStates.{Wrote};
 ghost use Rattle.tide_edge.specs.Whole.{ReadWithin};
 ghost use Rattle.tide_fault.specs.declared.status.Status.{Status};
 ghost use Rattle.named_files.specs.Readings.{Folders};
-ghost use Rattle.tide_server.specs.Openings.{EndedBy, EndsAs, TookNone, files_asked, is_read_fault, notice_of, service_of, stock_from, stock_of};
+ghost use Rattle.tide_server.specs.Openings.{EndedBy, EndsAs, TookNone, files_asked, handed, is_read_fault, notice_of, service_of, stock_from, stock_of};
 ghost use Rattle.tide_server.specs.Serving.{IsOver};
 ghost use Rattle.tide_server.specs.Workings.Connections.{IsStock};
-ghost use Rattle.tide_server.specs.Workings.Ends.{Ended};
+ghost use Rattle.tide_server.specs.Workings.Ends.{Ended, unread};
 
 use crate::connections::serve_all;
 use crate::request::Request;
@@ -41,16 +41,16 @@ pub fn serve<F: Files, D: Door, E: Sink, K: Clock>(
     requires { (D.state door.old).doorway.port ≡ None }
     ensures own_files { IsTrue (F.state files.old).store.tells
         → EndsAs (IsTrue (F.state files.old).store.is_steady) (stock_of (F.state files.old).store.folder words.now) result
-        (record { files = F.state files.old; door = D.state door.old; err = E.state err.old; clock = K.state clock.old })
-        (record { files = F.state files.new; door = D.state door.new; err = E.state err.new; clock = K.state clock.new }) }
+        (handed (F.state files.old) (D.state door.old) (E.state err.old) (K.state clock.old))
+        (handed (F.state files.new) (D.state door.new) (E.state err.new) (K.state clock.new)) }
     ensures some_files { (folders : Folders)
         × EndsAs (Unit {0}) (stock_from folders words.now) result
-        (record { files = F.state files.old; door = D.state door.old; err = E.state err.old; clock = K.state clock.old })
-        (record { files = F.state files.new; door = D.state door.new; err = E.state err.new; clock = K.state clock.new }) }
+        (handed (F.state files.old) (D.state door.old) (E.state err.old) (K.state clock.old))
+        (handed (F.state files.new) (D.state door.new) (E.state err.new) (K.state clock.new)) }
     ensures done { result ≡ Status.Done → IsOver (D.state door.new).doorway }
     ensures read_fault { EndedBy (is_read_fault result)
-        (record { files = F.state files.old; door = D.state door.old; err = E.state err.old; clock = K.state clock.old })
-        (record { files = F.state files.new; door = D.state door.new; err = E.state err.new; clock = K.state clock.new }) }
+        (handed (F.state files.old) (D.state door.old) (E.state err.old) (K.state clock.old))
+        (handed (F.state files.new) (D.state door.new) (E.state err.new) (K.state clock.new)) }
     ensures read { (failed : Bool) × ReadWithin (files_asked (service_of words.now)) failed (F.state files.old) (F.state files.new) }
     ensures read_first { ¬ ((D.state door.new).doorway.port ≡ None) → (F.state files.new).faults ≡ (F.state files.old).faults }
     ensures unopened { ¬ (IsOk (service_of words.now)) → files.new ≡ files.old }
@@ -79,8 +79,8 @@ fn serve_stock<D: Door, E: Sink, K: Clock>(
     requires unasked { (D.state door.old).doorway.port ≡ None }
     requires stock { IsStock stock.now }
     ensures ended { Ended stock.now result
-        (record { door = D.state door.old; err = E.state err.old; clock = K.state clock.old })
-        (record { door = D.state door.new; err = E.state err.new; clock = K.state clock.new }) }
+        (unread (D.state door.old) (E.state err.old) (K.state clock.old))
+        (unread (D.state door.new) (E.state err.new) (K.state clock.new)) }
     ensures unasked { (D.state door.new).doorway.taken ≡ 0 → clock.new ≡ clock.old }
 {
     match door.listen(stock.port) {
@@ -101,8 +101,8 @@ fn serve_open<D: Door, E: Sink, K: Clock>(
     requires listens { (D.state door.old).doorway ≡ asked stock.now.port true }
     requires stock { IsStock stock.now }
     ensures ended { Ended stock.now result
-        (record { door = D.state door.old; err = E.state err.old; clock = K.state clock.old })
-        (record { door = D.state door.new; err = E.state err.new; clock = K.state clock.new }) }
+        (unread (D.state door.old) (E.state err.old) (K.state clock.old))
+        (unread (D.state door.new) (E.state err.new) (K.state clock.new)) }
     ensures unasked { (D.state door.new).doorway.taken ≡ 0 → clock.new ≡ clock.old }
 {
     tell_port(stock.port, err);

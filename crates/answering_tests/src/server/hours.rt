@@ -37,7 +37,10 @@ fn each_request_is_answered_at_its_own_minute(rt: HostRuntime) -> Result<(), Fai
     let alloc = rt.alloc();
     let words = words_of(alloc, "serve|file=pier.txt")?;
     let mut files = files_of(alloc, 0)?;
-    let coming = requests_of(alloc, &[Coming::Whole(NOW), Coming::Whole(""), Coming::Whole(NOW)])?;
+    let coming = requests_of(
+        alloc,
+        &[Coming::Whole(NOW), Coming::Whole(""), Coming::Whole(NOW)],
+    )?;
     let mut door = MemoryDoor::new(alloc, coming, 4096, Vec::new(alloc))?;
     let mut err = MemorySink::new(alloc, 4096, 4096, Vec::new(alloc))?;
     let mut clock = HourClock { asked: 0 };

@@ -1,16 +1,16 @@
 use Rattle.std.proofs.Common.{◌≡◌, false}
 use Rattle.std.specs.Bool.{IsTrue}
 use Rattle.tide_server.specs.Workings.Steps.{IsKept, WereServed, serving}
-use Rattle.tide_server.proofs.AnswerLemmas.{over}
+use Rattle.tide_server.specs.Serving.{exchange}
 use Rattle.tide_server.proofs.connections.serve_all.Given as goal
 
 abbrev pub invariant-loop-taken : goal.invariant-loop-taken
 invariant-loop-taken g l = record {
   doorway : (g.D.Door.state l.door).doorway ≡ serving l.stock.port l._taken;
-  kept : IsKept false false (over (g.D.Door.state l.initial.door) (g.K.Clock.state l.initial.clock))
-      (over (g.D.Door.state l.door) (g.K.Clock.state l.clock));
+  kept : IsKept false false (exchange (g.D.Door.state l.initial.door) (g.K.Clock.state l.initial.clock))
+      (exchange (g.D.Door.state l.door) (g.K.Clock.state l.clock));
   served : IsTrue (g.D.Door.state l.initial.door).tells → IsTrue (g.K.Clock.state l.initial.clock).tells
-      → WereServed l.stock l._taken (over (g.D.Door.state l.initial.door) (g.K.Clock.state l.initial.clock))
-      (over (g.D.Door.state l.door) (g.K.Clock.state l.clock));
+      → WereServed l.stock l._taken (exchange (g.D.Door.state l.initial.door) (g.K.Clock.state l.initial.clock))
+      (exchange (g.D.Door.state l.door) (g.K.Clock.state l.clock));
   unasked : l._taken ≡ 0 → l.clock ≡ l.initial.clock;
 }
