@@ -1,4 +1,4 @@
-use Rattle.std.proofs.Common.{inl, false, refl}
+use Rattle.std.proofs.Common.{inl, inr, false, refl}
 use Rattle.std.specs.Bool.{IsTrue}
 use Rattle.named_files.specs.NoAnswers.{is_unread}
 use Rattle.tide_server.specs.Openings.{handed, stock_from, stock_of}
@@ -83,3 +83,33 @@ returns-clause-read_fault g c =
     (handed (g.F.Files.state c.args.files.now) (g.D.Door.state c.args.door.now) (g.E.Sink.state c.args.err.now) (g.K.Clock.state c.args.clock.now))
     (handed (g.F.Files.state c.read_stock.new.files) (g.D.Door.state c.args.door.now) (g.E.Sink.state c.tell.new.err) (g.K.Clock.state c.args.clock.now))
     c.in-Err.ensures.read.faults refl refl)
+
+pub returns-in-Ok-new-clause-own_files : goal.returns-in-Ok-new-clause-own_files
+returns-in-Ok-new-clause-own_files g c =
+    λ t. inr (
+      _,
+      c.in-Ok.ensures.own t,
+      c.serve_stock.ensures.ended.listened (g.F.Files.state c.args.files.now) (g.F.Files.state c.read_stock.new.files),
+    )
+
+pub returns-in-Ok-new-clause-some_files : goal.returns-in-Ok-new-clause-some_files
+returns-in-Ok-new-clause-some_files g c =
+    let some = c.in-Ok.ensures.some in (
+      some.0,
+      inr (
+        _,
+        some.1,
+        c.serve_stock.ensures.ended.listened (g.F.Files.state c.args.files.now) (g.F.Files.state c.read_stock.new.files),
+      ),
+    )
+
+pub returns-in-Ok-new-clause-unlistened : goal.returns-in-Ok-new-clause-unlistened
+returns-in-Ok-new-clause-unlistened g c =
+    let listened = c.serve_stock.ensures.ended.listened (g.F.Files.state c.args.files.now) (g.F.Files.state c.read_stock.new.files) in
+    let asked = listened.asked in λ none. absurd (cc)
+
+pub returns-in-Ok-new-clause-unasked : goal.returns-in-Ok-new-clause-unasked
+returns-in-Ok-new-clause-unasked g c =
+    let listened = c.serve_stock.ensures.ended.listened (g.F.Files.state c.args.files.now) (g.F.Files.state c.read_stock.new.files) in
+    let asked = listened.asked in
+    λ took. elim took [ inl none ↦ absurd (cc) | inr none ↦ c.serve_stock.ensures.unasked none ]
