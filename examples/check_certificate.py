@@ -1,5 +1,6 @@
 #!/usr/bin/env python3
-"""Checks a certificate by docs/CERTIFICATES.md and prints the first line of what `tide check` prints.
+"""Checks a certificate by docs/CERTIFICATES.md and prints the first line of what `tide check` prints, over constants and
+a table that are in order.
 
 check_certificate.py file=CONSTANTS certificate=C [offsets=TABLE]
 """

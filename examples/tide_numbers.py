@@ -39,6 +39,11 @@ class Refused(Exception):
 
 # ---- numbers, moments and files
 
+def tokens(line):
+    """What stands between spaces and tabs."""
+    return re.findall('[^ \t]+', line)
+
+
 def decimal(text, places):
     """The number that a decimal denotes, times 10 to so many places."""
     whole, _, fraction = text.lstrip('+-').partition('.')
@@ -74,14 +79,14 @@ def moment_text(minute):
 
 
 class Constants:
-    """A file of harmonic constants that is in order (docs/FORMATS.md)."""
+    """A file of harmonic constants that is in order."""
 
     def __init__(self, path):
         with open(path, 'rb') as file:
             lines = [line.decode('latin-1').strip(' \t\r') for line in file.read().split(b'\n') if line[:1] != b'#']
         rest = iter([line for line in lines if line])
         count = int(next(rest))
-        self.speeds = [decimal(next(rest).split()[1], 7) for _ in range(count)]
+        self.speeds = [decimal(tokens(next(rest))[1], 7) for _ in range(count)]
         self.first_year = int(next(rest))
         years = int(next(rest))
         self.arguments = self.yearly(rest, years, 7)
@@ -100,7 +105,7 @@ class Constants:
             next(rest)
             values = []
             while len(values) < years:
-                values += [decimal(word, places) for word in next(rest).split()]
+                values += [decimal(word, places) for word in tokens(next(rest))]
             table.append(values)
         return table
 
@@ -153,9 +158,9 @@ class Curve:
     """A station's level and slope, and the sums of each of its years."""
 
     def __init__(self, constants, record):
-        meridian, (datum, self.unit) = clock(record[0].split()[0]), record[1].split()
+        meridian, (datum, self.unit) = clock(tokens(record[0])[0]), tokens(record[1])
         self.datum, self.starts, self.first_year = decimal(datum, 6), constants.starts, constants.first_year
-        words = [line.split() for line in record[2:]]
+        words = [tokens(line) for line in record[2:]]
         present = [(k, decimal(a, 6), decimal(e, 7)) for k, (name, a, e) in enumerate(words) if name != 'x']
         self.years, self.sums, self.kept = [], [], {}
         for year in range(len(self.starts) - 1):

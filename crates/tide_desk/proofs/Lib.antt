@@ -1,7 +1,8 @@
+pub mod AnsweringLemmas
 pub mod AskedLemmas
 pub mod CertificateLemmas
 pub mod FileLemmas
+pub mod MemoryLemmas
 pub mod OutcomeLemmas
-pub mod ReadingLemmas
 pub mod ReplyLemmas
 pub mod TableLemmas

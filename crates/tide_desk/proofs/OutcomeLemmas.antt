@@ -11,14 +11,14 @@ use Rattle.tide_fault.specs.declared.status.Status.{Status}
 use Rattle.tide_fault.specs.declared.status.Status.TheVariants.{ReadFault, NoMemory}
 use Rattle.tide_answer.specs.declared.text.Answer.{Answer}
 use Rattle.tide_fault.specs.Faults.{wants_memory as fault_wants_memory, wants_memory_of_refusal, status_of_refusal, line_of as line_of_fault, ask_line, form_line, table_line, refusal_line as line_of_refusal}
-use Rattle.tide_edge.specs.Excuses.{memory, given}
+use Rattle.tide_edge.specs.Excuses.{Excuses, memory, given}
+use Rattle.tide_edge.specs.SinkStates.{SinkState, Wrote}
 use Rattle.named_files.specs.declared.no_answer.NoAnswer.{NoAnswer}
 use Rattle.named_files.specs.declared.no_answer.NoAnswer.TheVariants.{Unread, Told}
 use Rattle.named_files.specs.declared.no_answer.NoAnswer.TheVariants as none_of
 use Rattle.named_files.specs.NoAnswers.{status_of, line_of, source_of, wants_memory, is_unread}
-use Rattle.tide_desk.specs.Outcomes.{Says, EndsAs, is_read_fault, is_write_fault, output_with, line_with}
-use Rattle.tide_desk.specs.Workings.Meetings.{ExcusesIf}
-use Rattle.named_files.specs.Workings.Telling.{Tells}
+use Rattle.tide_desk.specs.Outcomes.{Says, EndsAs, Outputs, is_read_fault, is_write_fault, output_with, line_with}
+use Rattle.named_files.specs.Telling.{Tells}
 
 -- the status of a fault says the expected answer, its line goes with it, and nothing is to be written
 record Fits (expected : Result Answer NoAnswer) (none : NoAnswer) : Type 0 where
@@ -44,34 +44,34 @@ fits expected (none_of.Refused refusals.NoMemory rows) gives = record { says = t
 fits expected (none_of.Refused _ rows) gives = rw gives (record { says = refl; line = refl; output = refl; unfailed = refl })
 
 -- where a fault is told and nothing was written
-ends_itself : (expected : Result Answer NoAnswer) (none : NoAnswer) (out err : Bool → List ℕ → Type 0) (failed : Bool) → Excused (wants_memory none) expected none → out false [] → err failed (line_of none) → EndsAs expected (status_of none) out err
-ends_itself expected none out err failed gives quiet told =
+ends_itself : (expected : Result Answer NoAnswer) (none : NoAnswer) (before after : Outputs) (failed : Bool) → Excused (wants_memory none) expected none → Wrote before.out after.out false [] → Wrote before.err after.err failed (line_of none) → EndsAs expected (status_of none) before after
+ends_itself expected none before after failed gives quiet told =
     let f = fits expected none gives in
     record { says = f.says; output = rw (f.unfailed, f.output) quiet; failed = failed; line = rw f.line told }
 
-pub ends_told : (expected : Result Answer NoAnswer) (none : NoAnswer) (status : Status) (out err : Bool → List ℕ → Type 0) → Excused (wants_memory none) expected none → out false [] → Tells none status err → EndsAs expected status out err
-ends_told expected none status out err gives quiet told =
+pub ends_told : (expected : Result Answer NoAnswer) (none : NoAnswer) (status : Status) (before after : Outputs) → Excused (wants_memory none) expected none → Wrote before.out after.out false [] → Tells none status before.err after.err → EndsAs expected status before after
+ends_told expected none status before after gives quiet told =
     elim told [
-      | inl t ↦ rw t.0 (ends_itself expected none out err t.1.0 gives quiet t.1.1)
+      | inl t ↦ rw t.0 (ends_itself expected none before after t.1.0 gives quiet t.1.1)
       | inr t ↦ rw t.0 (record { says = tt; output = quiet; failed = t.2.0; line = t.2.1 })
     ]
 
 -- what a fault says over an outside that tells, unless reading failed where that didn't stand firm
-excused_inside : (firm : Type 0) (memory_wanted : Bool) (expected : Result Answer NoAnswer) (none : NoAnswer) → ExcusesIf firm (cond memory_wanted memory given) expected none → Excused memory_wanted expected none
+excused_inside : (firm : Type 0) (memory_wanted : Bool) (expected : Result Answer NoAnswer) (none : NoAnswer) → Excuses (cond memory_wanted memory given) firm expected none → Excused memory_wanted expected none
 excused_inside firm true expected none excuses = tt
 excused_inside firm false expected none excuses = excuses
 
-pub own_excused : (firm : Type 0) (expected : Result Answer NoAnswer) (none : NoAnswer) → ExcusesIf firm (source_of none) expected none → firm ⊎ (¬ (status_of none ≡ ReadFault)) → Excused (wants_memory none) expected none
+pub own_excused : (firm : Type 0) (expected : Result Answer NoAnswer) (none : NoAnswer) → Excuses (source_of none) firm expected none → firm ⊎ (¬ (status_of none ≡ ReadFault)) → Excused (wants_memory none) expected none
 own_excused firm expected Unread excuses either = elim either [ inl f ↦ excuses f | inr not_read ↦ absurd (not_read refl) ]
 own_excused firm expected (Told fault) excuses either = excused_inside firm (fault_wants_memory fault) expected (Told fault) excuses
 own_excused firm expected (none_of.Refused refusal rows) excuses either = excused_inside firm (wants_memory_of_refusal refusal) expected (none_of.Refused refusal rows) excuses
 
-pub ends_own : (firm : Type 0) (expected : Result Answer NoAnswer) (none : NoAnswer) (status : Status) (out err : Bool → List ℕ → Type 0) → ExcusesIf firm (source_of none) expected none → firm ⊎ (¬ (status ≡ ReadFault)) → out false [] → Tells none status err → EndsAs expected status out err
-ends_own firm expected none status out err excuses either quiet told =
+pub ends_own : (firm : Type 0) (expected : Result Answer NoAnswer) (none : NoAnswer) (status : Status) (before after : Outputs) → Excuses (source_of none) firm expected none → firm ⊎ (¬ (status ≡ ReadFault)) → Wrote before.out after.out false [] → Tells none status before.err after.err → EndsAs expected status before after
+ends_own firm expected none status before after excuses either quiet told =
     elim told [
       | inl t ↦
           let same : firm ⊎ (¬ (status_of none ≡ ReadFault)) = elim either [ inl f ↦ inl f | inr n ↦ inr (λ e. n (t.0 ∙ e)) ] in
-          rw t.0 (ends_itself expected none out err t.1.0 (own_excused firm expected none excuses same) quiet t.1.1)
+          rw t.0 (ends_itself expected none before after t.1.0 (own_excused firm expected none excuses same) quiet t.1.1)
       | inr t ↦ rw t.0 (record { says = tt; output = quiet; failed = t.2.0; line = t.2.1 })
     ]
 

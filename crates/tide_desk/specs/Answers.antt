@@ -1,5 +1,5 @@
 -- The answer to the words over files and a clock (this project).
-use Rattle.std.specs.Prelude.{ℕ, ℤ, Bool, false, IsTrue, if◌then◌else◌, List, codes, Option, Some, None, Result, Ok, Err, IsOk, IsSome}
+use Rattle.std.specs.Prelude.{ℕ, ℤ, pos, Bool, true, false, IsTrue, if◌then◌else◌, List, codes, Option, Some, None, Result, Ok, Err, IsOk, IsSome}
 use Rattle.std.specs.Option.{option_map_or, IsSomeAnd}
 use Rattle.std.specs.Result.{IsOkAnd}
 use Rattle.std.specs.Str.{bytes_eq}
@@ -17,7 +17,13 @@ use Rattle.tide_answer.specs.declared.text.Answer.{Answer}
 use Rattle.tide_answer.specs.Answers.{built, answered, answered_alone}
 use Rattle.named_files.specs.declared.no_answer.NoAnswer.{NoAnswer}
 use Rattle.named_files.specs.NoAnswers.{told, refused_over}
-use Rattle.named_files.specs.Readings.{Folder, Folders, files_in, asks_clock, minute_for, given_with}
+use Rattle.named_files.specs.declared.materials.Materials.{Materials}
+use Rattle.named_files.specs.Readings.{Folders, files_allowed, files_in}
+use Rattle.question.specs.declared.command.Command.{Command}
+use Rattle.question.specs.declared.command.Command.TheVariants.{Clock}
+use Rattle.tide_answer.specs.declared.given.Given.{Given}
+use Rattle.tide_edge.specs.FileStates.{Folder}
+use Rattle.tide_edge.specs.Whole.{Allowance, no_file}
 
 -- ---- The words
 
@@ -52,9 +58,32 @@ NamesFile asked = IsOkAnd asked (λ question. IsSome question.file)
 abbrev pub HasFiles : Folders → Result Question Fault → Type 0
 HasFiles folders asked = IsOkAnd asked (λ question. IsSomeAnd question.file (λ name. IsOk (files_in folders question name)))
 
--- one that asks for the present minute
+-- ---- The clock, which is asked after all files
+
+-- whether a command asks for the present minute
+abbrev pub asks_clock : Command → Bool
+asks_clock Clock = true
+asks_clock _ = false
+
+abbrev pub minute_for : Command → ℤ → ℤ
+minute_for command minute = if asks_clock command then minute else pos 0
+
+abbrev pub given_with : Materials → ℤ → Given
+given_with read now = record { zone = read.zone; certificate = read.certificate; now = now }
+
+-- words that ask a question which asks for the present minute
 abbrev pub AsksClock : Result Question Fault → Type 0
 AsksClock asked = IsOkAnd asked (λ question. IsTrue (asks_clock question.command))
+
+-- ---- How much of the files may be read
+
+abbrev pub question_allowed : Question → Allowance
+question_allowed question = option_map_or (λ name. files_allowed question) question.file no_file
+
+-- of words that ask nothing, nothing
+abbrev pub allowed_by : Result Question Fault → Allowance
+allowed_by (Ok question) = question_allowed question
+allowed_by (Err fault) = no_file
 
 -- ---- The answer, or the first fault on the way to it
 

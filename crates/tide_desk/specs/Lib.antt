@@ -1,7 +1,5 @@
 pub mod Answers
+pub mod InMemory
 pub mod Laws
-pub mod NoAnswers
 pub mod Outcomes
-pub mod Readings
-pub mod Worked
 pub mod Workings

@@ -1,10 +1,14 @@
 -- How a run ends, and what it leaves where it wrote, by the answer that is expected (this project).
-use Rattle.std.specs.Prelude.{◌≡◌, ◌<◌, ℕ, Bool, true, false, IsTrue, List, [], ◌++◌, length, take, codes, Result, Ok, Err, IsErrAnd}
+use Rattle.std.specs.Prelude.{◌≡◌, ℕ, Bool, true, false, if◌then◌else◌, IsTrue, List, [], ◌∷◌, count_by, codes, Result, Ok, Err, IsErrAnd}
 use Rattle.std.specs.Result.{IsOkAnd}
 use Rattle.tide_fault.specs.declared.status.Status.{Status}
 use Rattle.tide_fault.specs.declared.status.Status.TheVariants.{Done, Rejected, ReadFault, WriteFault, NoMemory}
 use Rattle.tide_answer.specs.declared.text.Answer.{Answer}
-use Rattle.tide_edge.specs.Faults.{Rose, counted, faults_after}
+use Rattle.tide_edge.specs.Clocks.{ClockState, clock_after}
+use Rattle.tide_edge.specs.Faults.{Rose}
+use Rattle.tide_edge.specs.FileStates.{FilesState}
+use Rattle.tide_edge.specs.SinkStates.{SinkState, Wrote}
+use Rattle.tide_edge.specs.Whole.{Allowance, ReadWithin}
 use Rattle.named_files.specs.declared.no_answer.NoAnswer.{NoAnswer}
 use Rattle.named_files.specs.NoAnswers.{status_of, line_of}
 
@@ -15,20 +19,6 @@ is_read_fault _ = false
 abbrev pub is_write_fault : Status → Bool
 is_write_fault WriteFault = true
 is_write_fault _ = false
-
--- ---- What was written
-
--- A text stands whole behind what was there before, or after a failed write a proper front part of it.
-abbrev pub Stands : Bool → List ℕ → List ℕ → List ℕ → Type 0
-Stands false text before after = after ≡ before ++ text
-Stands true text before after = (count : ℕ) × (count < length text) × (after ≡ before ++ take count text)
-
--- A text was written to a sink: its count of faults is one more where a write failed, and as before where none did; and
--- where it tells what it has taken, it still does, and the text stands.
-pub record Wrote (tells still_tells : Type 0) (before after : List ℕ) (was is : ℕ) (failed : Bool) (text : List ℕ) : Type 0 where
-  pub count : is ≡ faults_after failed was
-  pub told : tells → still_tells
-  pub stands : tells → Stands failed text before after
 
 -- ---- How a run ends
 
@@ -68,34 +58,48 @@ line_with expected WriteFault = codes "write fault\n"
 line_with expected NoMemory = codes "no memory\n"
 line_with expected _ = refusal_line expected
 
--- The run ends as over this answer: its status says the answer, and the texts that go with it were written. `out` and
--- `err` say of a text, and of whether a write failed, that this was written.
-pub record EndsAs (expected : Result Answer NoAnswer) (status : Status) (out err : Bool → List ℕ → Type 0) : Type 0 where
+-- where a run writes to, as it is told
+pub record Outputs : Type 0 where
+  pub out : SinkState
+  pub err : SinkState
+
+abbrev pub outputs : SinkState → SinkState → Outputs
+outputs out err = record { out = out; err = err }
+
+-- The run ends as over this answer: its status says the answer, and the texts that go with it were written.
+pub record EndsAs (expected : Result Answer NoAnswer) (status : Status) (before after : Outputs) : Type 0 where
   pub says : Says expected status
-  pub output : out (is_write_fault status) (output_with expected status)
+  pub output : Wrote before.out after.out (is_write_fault status) (output_with expected status)
   pub failed : Bool
-  pub line : err failed (line_with expected status)
+  pub line : Wrote before.err after.err failed (line_with expected status)
 
 -- ---- Where a fault of reading comes from
 
--- the outside stood firm: the files are steady, and no clock that was asked has failed
-pub record IsFirm (steady : Bool) (asked : Type 0) (before after : ℕ) : Type 0 where
-  pub files : IsTrue steady
-  pub clock : ¬ (asked × Rose before after)
+-- what a run reads from, as it is told
+pub record Sources : Type 0 where
+  pub files : FilesState
+  pub clock : ClockState
 
--- The count of the files is one more where reading failed, and as before where nothing did. The clock hasn't failed, and
--- isn't asked after the files have failed.
-pub record FilesFailed {C : Type 0} (unread : Bool) (was is clock_was clock_is : ℕ) (before after : C) : Type 0 where
-  pub count : is ≡ faults_after unread was
-  pub clock : clock_is ≡ clock_was
-  pub unasked : IsTrue unread → after ≡ before
+abbrev pub sources : FilesState → ClockState → Sources
+sources files clock = record { files = files; clock = clock }
 
--- reading failed by the clock, which is asked, and the files haven't failed
-pub record ClockFailed (unread : Bool) (asks : Type 0) (was is clock_was clock_is : ℕ) : Type 0 where
-  pub failed : IsTrue unread
-  pub asked : asks
-  pub count : clock_is ≡ counted clock_was
-  pub files : is ≡ was
+-- the outside stood firm: the files are steady, and no clock that was to be asked has failed
+pub record IsFirm (asks : Type 0) (before after : Sources) : Type 0 where
+  pub files : IsTrue before.files.store.is_steady
+  pub clock : ¬ (asks × Rose before.clock.faults after.clock.faults)
+
+-- Reading has failed exactly where the files or the clock has, one of them and once. The files were read within an allowance. The
+-- clock was asked once or not at all, only where that is asked of it and no file has failed.
+pub record WentOn (has_failed : Bool) (asks : Type 0) (allowed : Allowance) (before after : Sources) : Type 0 where
+  pub files : Bool
+  pub clock : Bool
+  pub is_asked : Bool
+  pub one : count_by (λ failed. failed) (files ∷ clock ∷ []) ≡ (if has_failed then 1 else 0)
+  pub read : ReadWithin allowed files before.files after.files
+  pub time : after.clock ≡ (if is_asked then clock_after clock before.clock else before.clock)
+  pub asked : IsTrue is_asked → asks
+  pub failed : IsTrue clock → IsTrue is_asked
+  pub last : IsTrue files → is_asked ≡ false
 
 -- ---- The whole objects
 

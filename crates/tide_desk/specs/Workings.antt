@@ -1,4 +1,1 @@
-pub mod Materials
-pub mod Meetings
 pub mod Replies
-pub mod Telling

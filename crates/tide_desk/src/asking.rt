@@ -11,7 +11,8 @@ ghost use Rattle.tide_desk.specs.Answers.{asked_of, asks_to_serve, question_in};
 use decimal_text::Words;
 use question::{AskFault, Pairs, Question, pairs_of_words, read_question};
 use std::alloc::Global;
-use tide_answer::{Fault, check_built};
+use tide_answer::check_built;
+use tide_fault::Fault;
 
 /// The question that the words ask, where it is built.
 #[tactic(auto, unfolding(crate::specs::Answers::asked_of))]

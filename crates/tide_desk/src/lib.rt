@@ -1,7 +1,7 @@
 //! The top call: words, files and a clock in, text and a status out.
 //!
-//! [`run`] does all that the program does. It reads what the words ask for, reads the files that
-//! they name, and writes either the whole answer to `out` or one line to `err`. It reaches the
+//! [`run`] does all that the program does but serving. It reads what the words ask for, reads the files
+//! that they name, and writes either the whole answer to `out` or one line to `err`. It reaches the
 //! outside through the objects that it is handed alone.
 #![tactic(auto)]
 
@@ -11,19 +11,11 @@ mod body;
 mod certificate_laws;
 mod desk;
 mod laws;
-mod materials;
-mod no_answer;
-mod reading;
 mod reply;
 mod replying;
-mod telling;
 mod worked;
 
 pub use certificate_laws::{what_certify_answers_is_accepted, what_check_accepts_is_true};
 pub use desk::run;
-pub use laws::run_in_memory;
-pub use no_answer::NoAnswer;
-pub use reading::{read_book, read_table};
-pub use telling::{refuse, tell};
-pub use tide_answer::Status;
-pub use worked::{worked_faults, worked_files};
+pub use laws::memory_holds_the_answer;
+pub use worked::worked_minutes;

@@ -2,7 +2,7 @@
 
 ghost use Rattle.std.specs.Prelude.{◌≡◌, false, IfOk, is_err};
 ghost use Rattle.std.specs.Option.{ForSome};
-ghost use Rattle.tide_desk.specs.Outcomes.{Wrote};
+ghost use Rattle.tide_edge.specs.SinkStates.{Wrote};
 ghost use Rattle.tide_desk.specs.Workings.Replies.{Streamed};
 
 use crate::body::Body;
@@ -54,7 +54,7 @@ impl Reply {
     /// # Errors
     /// [`WriteFailed`] where a write failed. Nothing was written after that one.
     pub fn write<O: Sink>(&self, out: &mut O) -> Result<bool, WriteFailed>
-        ensures wrote { Wrote (O.tells out.old) (O.tells out.new) (O.taken out.old) (O.taken out.new) (O.faults out.old) (O.faults out.new) (is_err result) self.now.text }
+        ensures wrote { Wrote (O.state out.old) (O.state out.new) (is_err result) self.now.text }
         ensures judged { IfOk result (λ rejected. rejected ≡ self.now.rejected) }
     {
         match &self.body {
@@ -65,7 +65,7 @@ impl Reply {
 }
 
 fn write_text<O: Sink>(answer: &Answer, out: &mut O) -> Result<bool, WriteFailed>
-    ensures wrote { Wrote (O.tells out.old) (O.tells out.new) (O.taken out.old) (O.taken out.new) (O.faults out.old) (O.faults out.new) (is_err result) answer.now.text }
+    ensures wrote { Wrote (O.state out.old) (O.state out.new) (is_err result) answer.now.text }
     ensures judged { IfOk result (λ rejected. rejected ≡ answer.now.rejected) }
 {
     write_all(out, answer.text.as_slice())?;
@@ -75,7 +75,7 @@ fn write_text<O: Sink>(answer: &Answer, out: &mut O) -> Result<bool, WriteFailed
 // An answer that streams rejects nothing.
 fn write_stream<O: Sink>(ready: &Ready, out: &mut O) -> Result<bool, WriteFailed>
     requires { Streamed ready.now }
-    ensures wrote { ForSome ready.now.stream (λ answer. Wrote (O.tells out.old) (O.tells out.new) (O.taken out.old) (O.taken out.new) (O.faults out.old) (O.faults out.new) (is_err result) answer.text) }
+    ensures wrote { ForSome ready.now.stream (λ answer. Wrote (O.state out.old) (O.state out.new) (is_err result) answer.text) }
     ensures judged { IfOk result (λ rejected. rejected ≡ false) }
 {
     answer_into(ready, out)?;

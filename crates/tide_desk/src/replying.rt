@@ -1,6 +1,6 @@
 //! The way in which a question's answer is written.
 
-ghost use Rattle.std.specs.Prelude.{◌≡◌, IfErr, IsTrue};
+ghost use Rattle.std.specs.Prelude.{◌≡◌, ◌&&◌, not, IfErr};
 ghost use Rattle.decimal_text.specs.Expected.{Gives};
 ghost use Rattle.harmonics_text.specs.Books.{IsBook};
 ghost use Rattle.question.specs.Asked.{IsAsked};
@@ -8,14 +8,15 @@ ghost use Rattle.station_table.specs.Offsets.{IsTable};
 ghost use Rattle.tide_answer.specs.Answers.{answered};
 ghost use Rattle.tide_fault.specs.Faults.{wants_memory_of_refusal, IsToldRefusal};
 ghost use Rattle.tide_answer.specs.Givens.{IsGiven};
-ghost use Rattle.tide_answer.specs.Streams.{can_stream};
+ghost use Rattle.tide_answer.specs.Streams.{can_stream, is_plain_layout, is_zone_file};
 
 use crate::reply::Reply;
 use harmonics_text::Book;
-use question::{Command, Layout, Question};
+use question::{Layout, Question};
 use station_table::OffsetTable;
 use std::alloc::Global;
-use tide_answer::{Given, Refusal, answer, prepare};
+use tide_answer::{Given, answer, can_stream, prepare};
+use tide_fault::Refusal;
 use zone_time::Zone;
 
 /// The answer to a question over a book and a table, or the first refusal, as
@@ -45,17 +46,13 @@ pub fn reply_to(
 
 // Whether the answer streams at a station that has the events of its reference as they are.
 fn may_stream(question: &Question, zone: &Zone) -> bool
-    ensures { IsTrue result → IsTrue (can_stream question.now.command) }
+    ensures { result ≡ (can_stream question.now.command && (is_plain_layout question.now.layout && not (is_zone_file zone.now))) }
 {
-    can_stream(question.command) && question.layout == Layout::Plain && !is_file(zone)
+    can_stream(question.command) && question.layout == Layout::Plain && !is_zone_file(zone)
 }
 
-fn can_stream(command: Command) -> bool
-    ensures { result ≡ can_stream command }
+fn is_zone_file(zone: &Zone) -> bool
+    ensures { result ≡ is_zone_file zone.now }
 {
-    matches!(command, Command::Predict | Command::Certify)
-}
-
-fn is_file(zone: &Zone) -> bool {
     matches!(zone, Zone::File(_))
 }

@@ -6,7 +6,7 @@ use Rattle.tide_edge.specs.declared.read_all_fault.ReadAllFault.{ReadAllFault}
 use Rattle.tide_edge.specs.Excuses.{Meets}
 use Rattle.tide_edge.specs.Faults.{counted, faults_after}
 use Rattle.tide_edge.specs.FileStates.{FilesState, files_after_open}
-use Rattle.tide_edge.specs.Whole.{Allowance, ReadWithin, both, no_file, one_file, source_of, whole}
+use Rattle.tide_edge.specs.Whole.{Allowance, ReadWithin, both, one_file, source_of, whole}
 use Rattle.tide_edge.specs.Workings.Reading.{IsReadOn}
 
 counted_most_by : (last : Bool) (count : ℕ) → (count == 2 ^ 64 - 1) ≡ last → counted count ≤ count + 1
@@ -58,8 +58,8 @@ unopened_within T failed limit name s = record {
 }
 
 -- where nothing was read
-pub read_none : (s : FilesState) → ReadWithin no_file false s s
-read_none s = record { store = refl; opens = omega arith; ends = omega arith; bytes = omega arith; faults = refl }
+pub read_none : (allowed : Allowance) (s : FilesState) → ReadWithin allowed false s s
+read_none allowed s = record { store = refl; opens = omega arith; ends = omega arith; bytes = omega arith; faults = refl }
 
 -- one reading, and then another
 pub read_then : (a b : Allowance) (failed : Bool) (before between after : FilesState)

@@ -76,8 +76,8 @@ returns-in_err-so_far-clause-sends g c =
     let now = held_after held piece in
     let rest = joined (map cell_line_of c.next.new.self.left) in
     let whole = page_step (λ (cells : List Cell). joined (map cell_line_of cells)) c.loop-found.search.left c.next.new.self.left c.in-Some.found.cell _ text held piece now c.in-Some.ensures.found.1 refl refl so_far.sends.2 in
-    rw (p.1, p.2, ← whole) (sends_cut _ _ c.args.sent (text ++ gone_for held piece) (now ++ rest) (n + 1) 0 _
-    (sends_then _ _ _ c.args.sent c.loop-found.so_far text (gone_for held piece) n 1 (Err _) so_far.sends.4 c.in_err-so_far.ensures.sends))
+    rw (p.1, p.2, ← whole) (sends_cut (g.S.Sink.state c.args.out.now) (g.S.Sink.state c.put_cell.new.out) c.args.sent (text ++ gone_for held piece) (now ++ rest) (n + 1) 0 _
+    (sends_then (g.S.Sink.state c.args.out.now) (g.S.Sink.state c.loop-found.out) (g.S.Sink.state c.put_cell.new.out) c.args.sent c.loop-found.so_far text (gone_for held piece) n 1 (Err _) so_far.sends.4 c.in_err-so_far.ensures.sends))
 
 pub end-requires : goal.end-requires
 end-requires g c =

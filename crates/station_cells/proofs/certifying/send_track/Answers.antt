@@ -11,7 +11,7 @@ pub returns-in_err-sent-clause-sends : goal.returns-in_err-sent-clause-sends
 returns-in_err-sent-clause-sends g c =
     let p = err_from_is_err_and c.from_residual.result c.from_residual.ensures.1 in
     let line = c.as_str.ensures.value ∙ c.heading_line.ensures in
-    rw (p.1, p.2) (sends_cut _ _ c.args.sent (ended (heading_of c.args.track)) (joined (map cell_line_of c.args.search.left)) 0 0 _ (rw line at c.in_err-sent.ensures))
+    rw (p.1, p.2) (sends_cut (g.S.Sink.state c.args.out.now) (g.S.Sink.state c.send.new.out) c.args.sent (ended (heading_of c.args.track)) (joined (map cell_line_of c.args.search.left)) 0 0 _ (rw line at c.in_err-sent.ensures))
 
 pub send_cells-requires-clause-few : goal.send_cells-requires-clause-few
 send_cells-requires-clause-few g c =

@@ -7,8 +7,8 @@ pub returns-in_err-sent-2 : goal.returns-in_err-sent-2
 returns-in_err-sent-2 g c =
     let p = err_from_is_err_and c.from_residual-in_err-sent-2.result c.from_residual-in_err-sent-2.ensures.1 in
     let second = rw c.as_str.ensures at c.in_err-sent-2.ensures in
-    rw (p.1, p.2) (sends_cut _ _ c.args.sent (c.args.front.now ++ c.args.name.now) (10 ∷ []) 0 0 _
-    (sends_then _ _ _ c.args.sent c.in_ok-sent.sent c.args.front.now c.args.name.now 0 0 (Err _) c.in_ok-sent.ensures second))
+    rw (p.1, p.2) (sends_cut (g.S.Sink.state c.args.out.now) (g.S.Sink.state c.send-2.new.out) c.args.sent (c.args.front.now ++ c.args.name.now) (10 ∷ []) 0 0 _
+    (sends_then (g.S.Sink.state c.args.out.now) (g.S.Sink.state c.send.new.out) (g.S.Sink.state c.send-2.new.out) c.args.sent c.in_ok-sent.sent c.args.front.now c.args.name.now 0 0 (Err _) c.in_ok-sent.ensures second))
 
 pub returns : goal.returns
 returns g c =

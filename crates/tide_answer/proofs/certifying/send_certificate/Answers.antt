@@ -14,8 +14,8 @@ returns-in_err-sent g c =
     let p = err_from_is_err_and c.from_residual.result c.from_residual.ensures.1 in
     let tracks = tide_tracks c.args.found.now c.args.asked.now in
     let parts = certificate_parts c.args.name.now c.args.asked.now tracks in
-    rw (p.1, p.2, parts) (sends_cut _ _ (record { bytes = 0; cells = 0 }) (head_text c.args.name.now c.args.asked.now ++ tracks_text tracks) (codes "done\n") 0 0 _
-    (sends_cut _ _ (record { bytes = 0; cells = 0 }) (head_text c.args.name.now c.args.asked.now) (tracks_text tracks) 0 0 _ c.in_err-sent.ensures.sends))
+    rw (p.1, p.2, parts) (sends_cut (g.S.Sink.state c.args.out.now) (g.S.Sink.state c.send_head.new.out) (record { bytes = 0; cells = 0 }) (head_text c.args.name.now c.args.asked.now ++ tracks_text tracks) (codes "done\n") 0 0 _
+    (sends_cut (g.S.Sink.state c.args.out.now) (g.S.Sink.state c.send_head.new.out) (record { bytes = 0; cells = 0 }) (head_text c.args.name.now c.args.asked.now) (tracks_text tracks) 0 0 _ c.in_err-sent.ensures.sends))
 
 pub send_tracks-requires-clause-cells : goal.send_tracks-requires-clause-cells
 send_tracks-requires-clause-cells g c =
@@ -29,8 +29,8 @@ returns-in_err-sent-2 g c =
     let p = err_from_is_err_and c.from_residual-in_err-sent-2.result c.from_residual-in_err-sent-2.ensures.1 in
     let tracks = tide_tracks c.args.found.now c.args.asked.now in
     let parts = certificate_parts c.args.name.now c.args.asked.now tracks in
-    rw (p.1, p.2, parts) (sends_cut _ _ (record { bytes = 0; cells = 0 }) (head_text c.args.name.now c.args.asked.now ++ tracks_text tracks) (codes "done\n") 0 0 _
-    (sends_sum _ _ _ (record { bytes = 0; cells = 0 }) c.in_ok-sent.sent (head_text c.args.name.now c.args.asked.now) (tracks_text tracks) 0 0 0 (omega arith) (Err _) c.in_ok-sent.ensures.sends c.in_err-sent-2.ensures.sends))
+    rw (p.1, p.2, parts) (sends_cut (g.S.Sink.state c.args.out.now) (g.S.Sink.state c.send_tracks.new.out) (record { bytes = 0; cells = 0 }) (head_text c.args.name.now c.args.asked.now ++ tracks_text tracks) (codes "done\n") 0 0 _
+    (sends_sum (g.S.Sink.state c.args.out.now) (g.S.Sink.state c.send_head.new.out) (g.S.Sink.state c.send_tracks.new.out) (record { bytes = 0; cells = 0 }) c.in_ok-sent.sent (head_text c.args.name.now c.args.asked.now) (tracks_text tracks) 0 0 0 (omega arith) (Err _) c.in_ok-sent.ensures.sends c.in_err-sent-2.ensures.sends))
 
 pub returns : goal.returns
 returns g c =

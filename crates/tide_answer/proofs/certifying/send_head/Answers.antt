@@ -7,7 +7,7 @@ use Rattle.tide_answer.proofs.certifying.send_head.Goals as goal
 pub returns-in_err-sent-clause-sends : goal.returns-in_err-sent-clause-sends
 returns-in_err-sent-clause-sends g c =
     let p = err_from_is_err_and c.from_residual.result c.from_residual.ensures.1 in
-    rw (p.1, p.2) (sends_cut _ _ (record { bytes = 0; cells = 0 }) (codes "tide certificate 2\nstation " ++ c.args.name.now ++ codes "\n")
+    rw (p.1, p.2) (sends_cut (g.S.Sink.state c.args.out.now) (g.S.Sink.state c.send_name.new.out) (record { bytes = 0; cells = 0 }) (codes "tide certificate 2\nstation " ++ c.args.name.now ++ codes "\n")
     (ended (begin_line_of c.args.asked.now.begin) ++ ended (end_line_of c.args.asked.now.end) ++ ended (mark_line_of c.args.asked.now.mark)) 0 0 _ c.in_err-sent.ensures)
 
 pub send-requires : goal.send-requires

@@ -114,8 +114,8 @@ returns-in_err-sent-clause-sends g c =
     let turn = rw c.reached-span.ensures.exact at c.turn_search.ensures.left in
     let t = joined (track_lines_of Turn tracks.turn) in
     let s = joined (lines_if_there Slack tracks.slack) in
-    rw (p.1, p.2) (sends_cut _ _ c.args.sent (t ++ s) (joined (lines_if_there Mark tracks.mark)) 0 0 _
-    (sends_cut _ _ c.args.sent t s 0 0 _ (rw turn at c.in_err-sent.ensures.sends)))
+    rw (p.1, p.2) (sends_cut (g.S.Sink.state c.args.out.now) (g.S.Sink.state c.send_track.new.out) c.args.sent (t ++ s) (joined (lines_if_there Mark tracks.mark)) 0 0 _
+    (sends_cut (g.S.Sink.state c.args.out.now) (g.S.Sink.state c.send_track.new.out) c.args.sent t s 0 0 _ (rw turn at c.in_err-sent.ensures.sends)))
 
 pub returns-in_err-sent-2-clause-sends : goal.returns-in_err-sent-2-clause-sends
 unfolding followed_tide
@@ -127,8 +127,8 @@ returns-in_err-sent-2-clause-sends g c =
     let t = joined (track_lines_of Turn tracks.turn) in
     let s = joined (lines_if_there Slack tracks.slack) in
     let n = length tracks.turn in
-    rw (p.1, p.2) (sends_cut _ _ c.args.sent (t ++ s) (joined (lines_if_there Mark tracks.mark)) 0 0 _
-    (sends_then _ _ _ c.args.sent c.in_ok-sent.sent t s n 0 (Err _) (rw turn at c.in_ok-sent.ensures.sends) (rw slack at c.in_err-sent-2.ensures.sends)))
+    rw (p.1, p.2) (sends_cut (g.S.Sink.state c.args.out.now) (g.S.Sink.state c.send_if_followed.new.out) c.args.sent (t ++ s) (joined (lines_if_there Mark tracks.mark)) 0 0 _
+    (sends_then (g.S.Sink.state c.args.out.now) (g.S.Sink.state c.send_track.new.out) (g.S.Sink.state c.send_if_followed.new.out) c.args.sent c.in_ok-sent.sent t s n 0 (Err _) (rw turn at c.in_ok-sent.ensures.sends) (rw slack at c.in_err-sent-2.ensures.sends)))
 
 pub returns-clause-sends : goal.returns-clause-sends
 unfolding followed_tide

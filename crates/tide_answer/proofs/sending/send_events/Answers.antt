@@ -67,8 +67,8 @@ returns-in_err-so_far-clause-sends g c =
     let rest = flat_map (event_line_in c.args.zone.now c.args.units) c.next.new.self.left in
     let line = c.as_str.ensures.value ∙ c.line_of-line.ensures in
     let whole = page_step (flat_map (event_line_in c.args.zone.now c.args.units)) c.loop-event.merge.left c.next.new.self.left c.in-Some.event _ text held piece now c.in-Some.ensures.next (rw line refl) refl so_far.sends.1 in
-    rw (p.1, p.2, ← whole) (sends_cut _ _ c.args.sent (text ++ gone_for held piece) (now ++ rest) 0 0 _
-    (sends_then _ _ _ c.args.sent c.loop-event.so_far text (gone_for held piece) 0 0 (Err _) so_far.sends.2 c.in_err-so_far.ensures.sends))
+    rw (p.1, p.2, ← whole) (sends_cut (g.S.Sink.state c.args.out.now) (g.S.Sink.state c.put.new.out) c.args.sent (text ++ gone_for held piece) (now ++ rest) 0 0 _
+    (sends_then (g.S.Sink.state c.args.out.now) (g.S.Sink.state c.loop-event.out) (g.S.Sink.state c.put.new.out) c.args.sent c.loop-event.so_far text (gone_for held piece) 0 0 (Err _) so_far.sends.2 c.in_err-so_far.ensures.sends))
 
 pub end-requires : goal.end-requires
 end-requires g c = let few = c.loop-event.invariant.few in omega (arith, few)

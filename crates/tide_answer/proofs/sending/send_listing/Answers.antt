@@ -10,7 +10,7 @@ pub returns-in_err-sent-clause-sends : goal.returns-in_err-sent-clause-sends
 unfolding plain_events_of
 returns-in_err-sent-clause-sends g c =
     let p = err_from_is_err_and c.from_residual.result c.from_residual.ensures.1 in
-    rw (p.1, p.2) (sends_cut _ _ (record { bytes = 0; cells = 0 }) (c.args.name.now ++ 10 ∷ []) (flat_map (event_line_in c.args.zone.now c.args.units) c.args.merge.now.left) 0 0 _ c.in_err-sent.ensures)
+    rw (p.1, p.2) (sends_cut (g.S.Sink.state c.args.out.now) (g.S.Sink.state c.send_name.new.out) (record { bytes = 0; cells = 0 }) (c.args.name.now ++ 10 ∷ []) (flat_map (event_line_in c.args.zone.now c.args.units) c.args.merge.now.left) 0 0 _ c.in_err-sent.ensures)
 
 pub send_events-requires-clause-few : goal.send_events-requires-clause-few
 send_events-requires-clause-few g c =

@@ -6,7 +6,7 @@ use Rattle.tide_answer.proofs.streaming.write_certificate.Goals as goal
 pub returns-in_err-sent : goal.returns-in_err-sent
 returns-in_err-sent g c =
     let p = err_from_is_err_and c.from_residual.result c.from_residual.ensures.1 in
-    rw (p.1, p.2) (from_first _ _ _ 0 _ c.in_err-sent.ensures)
+    rw (p.1, p.2) (from_first (g.S.Sink.state c.args.out.now) (g.S.Sink.state c.send_certificate.new.out) _ 0 _ c.in_err-sent.ensures)
 
 pub returns : goal.returns
 returns g c =

@@ -1,25 +1,27 @@
-use Rattle.std.proofs.Common.{◌≡◌, true, false, None, inl, inr, refl, rules, w64, FitsSigned}
+use Rattle.std.proofs.Common.{◌≡◌, true, false, None, refl, rules, w64, FitsSigned}
 use Rattle.std.specs.Bool.{IsTrue}
 use Rattle.std.specs.Prelude.{pos}
 use Rattle.std.proofs.lemmas.Int.{to_z-of_z}
 use Rattle.std.proofs.lemmas.Result.{err_from_is_err_and}
-use Rattle.tide_desk.specs.Answers.{answered_over}
-use Rattle.tide_desk.specs.Outcomes.{IsFirm}
-use Rattle.named_files.specs.Readings.{asks_clock, book_named, files_in}
-use Rattle.named_files.proofs.ReadingLemmas.{excuses_weaker, meets_at, meets_inside, rose}
+use Rattle.named_files.specs.NoAnswers.{is_unread}
+use Rattle.named_files.specs.Readings.{book_named, files_allowed, files_in}
+use Rattle.named_files.proofs.ReadingLemmas.{excuses_weaker, failed_at, meets_at, meets_inside}
+use Rattle.tide_desk.specs.Answers.{answered_over, asks_clock}
+use Rattle.tide_desk.specs.Outcomes.{IsFirm, sources}
+use Rattle.tide_desk.proofs.AnsweringLemmas.{clock_rose, went_asking, went_reading}
 use Rattle.tide_desk.proofs.answering.answer_over.Goals as goal
 
 pub returns-in_err-read-clause-own : goal.returns-in_err-read-clause-own
 unfolding answered_over
 returns-in_err-read-clause-own g c =
     λ t k. meets_at
-    (IsFirm (g.F.Files.steady c.args.files.now) (IsTrue (asks_clock c.args.question.now.command)) (g.K.Clock.faults c.args.clock.now) (g.K.Clock.faults c.args.clock.now))
-    (files_in (λ _. g.F.Files.folder c.args.files.now) c.args.question.now c.args.name.now)
+    (IsFirm (IsTrue (asks_clock c.args.question.now.command)) (sources (g.F.Files.state c.args.files.now) (g.K.Clock.state c.args.clock.now)) (sources (g.F.Files.state c.read_files.new.files) (g.K.Clock.state c.args.clock.now)))
+    (files_in (λ _. (g.F.Files.state c.args.files.now).store.folder) c.args.question.now c.args.name.now)
     _
     c.from_residual.result
     _
     c.from_residual.ensures.1
-    (excuses_weaker _ (IsTrue (g.F.Files.steady c.args.files.now)) _ _ _ (λ f. f.files) (c.in_err-read.ensures.own t))
+    (excuses_weaker _ (IsTrue (g.F.Files.state c.args.files.now).store.is_steady) _ _ _ (λ f. f.files) (c.in_err-read.ensures.own t))
 
 pub returns-in_err-read-clause-some : goal.returns-in_err-read-clause-some
 unfolding answered_over
@@ -30,15 +32,21 @@ returns-in_err-read-clause-some g c =
       meets_at (Unit {0}) (files_in read.0 c.args.question.now c.args.name.now) _ c.from_residual.result _ c.from_residual.ensures.1 read.1,
     )
 
-pub returns-in_err-read-clause-read_fault : goal.returns-in_err-read-clause-read_fault
-returns-in_err-read-clause-read_fault g c =
-    let p = err_from_is_err_and c.from_residual.result c.from_residual.ensures.1 in
-    inl (record { count = rw (p.1, p.2) c.in_err-read.ensures.counts; clock = refl; unasked = λ u. refl })
+pub returns-in_err-read-clause-reads : goal.returns-in_err-read-clause-reads
+returns-in_err-read-clause-reads g c =
+    rw (failed_at c.from_residual.result _ c.from_residual.ensures.1)
+    (went_reading (IsTrue (asks_clock c.args.question.now.command)) (files_allowed c.args.question.now) _
+    (g.F.Files.state c.args.files.now) (g.F.Files.state c.read_files.new.files) (g.K.Clock.state c.args.clock.now) c.in_err-read.ensures.read)
 
 pub returns-in_err-now-clause-own : goal.returns-in_err-now-clause-own
 returns-in_err-now-clause-own g c =
     λ t k. let p = err_from_is_err_and c.from_residual-in_err-now.result c.from_residual-in_err-now.ensures.1 in
-    rw (p.1, p.2, c.in_err-now.ensures.unread) (λ f. absurd (f.clock (c.in_err-now.ensures.asked, rose (g.K.Clock.faults c.args.clock.now) (g.K.Clock.faults c.read_minute.new.clock) c.in_err-now.ensures.counts)))
+    rw (p.1, p.2, c.in_err-now.ensures.unread)
+    (λ f. absurd (f.clock (
+      c.in_err-now.ensures.asked,
+      clock_rose (asks_clock c.args.question.now.command) (g.K.Clock.state c.args.clock.now) (g.K.Clock.state c.read_minute.new.clock)
+          c.in_err-now.ensures.asked c.in_err-now.ensures.time,
+    )))
 
 pub returns-in_err-now-clause-some : goal.returns-in_err-now-clause-some
 unfolding answered_over files_in book_named
@@ -46,15 +54,14 @@ returns-in_err-now-clause-some g c =
     let p = err_from_is_err_and c.from_residual-in_err-now.result c.from_residual-in_err-now.ensures.1 in
     (λ slot name. None, pos 0, rw (p.1, p.2, c.in_err-now.ensures.unread) (λ f. refl))
 
-pub returns-in_err-now-clause-read_fault : goal.returns-in_err-now-clause-read_fault
-returns-in_err-now-clause-read_fault g c =
+pub returns-in_err-now-clause-reads : goal.returns-in_err-now-clause-reads
+returns-in_err-now-clause-reads g c =
     let p = err_from_is_err_and c.from_residual-in_err-now.result c.from_residual-in_err-now.ensures.1 in
-    inr (record {
-      failed = rw (p.1, p.2, c.in_err-now.ensures.unread) (search rules);
-      asked = c.in_err-now.ensures.asked;
-      count = c.in_err-now.ensures.counts;
-      files = c.in_ok-read.ensures.counts;
-    })
+    rw (p.1, p.2, c.in_err-now.ensures.unread)
+    (went_asking (asks_clock c.args.question.now.command) true (files_allowed c.args.question.now)
+    (g.F.Files.state c.args.files.now) (g.F.Files.state c.read_files.new.files)
+    (g.K.Clock.state c.args.clock.now) (g.K.Clock.state c.read_minute.new.clock)
+    (λ is. c.in_err-now.ensures.asked) c.in_ok-read.ensures.read c.in_err-now.ensures.time)
 
 pub returns-in_err-now-clause-asked_last : goal.returns-in_err-now-clause-asked_last
 returns-in_err-now-clause-asked_last g c = λ t unread. absurd (unread (rw (c.in_ok-read.ensures.own t) (search rules)))
@@ -75,13 +82,13 @@ returns-clause-some g c =
     let exact = simp to_z-of_z at c.answer_with.ensures.exact in
     (read.0, now.0, rw (read.1, ← now.1) (meets_inside (Unit {0}) _ c.answer_with.result exact))
 
-pub returns-clause-read_fault : goal.returns-clause-read_fault
-returns-clause-read_fault g c =
-    inl (record {
-      count = rw c.answer_with.ensures.read c.in_ok-read.ensures.counts;
-      clock = c.in_ok-now.ensures.counts;
-      unasked = λ u. let no : false ≡ true = rw c.answer_with.ensures.read at u in cc;
-    })
+pub returns-clause-reads : goal.returns-clause-reads
+returns-clause-reads g c =
+    rw c.answer_with.ensures.read
+    (went_asking (asks_clock c.args.question.now.command) false (files_allowed c.args.question.now)
+    (g.F.Files.state c.args.files.now) (g.F.Files.state c.read_files.new.files)
+    (g.K.Clock.state c.args.clock.now) (g.K.Clock.state c.read_minute.new.clock)
+    (λ is. let untrue : false ≡ true = is in cc) c.in_ok-read.ensures.read c.in_ok-now.ensures.time)
 
 pub returns-clause-asked_last : goal.returns-clause-asked_last
 returns-clause-asked_last g c = λ t unread. absurd (unread (rw (c.in_ok-read.ensures.own t) (search rules)))

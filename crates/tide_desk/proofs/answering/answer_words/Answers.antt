@@ -1,16 +1,17 @@
-use Rattle.std.proofs.Common.{None, inl, refl}
+use Rattle.std.proofs.Common.{None}
 use Rattle.std.specs.Prelude.{pos}
-use Rattle.std.proofs.lemmas.Result.{err_from_is_err_and}
-use Rattle.tide_desk.specs.Answers.{AsksClock, answer_from, asked_of}
-use Rattle.named_files.specs.NoAnswers.{told}
-use Rattle.tide_desk.specs.Outcomes.{IsFirm}
-use Rattle.named_files.proofs.ReadingLemmas.{has_files, meets_alone, meets_at, meets_named, names_file, told_excuses}
+use Rattle.named_files.specs.NoAnswers.{reading_failed, told}
+use Rattle.named_files.proofs.ReadingLemmas.{failed_at, meets_at, told_excuses}
+use Rattle.tide_desk.specs.Answers.{AsksClock, allowed_by, answer_from, asked_of}
+use Rattle.tide_desk.specs.Outcomes.{IsFirm, sources}
+use Rattle.tide_desk.proofs.AnsweringLemmas.{has_files, meets_alone, meets_named, names_file, went_by_words, went_nowhere}
+use Rattle.tide_edge.specs.Clocks.{next_minute}
 use Rattle.tide_desk.proofs.answering.answer_words.Goals as goal
 
 pub returns-in_err-question-clause-own : goal.returns-in_err-question-clause-own
 unfolding answer_from
 returns-in_err-question-clause-own g c =
-    λ t k. let firm = IsFirm (g.F.Files.steady c.args.files.now) (AsksClock (asked_of c.args.words.now)) (g.K.Clock.faults c.args.clock.now) (g.K.Clock.faults c.args.clock.now) in
+    λ t k. let firm = IsFirm (AsksClock (asked_of c.args.words.now)) (sources (g.F.Files.state c.args.files.now) (g.K.Clock.state c.args.clock.now)) (sources (g.F.Files.state c.args.files.now) (g.K.Clock.state c.args.clock.now)) in
     meets_at firm (told (asked_of c.args.words.now)) _ c.from_residual.result _ c.from_residual.ensures.1 (told_excuses firm (asked_of c.args.words.now) _ c.in_err-question.ensures.exact)
 
 pub returns-in_err-question-clause-some : goal.returns-in_err-question-clause-some
@@ -21,16 +22,16 @@ returns-in_err-question-clause-some g c = (
   meets_at (Unit {0}) (told (asked_of c.args.words.now)) _ c.from_residual.result _ c.from_residual.ensures.1 (told_excuses (Unit {0}) (asked_of c.args.words.now) _ c.in_err-question.ensures.exact),
 )
 
-pub returns-in_err-question-clause-read_fault : goal.returns-in_err-question-clause-read_fault
-returns-in_err-question-clause-read_fault g c =
-    let p = err_from_is_err_and c.from_residual.result c.from_residual.ensures.1 in
-    inl (record { count = rw (p.1, p.2) refl; clock = refl; unasked = λ u. refl })
+pub returns-in_err-question-clause-reads : goal.returns-in_err-question-clause-reads
+returns-in_err-question-clause-reads g c =
+    rw (failed_at c.from_residual.result _ c.from_residual.ensures.1)
+    (went_nowhere (AsksClock (asked_of c.args.words.now)) (allowed_by (asked_of c.args.words.now)) (g.F.Files.state c.args.files.now) (g.K.Clock.state c.args.clock.now))
 
 pub returns-in-Some-clause-own : goal.returns-in-Some-clause-own
 unfolding answer_from
 returns-in-Some-clause-own g c =
     λ t k. rw c.in_ok-question.ensures.exact
-    (meets_named _ (λ slot. g.F.Files.folder c.args.files.now) (g.K.Clock.minute_held c.args.clock.now) c.in_ok-question.question c.in-Some.name c.answer_over.result c.in-Some.is (c.answer_over.ensures.own t k))
+    (meets_named _ (λ slot. (g.F.Files.state c.args.files.now).store.folder) (next_minute (g.K.Clock.state c.args.clock.now)) c.in_ok-question.question c.in-Some.name c.answer_over.result c.in-Some.is (c.answer_over.ensures.own t (rw c.in_ok-question.ensures.exact at k)))
 
 pub returns-in-Some-clause-some : goal.returns-in-Some-clause-some
 unfolding answer_from
@@ -42,8 +43,15 @@ returns-in-Some-clause-some g c =
           (meets_named (Unit {0}) some.0 some.1 c.in_ok-question.question c.in-Some.name c.answer_over.result c.in-Some.is some.2),
     )
 
-pub returns-in-Some-clause-read_fault : goal.returns-in-Some-clause-read_fault
-returns-in-Some-clause-read_fault g c = rw c.in_ok-question.ensures.exact c.answer_over.ensures.read_fault
+pub returns-in-Some-clause-reads : goal.returns-in-Some-clause-reads
+returns-in-Some-clause-reads g c =
+    went_by_words (reading_failed c.answer_over.result) (asked_of c.args.words.now) c.in_ok-question.question c.in-Some.name (sources (g.F.Files.state c.args.files.now) (g.K.Clock.state c.args.clock.now)) (sources (g.F.Files.state c.answer_over.new.files) (g.K.Clock.state c.answer_over.new.clock))
+    c.in_ok-question.ensures.exact c.in-Some.is c.answer_over.ensures.reads
+
+pub returns-clause-reads : goal.returns-clause-reads
+returns-clause-reads g c =
+    rw c.answer_without.ensures.read
+    (went_nowhere (AsksClock (asked_of c.args.words.now)) (allowed_by (asked_of c.args.words.now)) (g.F.Files.state c.args.files.now) (g.K.Clock.state c.args.clock.now))
 
 pub returns-in-Some-clause-unopened : goal.returns-in-Some-clause-unopened
 returns-in-Some-clause-unopened g c =
@@ -55,13 +63,13 @@ returns-in-Some-clause-unasked g c = rw c.in_ok-question.ensures.exact c.answer_
 pub returns-in-Some-clause-asked_last : goal.returns-in-Some-clause-asked_last
 returns-in-Some-clause-asked_last g c =
     λ t unread. c.answer_over.ensures.asked_last t
-    (λ read. unread (has_files (λ slot. g.F.Files.folder c.args.files.now) (asked_of c.args.words.now) c.in_ok-question.question c.in-Some.name c.in_ok-question.ensures.exact c.in-Some.is read))
+    (λ read. unread (has_files (λ slot. (g.F.Files.state c.args.files.now).store.folder) (asked_of c.args.words.now) c.in_ok-question.question c.in-Some.name c.in_ok-question.ensures.exact c.in-Some.is read))
 
 pub returns-clause-own : goal.returns-clause-own
 unfolding answer_from
 returns-clause-own g c =
     λ t k. rw c.in_ok-question.ensures.exact
-    (meets_alone _ (λ slot. g.F.Files.folder c.args.files.now) (g.K.Clock.minute_held c.args.clock.now) c.in_ok-question.question c.answer_without.result c.in-None.is c.answer_without.ensures.exact)
+    (meets_alone _ (λ slot. (g.F.Files.state c.args.files.now).store.folder) (next_minute (g.K.Clock.state c.args.clock.now)) c.in_ok-question.question c.answer_without.result c.in-None.is c.answer_without.ensures.exact)
 
 pub returns-clause-some : goal.returns-clause-some
 unfolding answer_from

@@ -1,5 +1,5 @@
 use Rattle.std.specs.Prelude.{pos}
-use Rattle.named_files.proofs.ReadingLemmas.{minute_unasked}
+use Rattle.tide_desk.proofs.AnsweringLemmas.{minute_unasked}
 use Rattle.tide_desk.proofs.answering.read_minute.Goals as goal
 
 pub returns-then-not-asks_clock-clause-some : goal.returns-then-not-asks_clock-clause-some

@@ -1,6 +1,7 @@
-use Rattle.std.proofs.Common.{inl, refl, sym, append-nil}
+use Rattle.std.proofs.Common.{inl, sym}
 use Rattle.tide_desk.specs.Answers.{AsksClock, asked_of}
-use Rattle.tide_desk.specs.Outcomes.{IsFirm}
+use Rattle.tide_desk.specs.Outcomes.{IsFirm, outputs, sources}
+use Rattle.tide_edge.proofs.WritingLemmas.{put_none}
 use Rattle.tide_desk.proofs.OutcomeLemmas.{ends_told, ends_own, own_excused, told_as_read}
 use Rattle.tide_desk.proofs.desk.run.Goals as goal
 
@@ -19,18 +20,18 @@ returns-in-Ok-clause-some_files g c =
 
 pub returns-clause-own_files : goal.returns-clause-own_files
 returns-clause-own_files g c =
-    λ t k either. let firm = IsFirm (g.F.Files.steady c.args.files.now) (AsksClock (asked_of c.args.words.now)) (g.K.Clock.faults c.args.clock.now) (g.K.Clock.faults c.answer_words.new.clock) in
-    ends_own firm _ c.in-Err.none c.tell.result _ _ (c.in-Err.ensures.own t k) either
-    (record { count = refl; told = λ o. o; stands = λ o. sym (append-nil _) }) c.tell.ensures
+    λ t k either. let firm = IsFirm (AsksClock (asked_of c.args.words.now)) (sources (g.F.Files.state c.args.files.now) (g.K.Clock.state c.args.clock.now)) (sources (g.F.Files.state c.answer_words.new.files) (g.K.Clock.state c.answer_words.new.clock)) in
+    ends_own firm _ c.in-Err.none c.tell.result (outputs (g.O.Sink.state c.args.out.now) (g.E.Sink.state c.args.err.now)) (outputs (g.O.Sink.state c.args.out.now) (g.E.Sink.state c.tell.new.err)) (c.in-Err.ensures.own t k) either
+    (sym (put_none (g.O.Sink.state c.args.out.now))) c.tell.ensures
 
 pub returns-clause-some_files : goal.returns-clause-some_files
 returns-clause-some_files g c =
     let some = c.in-Err.ensures.some in (
       some.0,
       some.1,
-      ends_told _ c.in-Err.none c.tell.result _ _ (own_excused (Unit {0}) _ c.in-Err.none some.2 (inl tt)) (record { count = refl; told = λ o. o; stands = λ o. sym (append-nil _) }) c.tell.ensures,
+      ends_told _ c.in-Err.none c.tell.result (outputs (g.O.Sink.state c.args.out.now) (g.E.Sink.state c.args.err.now)) (outputs (g.O.Sink.state c.args.out.now) (g.E.Sink.state c.tell.new.err)) (own_excused (Unit {0}) _ c.in-Err.none some.2 (inl tt))
+          (sym (put_none (g.O.Sink.state c.args.out.now))) c.tell.ensures,
     )
 
-pub returns-clause-read_fault : goal.returns-clause-read_fault
-returns-clause-read_fault g c =
-    rw (told_as_read c.in-Err.none c.tell.result c.tell.ensures) c.in-Err.ensures.read_fault
+pub returns-clause-reads : goal.returns-clause-reads
+returns-clause-reads g c = rw (told_as_read c.in-Err.none c.tell.result c.tell.ensures) c.in-Err.ensures.reads
