@@ -112,8 +112,8 @@ fn a_year_comes_one_event_at_a_time(rt: HostRuntime) -> Result<(), Fail> {
 // Minutes, kinds and levels of a year's tide of half a day.
 fn year_of_tide(alloc: Global) -> Result<Vec<(i64, Kind, i64)>, AllocError> {
     let mut items = Vec::new(alloc);
-    for day in 0..366i64 {
-        let midnight = BEGIN + 1_440 * day;
+    for day in 0..366u16 {
+        let midnight = BEGIN + 1_440 * i64::from(day);
         items.push((midnight + 360, Kind::Low, -1_000_000))?;
         items.push((midnight + 719, Kind::High, 999_962))?;
         items.push((midnight + 1_080, Kind::Low, -1_000_000))?;
@@ -170,8 +170,8 @@ fn many_heights_are_listed(rt: HostRuntime) -> Result<(), Fail> {
     let alloc = rt.alloc();
     let name = Text::from_str(alloc, "Pier")?;
     let mut items = Vec::new(alloc);
-    for row in 0..100_000i64 {
-        items.push((BEGIN + row, 1_000_000))?;
+    for row in 0..100_000u32 {
+        items.push((BEGIN + i64::from(row), 1_000_000))?;
     }
     let rows = rows_of(alloc, items.as_slice())?;
     let zone = zone_of(0);
