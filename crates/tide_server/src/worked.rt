@@ -4,11 +4,13 @@ ghost use Rattle.std.specs.Prelude.{◌≡◌, ℤ, true, false, List, [], ◌�
 ghost use Rattle.harmonics_text.specs.declared.book.Book.{Book};
 ghost use Rattle.station_table.specs.declared.offsets.Offsets.{Offsets};
 ghost use Rattle.tide_server.specs.Heads.{head_length, head_of};
+ghost use Rattle.tide_server.specs.Paths.{path_named};
 ghost use Rattle.tide_server.specs.Queries.{items_of, said_by};
 ghost use Rattle.tide_server.specs.Replies.{reply_of};
 ghost use Rattle.tide_server.specs.Responses.{rejection_of};
-ghost use Rattle.tide_server.specs.Rows.{asks, path_of, query_of, is_size, field_rows, first_row};
+ghost use Rattle.tide_server.specs.Rows.{asks, path_of, query_of, length_in, field_rows, first_row};
 
+use crate::path::Path;
 use crate::rejection::Rejection;
 
 /// Checks the definitions at a few values.
@@ -20,8 +22,12 @@ pub fn worked_rows()
     ensures path { path_of (codes "/predict?a=b?c") ≡ codes "/predict" }
     ensures query { query_of (codes "/predict?a=b?c") ≡ codes "a=b?c" }
     ensures no_query { query_of (codes "/stations") ≡ [] }
-    ensures size { is_size (codes "000000000000000005") ≡ true }
-    ensures signed { is_size (codes "+5") ≡ false }
+    ensures two_lengths { length_in (head_of (codes "POST") (codes "/check") 0
+        ((codes "content-length", codes "5") ∷ (codes "Content-Length", codes "5") ∷ [])) ≡ None }
+    ensures coded { length_in (head_of (codes "POST") (codes "/check") 0
+        ((codes "content-length", codes "5") ∷ (codes "Transfer-Encoding", codes "chunked") ∷ [])) ≡ None }
+    ensures known { path_named (codes "/clock") ≡ Some Path.Clock }
+    ensures unknown { path_named (codes "/Clock") ≡ None }
 {}
 
 /// Checks the order of the rows at a few heads, and the bytes of a reply.
