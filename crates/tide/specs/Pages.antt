@@ -1,6 +1,10 @@
 -- What the program tells of itself (this project; the option words are those of the GNU coding standards).
-use Rattle.std.specs.Prelude.{ℕ, Bool, false, ◌||◌, if◌then◌else◌, List, [], ◌∷◌, codes, Option, Some, None}
+use Rattle.std.specs.Prelude.{◌≡◌, ℕ, Bool, true, false, ◌||◌, if◌then◌else◌, List, [], ◌∷◌, codes, slice_get, Option, Some, None, Result, Ok}
+use Rattle.std.specs.List.{list_any}
+use Rattle.std.specs.Option.{option_map_or}
 use Rattle.std.specs.Str.{bytes_eq}
+use Rattle.tide_answer.specs.declared.text.Answer.{Answer}
+use Rattle.named_files.specs.declared.no_answer.NoAnswer.{NoAnswer}
 use Rattle.tide.specs.declared.help.TheConstants.{HELP, VERSION}
 use Rattle.tide.specs.declared.help.Page.{Page}
 use Rattle.tide.specs.declared.help.Page.TheVariants.{Help, Version}
@@ -13,15 +17,34 @@ page_text Version = VERSION.now
 abbrev pub is_option : List ℕ → List ℕ → List ℕ → Bool
 is_option short long word = bytes_eq word short || bytes_eq word long
 
--- the page that the first word asks for, if it does
+abbrev pub asks_for_help : List ℕ → Bool
+asks_for_help word = is_option (codes "-h") (codes "--help") word
+
+abbrev pub asks_for_version : List ℕ → Bool
+asks_for_version word = is_option (codes "-V") (codes "--version") word
+
+-- the page that the words ask for: any of them can ask for help, and the first for the version
 abbrev pub page_of : List (List ℕ) → Option Page
-page_of [] = None
-page_of (word ∷ words) =
-    if is_option (codes "-h") (codes "--help") word then Some Help
-    else if is_option (codes "-V") (codes "--version") word then Some Version
+page_of words =
+    if list_any asks_for_help words then Some Help
+    else if option_map_or asks_for_version (slice_get words 0) false then Some Version
     else None
 
 -- whether the first word asks to serve
 abbrev pub asks_to_serve : List (List ℕ) → Bool
 asks_to_serve [] = false
 asks_to_serve (word ∷ words) = bytes_eq word (codes "serve")
+
+-- ---- What the words ask for
+
+-- the page, as an answer
+abbrev pub page_answer : Page → Result Answer NoAnswer
+page_answer page = Ok (record { text = page_text page; rejected = false; cells = 0 })
+
+-- no page, and not to serve
+abbrev pub AsksAnswer : List (List ℕ) → Type 0
+AsksAnswer words = (page_of words ≡ None) × (asks_to_serve words ≡ false)
+
+-- no page, but to serve
+abbrev pub AsksService : List (List ℕ) → Type 0
+AsksService words = (page_of words ≡ None) × (asks_to_serve words ≡ true)

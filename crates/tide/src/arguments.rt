@@ -1,11 +1,37 @@
 //! The program's words.
 
-ghost use Rattle.std.specs.Prelude.{◌≡◌, IfOk, map, drop, string_bytes};
+ghost use Rattle.std.specs.Prelude.{◌≡◌, Bool, IfOk, map, drop, string_bytes};
 ghost use Rattle.std.specs.Vec.Iter.{into_iter_items};
+ghost use Rattle.tide_edge.specs.SinkStates.{Wrote};
+ghost use Rattle.tide.specs.NoWords.{line_of, status_of};
 
 use decimal_text::{Text, Words};
+use named_files::refuse;
 use std::alloc::{AllocError, Global};
+use std::env;
 use std::env::Args;
+use std::io::ErrorKind;
+use tide_desk::Status;
+use tide_edge::Sink;
+
+/// Why the program has no words.
+#[derive(Clone, Copy, Debug, PartialEq, Eq)]
+pub enum NoWords {
+    /// One of them isn't UTF-8.
+    NotText,
+    NoMemory,
+}
+
+/// The words behind the program's name.
+pub fn read_words(rt: &HostRuntime) -> Result<Words, NoWords> {
+    match env::args(rt) {
+        Ok(arguments) => words_of(rt.alloc(), arguments).map_err(|_| NoWords::NoMemory),
+        Err(fault) => match fault.kind() {
+            ErrorKind::OutOfMemory => Err(NoWords::NoMemory),
+            _ => Err(NoWords::NotText),
+        },
+    }
+}
 
 /// The words behind the program's name, all of them and in their order.
 pub fn words_of(alloc: Global, mut arguments: Args) -> Result<Words, AllocError>
@@ -17,4 +43,15 @@ pub fn words_of(alloc: Global, mut arguments: Args) -> Result<Words, AllocError>
         words.push(Text::from_str(alloc, argument.as_str())?)?;
     }
     Ok(Words::from_vec(words))
+}
+
+/// Tells why there are no words, and answers the status that goes with it.
+pub fn tell_no_words<E: Sink>(why: NoWords, err: &mut E) -> Status
+    ensures status { result ≡ status_of why }
+    ensures line { (failed : Bool) × Wrote (E.state err.old) (E.state err.new) failed (line_of why) }
+{
+    match why {
+        NoWords::NotText => refuse(err, Status::Words, b"words: refused\n"),
+        NoWords::NoMemory => refuse(err, Status::NoMemory, b"no memory\n"),
+    }
 }

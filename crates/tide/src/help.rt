@@ -1,9 +1,9 @@
 //! What the program tells of itself.
 
 ghost use Rattle.std.specs.Prelude.{◌≡◌};
-ghost use Rattle.tide.specs.Pages.{asks_to_serve, page_of, page_text};
+ghost use Rattle.tide.specs.Pages.{asks_for_help, asks_for_version, asks_to_serve, page_of, page_text};
 
-use decimal_text::Words;
+use decimal_text::{Text, Words};
 
 const HELP: &str = "\
 Predicts tides and tidal currents at a station, from harmonic constants.
@@ -41,7 +41,7 @@ with the level at that minute.
 Example:
   ./tide predict file=examples/harbours.txt \\
     station='Boston, Boston Harbor, Massachusetts' \\
-    begin=2025-06-01T00:00Z end=2025-06-08T00:00Z zone=-04:00
+    begin=2025-06-01T04:00Z end=2025-06-08T04:00Z zone=-04:00
 
 Status: 0 done, 1 certificate rejected, 2 words refused, 3 file refused,
 4 question refused, 5 a limit, 6 read fault, 7 write fault, 8 no memory.
@@ -70,17 +70,30 @@ impl Page {
     }
 }
 
-/// The page that the first word asks for: `-h` and `--help`, or `-V` and `--version`. No other words
-/// ask for one.
+/// The page that the words ask for: that of help where any of them is `-h` or `--help`, else that of
+/// the version where the first is `-V` or `--version`. No other words ask for one.
 pub fn page_asked(words: &Words) -> Option<Page>
     ensures { result ≡ page_of words.now }
 {
-    let word = words.as_slice().first()?;
-    match word.as_str() {
-        "-h" | "--help" => Some(Page::Help),
-        "-V" | "--version" => Some(Page::Version),
+    if words.as_slice().iter().any(asks_for_help) {
+        return Some(Page::Help);
+    }
+    match words.as_slice().first() {
+        Some(word) if asks_for_version(word) => Some(Page::Version),
         _ => None,
     }
+}
+
+fn asks_for_help(word: &Text) -> bool
+    ensures { result ≡ asks_for_help word.now }
+{
+    matches!(word.as_str(), "-h" | "--help")
+}
+
+fn asks_for_version(word: &Text) -> bool
+    ensures { result ≡ asks_for_version word.now }
+{
+    matches!(word.as_str(), "-V" | "--version")
 }
 
 /// Whether the first word asks to serve.

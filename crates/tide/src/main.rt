@@ -4,14 +4,13 @@
 mod arguments;
 mod help;
 mod responding;
+#[cfg(test)]
+mod tests;
 
-use arguments::words_of;
-use decimal_text::Words;
+use arguments::{read_words, tell_no_words};
 use responding::respond;
-use std::env;
-use std::io::ErrorKind;
 use std::process::ExitCode;
-use tide_desk::{Status, refuse};
+use tide_desk::Status;
 use tide_edge::{HostClock, HostDoor, HostFiles, HostSink};
 
 fn main(rt: HostRuntime) -> ExitCode {
@@ -37,18 +36,6 @@ fn run_words(rt: &HostRuntime) -> Status {
                 &mut clock,
             )
         }
-        Err(Status::NoMemory) => refuse(&mut err, Status::NoMemory, b"no memory\n"),
-        Err(_) => refuse(&mut err, Status::Words, b"words: refused\n"),
-    }
-}
-
-// The words behind the program's name. The fault is `Words` where one isn't UTF-8.
-fn read_words(rt: &HostRuntime) -> Result<Words, Status> {
-    match env::args(rt) {
-        Ok(arguments) => words_of(rt.alloc(), arguments).map_err(|_| Status::NoMemory),
-        Err(fault) => match fault.kind() {
-            ErrorKind::OutOfMemory => Err(Status::NoMemory),
-            _ => Err(Status::Words),
-        },
+        Err(why) => tell_no_words(why, &mut err),
     }
 }

@@ -1,21 +1,27 @@
 //! What the program does with its words.
 
-ghost use Rattle.std.specs.Prelude.{◌≡◌, ℤ, Bool, false, true, None, Ok, IfSome};
-ghost use Rattle.tide_desk.specs.Answers.{answer_from};
-ghost use Rattle.tide_desk.specs.Outcomes.{EndsAs, Wrote, is_read_fault};
-ghost use Rattle.tide_desk.specs.Readings.{Folders};
-ghost use Rattle.tide_server.specs.Openings.{EndsAs as ServerEndsAs, WroteBoth, stock_from};
-ghost use Rattle.tide_server.specs.Serving.{Answers, Served};
-ghost use Rattle.tide.specs.Pages.{asks_to_serve, page_of, page_text};
+ghost use Rattle.std.specs.Prelude.{◌≡◌, ◌⊎◌, ℤ, Bool, IsTrue, IsOk, IsSome, IfSome, None, false};
+ghost use Rattle.named_files.specs.Readings.{Folders};
+ghost use Rattle.tide_desk.specs.Answers.{AsksClock, HasFiles, NamesFile, allowed_by, answer_from, answer_of, asked_of};
+ghost use Rattle.tide_desk.specs.Outcomes.{EndsAs, IsFirm, IsSilent, IsUntouched, WentOn, is_read_fault, outputs, sources};
+ghost use Rattle.tide_edge.specs.Clocks.{next_minute};
+ghost use Rattle.tide_edge.specs.Whole.{ReadWithin};
+ghost use Rattle.tide_fault.specs.declared.status.Status.{Status};
+ghost use Rattle.tide_server.specs.Openings.{EndedBy, EndsAs as ServerEndsAs, TookNone, files_asked, handed, service_of, stock_from, stock_of};
+ghost use Rattle.tide_server.specs.Serving.{IsOver};
+ghost use Rattle.tide.specs.Pages.{AsksAnswer, AsksService, page_answer, page_of};
 
 use crate::help::{Page, asks_to_serve, page_asked};
 use decimal_text::Words;
+use named_files::refuse;
 use std::alloc::Global;
-use tide_desk::{Status, refuse, run};
+use tide_desk::{Status, run};
 use tide_edge::{Clock, Door, Files, Sink, write_all};
 use tide_server::serve;
 
-/// Writes the page that the words ask for, serves where they ask for that, or else answers them.
+/// Writes the page that the words ask for, or serves where they ask for that, or else answers them, over
+/// the objects that it is handed and no others. A page takes neither files nor door nor clock; an answer
+/// leaves the door as it is, and serving leaves `out`.
 pub fn respond<F: Files, D: Door, O: Sink, E: Sink, K: Clock>(
     alloc: Global,
     words: &Words,
@@ -25,33 +31,60 @@ pub fn respond<F: Files, D: Door, O: Sink, E: Sink, K: Clock>(
     err: &mut E,
     clock: &mut K,
 ) -> Status
-    requires { (D.doorway door.old).port ≡ None }
-    ensures page { IfSome (page_of words.now) (λ page. EndsAs (Ok (record { text = page_text page; rejected = false; cells = 0 })) result
-        (Wrote (O.tells out.old) (O.tells out.new) (O.taken out.old) (O.taken out.new) (O.faults out.old) (O.faults out.new))
-        (Wrote (E.tells err.old) (E.tells err.new) (E.taken err.old) (E.taken err.new) (E.faults err.old) (E.faults err.new))) }
-    ensures answer { page_of words.now ≡ None → asks_to_serve words.now ≡ false → (folders : Folders) × (minute : ℤ) × EndsAs (answer_from folders minute words.now) result
-        (Wrote (O.tells out.old) (O.tells out.new) (O.taken out.old) (O.taken out.new) (O.faults out.old) (O.faults out.new))
-        (Wrote (E.tells err.old) (E.tells err.new) (E.taken err.old) (E.taken err.new) (E.faults err.old) (E.faults err.new)) }
-    ensures serves { asks_to_serve words.now ≡ true → (folders : Folders) × ServerEndsAs true (stock_from folders words.now) result (D.doorway door.new)
-        (λ stock. D.tells door.old → K.tells clock.old
-        → Served (Answers stock (K.minute_held clock.old)) (is_read_fault result) (D.doorway door.new).taken
-        (D.traffic door.old) (D.traffic door.new) (D.line_faults door.old) (D.line_faults door.new)
-        (K.faults clock.old) (K.faults clock.new) (K.asked clock.old) (K.asked clock.new))
-        (WroteBoth (E.tells err.old) (E.tells err.new) (E.taken err.old) (E.taken err.new) (E.faults err.old) (E.faults err.new)) }
+    requires { (D.state door.old).doorway.port ≡ None }
+    ensures page { IfSome (page_of words.now) (λ page. EndsAs (page_answer page) result
+        (outputs (O.state out.old) (E.state err.old)) (outputs (O.state out.new) (E.state err.new))) }
+    ensures page_alone { IsSome (page_of words.now) → (files.new ≡ files.old) × (door.new ≡ door.old) × (clock.new ≡ clock.old) }
+    ensures own_answer { AsksAnswer words.now → IsTrue (F.state files.old).store.tells
+        → (AsksClock (asked_of words.now) → IsTrue (K.state clock.old).tells)
+        → IsFirm (AsksClock (asked_of words.now)) (sources (F.state files.old) (K.state clock.old)) (sources (F.state files.new) (K.state clock.new))
+        ⊎ (¬ (result ≡ Status.ReadFault))
+        → EndsAs (answer_of (F.state files.old).store.folder (next_minute (K.state clock.old)) words.now) result
+        (outputs (O.state out.old) (E.state err.old)) (outputs (O.state out.new) (E.state err.new)) }
+    ensures some_answer { AsksAnswer words.now → (folders : Folders) × (minute : ℤ) × EndsAs (answer_from folders minute words.now) result
+        (outputs (O.state out.old) (E.state err.old)) (outputs (O.state out.new) (E.state err.new)) }
+    ensures answer_reads { AsksAnswer words.now
+        → WentOn (is_read_fault result) (AsksClock (asked_of words.now)) (allowed_by (asked_of words.now))
+        (sources (F.state files.old) (K.state clock.old)) (sources (F.state files.new) (K.state clock.new)) }
+    ensures unwritten { AsksAnswer words.now → IsUntouched result out.old out.new }
+    ensures untold { AsksAnswer words.now → IsSilent result err.old err.new }
+    ensures unopened { AsksAnswer words.now → ¬ (NamesFile (asked_of words.now)) → files.new ≡ files.old }
+    ensures unasked { AsksAnswer words.now → ¬ (AsksClock (asked_of words.now)) → clock.new ≡ clock.old }
+    ensures asked_last { AsksAnswer words.now → IsTrue (F.state files.old).store.tells
+        → ¬ (HasFiles (λ slot. (F.state files.old).store.folder) (asked_of words.now)) → clock.new ≡ clock.old }
+    ensures same_door { AsksAnswer words.now → door.new ≡ door.old }
+    ensures own_service { AsksService words.now → IsTrue (F.state files.old).store.tells
+        → ServerEndsAs (IsTrue (F.state files.old).store.is_steady) (stock_of (F.state files.old).store.folder words.now) result
+        (handed (F.state files.old) (D.state door.old) (E.state err.old) (K.state clock.old))
+        (handed (F.state files.new) (D.state door.new) (E.state err.new) (K.state clock.new)) }
+    ensures some_service { AsksService words.now → (folders : Folders) × ServerEndsAs (Unit {0}) (stock_from folders words.now) result
+        (handed (F.state files.old) (D.state door.old) (E.state err.old) (K.state clock.old))
+        (handed (F.state files.new) (D.state door.new) (E.state err.new) (K.state clock.new)) }
+    ensures service_done { AsksService words.now → result ≡ Status.Done → IsOver (D.state door.new).doorway }
+    ensures service_fault { AsksService words.now → EndedBy (is_read_fault result)
+        (handed (F.state files.old) (D.state door.old) (E.state err.old) (K.state clock.old))
+        (handed (F.state files.new) (D.state door.new) (E.state err.new) (K.state clock.new)) }
+    ensures service_reads { AsksService words.now
+        → (failed : Bool) × ReadWithin (files_asked (service_of words.now)) failed (F.state files.old) (F.state files.new) }
+    ensures service_unopened { AsksService words.now → ¬ (IsOk (service_of words.now)) → files.new ≡ files.old }
+    ensures service_unlistened { AsksService words.now → (D.state door.new).doorway.port ≡ None → door.new ≡ door.old }
+    ensures service_unasked { AsksService words.now → TookNone (D.state door.new).doorway → clock.new ≡ clock.old }
+    ensures service_read_first { AsksService words.now → ¬ ((D.state door.new).doorway.port ≡ None)
+        → (F.state files.new).faults ≡ (F.state files.old).faults }
+    ensures service_closed { AsksService words.now → ¬ ((D.state door.new).doorway.port ≡ None)
+        → (D.state door.new).doorway.is_open ≡ false }
+    ensures same_out { AsksService words.now → out.new ≡ out.old }
 {
-    if asks_to_serve(words) {
-        return serve(alloc, words, files, door, err, clock);
-    }
     match page_asked(words) {
         Some(page) => write_page(page, out, err),
+        None if asks_to_serve(words) => serve(alloc, words, files, door, err, clock),
         None => run(alloc, words, files, out, err, clock),
     }
 }
 
 fn write_page<O: Sink, E: Sink>(page: Page, out: &mut O, err: &mut E) -> Status
-    ensures { EndsAs (Ok (record { text = page_text page; rejected = false; cells = 0 })) result
-        (Wrote (O.tells out.old) (O.tells out.new) (O.taken out.old) (O.taken out.new) (O.faults out.old) (O.faults out.new))
-        (Wrote (E.tells err.old) (E.tells err.new) (E.taken err.old) (E.taken err.new) (E.faults err.old) (E.faults err.new)) }
+    ensures { EndsAs (page_answer page) result
+        (outputs (O.state out.old) (E.state err.old)) (outputs (O.state out.new) (E.state err.new)) }
 {
     match write_all(out, page.text().as_bytes()) {
         Ok(()) => Status::Done,

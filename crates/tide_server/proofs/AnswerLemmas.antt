@@ -1,109 +1,22 @@
 -- What answers a connection.
-use Rattle.std.proofs.Common.{◌≡◌, ◌⊎◌, ◌≢◌, ℕ, Bool, false, true, List, [], ◌∷◌, ◌++◌, take, append-nil, Option, Some, None, is_some, unwrap_or, Result, Ok, Err, inl, inr, ap, sym, ◌∙◌, subst, refl}
+use Rattle.std.proofs.Common.{◌≡◌, ◌⊎◌, ◌≢◌, ℕ, Bool, false, true, List, [], ◌∷◌, ◌++◌, take, append-nil, Option, Some, None, inl, inr, ap, sym, ◌∙◌, subst, refl}
 use Rattle.std.specs.Bool.{IsTrue}
-use Rattle.std.specs.Prelude.{ℤ, is_err}
-use Rattle.harmonics_text.specs.declared.book.Book.{Book}
-use Rattle.station_table.specs.declared.offsets.Offsets.{Offsets}
-use Rattle.tide_edge.specs.declared.failed.Failed.{Failed}
-use Rattle.tide_edge.specs.Doors.{Traffic, append_to_last}
+use Rattle.std.specs.List.{concat}
+use Rattle.std.specs.Prelude.{ℤ, if◌then◌else◌}
+use Rattle.tide_edge.specs.Clocks.{ClockState, clock_after, next_minute}
+use Rattle.tide_edge.specs.Doors.{DoorState, Traffic, append_to_last}
 use Rattle.tide_edge.specs.Faults.{counted, faults_after}
 use Rattle.tide_server.specs.declared.stock.Stock.{Stock}
 use Rattle.tide_server.specs.Heads.{head_end}
 use Rattle.tide_server.specs.Replies.{IsReply}
-use Rattle.tide_server.specs.Responses.{fixed_of}
-use Rattle.tide_server.specs.Rows.{Row, rejects, asks, IsRow, is_settled}
-use Rattle.tide_server.specs.Serving.{Answers, AnswersUnlessCut, AsksUnlessCut, IsEnough, IsUnavailable, has_byte}
-use Rattle.tide_server.specs.Workings.Connections.{IsQuiet, IsRead, SentBy, Went, WentBy}
+use Rattle.tide_server.specs.Rows.{Row, IsRow, is_settled}
+use Rattle.tide_server.specs.Serving.{Answers, AnswersUnlessCut, AsksUnlessCut, IsEnough, IsUnavailable, exchange, has_byte}
+use Rattle.tide_server.specs.Workings.Connections.{HasRead, IsRead, IsReadAs, Replies, RowSent, SentBy, Stopped, Talk, Went, WentBy, read_to, sent, talked}
 use Rattle.tide_server.proofs.ConnectionLemmas.{append_none, not_enough}
 use Rattle.tide_server.proofs.RowLemmas.{one_row_at, settled_stays}
 
 one : (request : List ℕ) (a b : Row) → IsRow request a → IsRow request b → a ≡ b
 one request a b x y = one_row_at (head_end request) request a b x y
-
--- ---- Fixed rows
-
-none_by : (fixed : Option (List ℕ)) → is_some fixed ≡ false → fixed ≡ None
-none_by None is = refl
-none_by (Some text) is = absurd (cc)
-
-pub unfixed : (request : List ℕ) (row : Row) → IsRow request row → false ≡ is_some (fixed_of row)
-    → (row : Row) × IsRow request row × (fixed_of row ≡ None)
-unfixed request row is none = (row, is, none_by (fixed_of row) (sym none))
-
-pub unavailable : (request reply : List ℕ) (a b : Row) → IsRow request a → fixed_of a ≡ None → IsRow request b
-    → fixed_of b ≡ None
-unavailable request reply a b x none y = ap fixed_of (one request b a y x) ∙ none
-
-pub fixed_replies : (book : Book) (table : List Offsets) (minute : ℤ) (request text : List ℕ) (row : Row) → IsRow request row
-    → true ≡ is_some (fixed_of row) → text ≡ unwrap_or (fixed_of row) [] → IsReply book table minute request text
-fixed_replies book table minute request text (rejects rejection bodiless) is fixed says = (rejects rejection bodiless, is, says)
-fixed_replies book table minute request text (asks asking) is fixed says = absurd (cc)
-
--- ---- What was sent
-
-made_answers : (stock : Stock) (minute : ℤ) (request reply : List ℕ) → request ≢ []
-    → IsReply stock.book stock.table minute request reply ⊎ IsUnavailable request reply → Answers stock minute request reply
-made_answers stock minute [] reply some made = absurd (some refl)
-made_answers stock minute (b ∷ bytes) reply some made = made
-
-some_byte : (request : List ℕ) → request ≢ [] → true ≡ has_byte request
-some_byte [] some = absurd (some refl)
-some_byte (b ∷ bytes) some = refl
-
-pub went_sent : {T : Type 0} (stock : Stock) (minute : ℤ) (request text : List ℕ) (result : Result T Failed) (before after : Traffic)
-    (was is asked_was asked_is : ℕ) → request ≢ [] → IsReply stock.book stock.table minute request text ⊎ IsUnavailable request text
-    → SentBy result text before after → is ≡ faults_after (is_err result) was → asked_is ≡ counted asked_was
-    → Went (Answers stock minute) request before after was is asked_was asked_is
-went_sent stock minute request text (Ok value) before after was is asked_was asked_is some made sends count asked = record {
-  reply = text;
-  is_cut = false;
-  is_asked = true;
-  waiting = ap (λ t. t.waiting) sends;
-  replies = ap (λ t. t.replies) sends;
-  answered = made_answers stock minute request text some made;
-  asks = some_byte request some;
-  lines = count;
-  asked = asked;
-}
-went_sent stock minute request text (Err failed) before after was is asked_was asked_is some made sends count asked = record {
-  reply = take sends.0 text;
-  is_cut = true;
-  is_asked = true;
-  waiting = ap (λ t. t.waiting) sends.1;
-  replies = ap (λ t. t.replies) sends.1;
-  answered = inr (text, made_answers stock minute request text some made, sends.0, refl);
-  asks = tt;
-  lines = count;
-  asked = asked;
-}
-
-pub went_silent : (stock : Stock) (minute : ℤ) (request : List ℕ) (t : Traffic) (lines asked : ℕ) → request ≡ []
-    → Went (Answers stock minute) request t t lines lines asked asked
-went_silent stock minute request t lines asked none = record {
-  reply = [];
-  is_cut = false;
-  is_asked = false;
-  waiting = refl;
-  replies = sym (append_none t.replies);
-  answered = subst (λ (r : List ℕ). Answers stock minute r []) (sym none) refl;
-  asks = ap has_byte (sym none);
-  lines = refl;
-  asked = refl;
-}
-
-pub went_unread : (answers : List ℕ → List ℕ → Type 0) (bytes : List ℕ) (before after : Traffic) (was is asked : ℕ)
-    → IsQuiet before after → is ≡ faults_after true was → Went answers bytes before after was is asked asked
-went_unread answers bytes before after was is asked quiet count = record {
-  reply = [];
-  is_cut = true;
-  is_asked = false;
-  waiting = quiet.waiting;
-  replies = quiet.replies ∙ sym (append_none before.replies);
-  answered = inl refl;
-  asks = tt;
-  lines = count;
-  asked = refl;
-}
 
 -- ---- What was read stands for all bytes
 
@@ -135,48 +48,139 @@ answers_whole stock minute bytes request reply read answers =
     subst (λ (bs : List ℕ). Answers stock minute bs reply) (sym read.parts)
     (answers_behind stock minute request read.rest reply read.enough answers)
 
-cut_whole : (stock : Stock) (minute : ℤ) (is_cut : Bool) (bytes request reply : List ℕ) → IsRead bytes request
-    → AnswersUnlessCut is_cut (Answers stock minute) request reply → AnswersUnlessCut is_cut (Answers stock minute) bytes reply
-cut_whole stock minute false bytes request reply read held = answers_whole stock minute bytes request reply read held
-cut_whole stock minute true bytes request reply read held =
-    elim held [
-      | inl none ↦ inl none
-      | inr part ↦ inr (part.0, answers_whole stock minute bytes request part.0 read part.1, part.2, part.3)
-    ]
-
 same_byte : (bytes request : List ℕ) → IsRead bytes request → has_byte request ≡ has_byte bytes
 same_byte bytes [] read =
     elim read.enough [ inl none ↦ ap has_byte (sym (read.parts ∙ none)) | inr e ↦ absurd (not_enough e) ]
 same_byte bytes (b ∷ request) read =
     let parts : bytes ≡ b ∷ (request ++ read.rest) = read.parts in ap has_byte (sym parts)
 
-asks_whole : (is_cut is_asked : Bool) (bytes request : List ℕ) → IsRead bytes request → AsksUnlessCut is_cut request is_asked
-    → AsksUnlessCut is_cut bytes is_asked
-asks_whole false is_asked bytes request read so_far = so_far ∙ same_byte bytes request read
-asks_whole true is_asked bytes request read so_far = tt
+-- ---- Reading, and then sending
 
-some_whole : (bytes request : List ℕ) → IsRead bytes request → ¬ (request ≡ []) → ¬ (bytes ≡ [])
-some_whole bytes [] read some = absurd (some refl)
-some_whole bytes (b ∷ request) read some = λ none. let parts : bytes ≡ b ∷ (request ++ read.rest) = read.parts in cc
+talk_traffic : List (List ℕ) → List ℕ → Traffic → Traffic
+talk_traffic left text t = record { waiting = t.waiting; rest = left; replies = append_to_last t.replies text }
 
-pub went_whole : {T : Type 0} (stock : Stock) (minute : ℤ) (bytes request : List ℕ) (result : Result T Failed)
-    (before between after : Traffic) (was still is asked_was asked_is : ℕ) → IsRead bytes request → IsQuiet before between → still ≡ was
-    → WentBy result (Answers stock minute) request between after still is asked_was asked_is
-    → WentBy result (Answers stock minute) bytes before after was is asked_was asked_is
-went_whole stock minute bytes request (Ok value) before between after was still is asked_was asked_is read quiet same went = record {
-  reply = went.reply;
-  is_cut = went.is_cut;
-  is_asked = went.is_asked;
-  waiting = went.waiting ∙ quiet.waiting;
-  replies = went.replies ∙ ap (λ rs. append_to_last rs went.reply) quiet.replies;
-  answered = cut_whole stock minute went.is_cut bytes request went.reply read went.answered;
-  asks = asks_whole went.is_cut went.is_asked bytes request read went.asks;
-  lines = went.lines ∙ ap (faults_after went.is_cut) same;
-  asked = went.asked;
+read_traffic : List (List ℕ) → Traffic → Traffic
+read_traffic left t = record { waiting = t.waiting; rest = left; replies = t.replies }
+
+with_lines : DoorState → ℕ → Traffic → DoorState
+with_lines d lines traffic = record d { traffic = traffic; line_faults = lines }
+
+sent_behind : (tells : Bool) (left : List (List ℕ)) (text : List ℕ) (t : Traffic)
+    → (if tells then record {
+      waiting = (if tells then read_traffic left t else t).waiting;
+      rest = (if tells then read_traffic left t else t).rest;
+      replies = append_to_last (if tells then read_traffic left t else t).replies text;
+    } else (if tells then read_traffic left t else t))
+    ≡ (if tells then talk_traffic left text t else t)
+unfolding talk_traffic read_traffic
+sent_behind true left text t = refl
+sent_behind false left text t = refl
+
+unsent : (tells : Bool) (left : List (List ℕ)) (t : Traffic)
+    → (if tells then read_traffic left t else t) ≡ (if tells then talk_traffic left [] t else t)
+unfolding talk_traffic read_traffic
+unsent true left t = ap (λ rs. record { waiting = t.waiting; rest = left; replies = rs }) (sym (append_none t.replies))
+unsent false left t = refl
+
+abbrev pub talk_of : List (List ℕ) → List ℕ → Bool → Bool → Talk
+talk_of left reply is_cut is_asked = record { left = left; reply = reply; is_cut = is_cut; is_asked = is_asked }
+
+sent_talk : (first now after : DoorState) (left : List (List ℕ)) (text : List ℕ) (failed is_asked : Bool) → now ≡ read_to left false first
+    → after ≡ sent text failed now → after ≡ talked (talk_of left text failed is_asked) first
+unfolding talk_traffic read_traffic with_lines
+sent_talk first now after left text failed is_asked reads sends =
+    sends ∙ ap (sent text failed) reads
+    ∙ ap (with_lines first (faults_after failed first.line_faults)) (sent_behind first.tells left text first.traffic)
+
+pub unsent_talk : (first now : DoorState) (left : List (List ℕ)) (failed is_asked : Bool) → now ≡ read_to left failed first
+    → now ≡ talked (talk_of left [] failed is_asked) first
+unfolding talk_traffic read_traffic with_lines
+unsent_talk first now left failed is_asked reads =
+    reads ∙ ap (with_lines first (faults_after failed first.line_faults)) (unsent first.tells left first.traffic)
+
+made_answers : (stock : Stock) (minute : ℤ) (request reply : List ℕ) (row : Row) → request ≢ [] → IsRow request row
+    → Replies stock minute row reply → Answers stock minute request reply
+made_answers stock minute [] reply row some is made = absurd (some refl)
+made_answers stock minute (b ∷ bytes) reply row some is made =
+    elim made [ inl text ↦ inl (row, is, text) | inr text ↦ inr (row, is, text.0, text.1) ]
+
+some_byte : (request : List ℕ) → request ≢ [] → true ≡ has_byte request
+some_byte [] some = absurd (some refl)
+some_byte (b ∷ bytes) some = refl
+
+row_answers : (stock : Stock) (minute : ℤ) (bytes reply : List ℕ) (row : Row) → IsReadAs bytes (Some row)
+    → Replies stock minute row reply → Answers stock minute bytes reply
+row_answers stock minute bytes reply row read made =
+    answers_whole stock minute bytes read.0 reply read.1 (made_answers stock minute read.0 reply row read.2 read.3 made)
+
+row_asks : (bytes : List ℕ) (row : Row) → IsReadAs bytes (Some row) → true ≡ has_byte bytes
+row_asks bytes row read = some_byte read.0 read.2 ∙ same_byte bytes read.0 read.1
+
+has_bytes : (bytes : List ℕ) → true ≡ has_byte bytes → ¬ (bytes ≡ [])
+has_bytes [] is = absurd (cc)
+has_bytes (b ∷ bytes) is = λ none. absurd (cc)
+
+-- ---- What came of the open connection
+
+pub went_row : (stock : Stock) (row : Row) (first now after : DoorState) (clock clock_now : ClockState) → HasRead false first now
+    → (IsTrue first.tells → IsReadAs (concat first.traffic.rest) (Some row)) → RowSent false stock row (exchange now clock) (exchange after clock_now)
+    → Went stock (exchange first clock) (exchange after clock_now)
+went_row stock row first now after clock clock_now read found (text, false, made, sends, asked) = record {
+  talk = talk_of read.left text false true;
+  door = sent_talk first now after read.left text false true read.door sends;
+  clock = asked;
+  answered = λ t k. row_answers stock (next_minute clock) (concat first.traffic.rest) text row (found t) (made k);
+  asked = λ t. row_asks (concat first.traffic.rest) row (found t);
+  needed = read.needed;
 }
-went_whole stock minute bytes request (Err failed) before between after was still is asked_was asked_is read quiet same went = (
-  record { waiting = went.0.waiting ∙ quiet.waiting; replies = went.0.replies ∙ quiet.replies },
-  went.1 ∙ same,
-  some_whole bytes request read went.2,
-  went.3,
-)
+went_row stock row first now after clock clock_now read found (text, true, made, sends, asked) = record {
+  talk = talk_of read.left (take sends.0 text) true true;
+  door = sent_talk first now after read.left (take sends.0 text) true true read.door sends.1;
+  clock = asked;
+  answered = λ t k. inr (text, row_answers stock (next_minute clock) (concat first.traffic.rest) text row (found t) (made k), sends.0, refl);
+  asked = λ t. tt;
+  needed = read.needed;
+}
+
+pub stopped_row : (stock : Stock) (row : Row) (first now after : DoorState) (clock clock_now : ClockState) → HasRead false first now
+    → (IsTrue first.tells → IsReadAs (concat first.traffic.rest) (Some row)) → RowSent true stock row (exchange now clock) (exchange after clock_now)
+    → Stopped (exchange first clock) (exchange after clock_now)
+stopped_row stock row first now after clock clock_now read found sends = record {
+  left = read.left;
+  door = sends.0 ∙ read.door;
+  clock = sends.1;
+  byte = λ t. has_bytes (concat first.traffic.rest) (row_asks (concat first.traffic.rest) row (found t));
+  needed = read.needed;
+}
+
+pub went_by_row : (failed : Bool) (stock : Stock) (row : Row) (first now after : DoorState) (clock clock_now : ClockState)
+    → HasRead false first now → (IsTrue first.tells → IsReadAs (concat first.traffic.rest) (Some row))
+    → RowSent failed stock row (exchange now clock) (exchange after clock_now) → WentBy failed stock (exchange first clock) (exchange after clock_now)
+went_by_row false stock row first now after clock clock_now read found sends =
+    went_row stock row first now after clock clock_now read found sends
+went_by_row true stock row first now after clock clock_now read found sends =
+    stopped_row stock row first now after clock clock_now read found sends
+
+-- no byte came
+pub went_silent : (stock : Stock) (first now : DoorState) (clock : ClockState) → HasRead false first now
+    → (IsTrue first.tells → concat first.traffic.rest ≡ []) → Went stock (exchange first clock) (exchange now clock)
+went_silent stock first now clock read none = record {
+  talk = talk_of read.left [] false false;
+  door = unsent_talk first now read.left false false read.door;
+  clock = refl;
+  answered = λ t k. subst (λ (bytes : List ℕ). Answers stock (next_minute clock) bytes []) (sym (none t)) refl;
+  asked = λ t. ap has_byte (sym (none t));
+  needed = read.needed;
+}
+
+-- a read has failed
+pub went_unread : (stock : Stock) (first now : DoorState) (clock : ClockState) → HasRead true first now
+    → Went stock (exchange first clock) (exchange now clock)
+went_unread stock first now clock read = record {
+  talk = talk_of read.left [] true false;
+  door = unsent_talk first now read.left true false read.door;
+  clock = refl;
+  answered = λ t k. inl refl;
+  asked = λ t. tt;
+  needed = read.needed;
+}

@@ -1,17 +1,19 @@
 -- What goes over a connection, piece by piece.
-use Rattle.std.proofs.Common.{◌≡◌, ℕ, ◌+◌, ◌<◌, ◌≤◌, Bool, false, true, List, [], ◌∷◌, ◌++◌, length, take, drop, append_assoc, append-nil, arith, ap, sym, ◌∙◌, subst, refl, Result, Ok, Err, inl}
+use Rattle.std.proofs.Common.{◌≡◌, ℕ, ◌+◌, ◌<◌, ◌≤◌, Bool, false, true, List, [], ◌∷◌, ◌++◌, length, take, drop, append_assoc, append-nil, arith, ap, sym, ◌∙◌, subst, refl, Result, Ok, Err, inl, inr}
 use Rattle.std.specs.Bool.{IsTrue}
 use Rattle.std.specs.List.{concat}
-use Rattle.std.specs.Prelude.{nat_le}
+use Rattle.std.specs.Prelude.{nat_le, if◌then◌else◌}
 use Rattle.std.proofs.lemmas.Bool.Decides.{nat_tests}
 use Rattle.std.proofs.lemmas.List.{take-append-drop}
 use Rattle.std.proofs.Math.Seq.{drop-nil, take-add}
 use Rattle.tide_edge.specs.declared.failed.Failed.{Failed}
-use Rattle.tide_edge.specs.Doors.{Traffic, append_to_last, first_or_empty, left_after, read_by}
+use Rattle.tide_edge.specs.Doors.{DoorState, Traffic, append_to_last, door_after_read, door_after_write, first_or_empty, left_after}
+use Rattle.tide_edge.specs.Faults.{counted, faults_after}
+use Rattle.tide_server.specs.declared.limits.TheConstants.{LONGEST}
 use Rattle.tide_server.specs.Heads.{head_end, head_length}
 use Rattle.tide_server.specs.Rows.{Row, IsRow, is_settled}
 use Rattle.tide_server.specs.Serving.{IsEnough, IsReadAsNeeded}
-use Rattle.tide_server.specs.Workings.Connections.{sent, IsQuiet, IsRead, SentBy}
+use Rattle.tide_server.specs.Workings.Connections.{HasRead, IsRead, SentBy, read_to, sent}
 use Rattle.tide_server.proofs.PieceLemmas.{all_left, bytes_left, left_on}
 use Rattle.tide_server.proofs.RowLemmas.{long_settled, one_row_at}
 
@@ -33,34 +35,17 @@ append_last [] reply bytes = refl
 append_last (r ∷ []) reply bytes = refl
 append_last (r ∷ next ∷ more) reply bytes = ap (λ xs. r ∷ xs) (append_last (next ∷ more) reply bytes)
 
-with_replies : Traffic → List (List ℕ) → Traffic
-with_replies t replies = record { waiting = t.waiting; rest = t.rest; replies = replies }
-
-pub sent_none : (t : Traffic) → t ≡ sent [] t
-unfolding with_replies
-sent_none t = ap (with_replies t) (sym (append_none t.replies))
-
--- after one more piece
-pub sent_on : (t now after : Traffic) (text : List ℕ) (at count : ℕ) → now ≡ sent (take at text) t
-    → after ≡ sent (take count (drop at text)) now → after ≡ sent (take (at + count) text) t
-unfolding with_replies
-sent_on t now after text at count so_far next =
-    next
-    ∙ ap (sent (take count (drop at text))) so_far
-    ∙ ap (with_replies t) (append_twice t.replies (take at text) (take count (drop at text)))
-    ∙ ap (λ xs. sent xs t) (sym (take-add at count text))
-
-few_by : (long : Bool) (request : List ℕ) (row : Row) → IsRow request row → is_settled row ≡ false → nat_le 4202496 (length request) ≡ long
-    → length request < 4202496
+few_by : (long : Bool) (request : List ℕ) (row : Row) → IsRow request row → is_settled row ≡ false → nat_le LONGEST (length request) ≡ long
+    → length request < LONGEST
 few_by true request row is unsettled long =
-    let reaches : 4202496 ≤ length request = grind (arith, nat_tests) in
+    let reaches : LONGEST ≤ length request = grind (arith, nat_tests) in
     let settled : IsTrue (is_settled row) = long_settled request row is reaches in
     absurd (cc)
 few_by false request row is unsettled long = grind (arith, nat_tests)
 
 -- bytes that aren't enough are few
-pub few : (request : List ℕ) (row : Row) → IsRow request row → is_settled row ≡ false → length request < 4202496
-few request row is unsettled = few_by (nat_le 4202496 (length request)) request row is unsettled refl
+pub few : (request : List ℕ) (row : Row) → IsRow request row → is_settled row ≡ false → length request < LONGEST
+few request row is unsettled = few_by (nat_le LONGEST (length request)) request row is unsettled refl
 
 pub unsettled : (request : List ℕ) (row : Row) → IsRow request row → is_settled row ≡ false → ¬ (IsEnough request)
 unsettled request row is none enough =
@@ -93,70 +78,200 @@ read_parts pieces request left read =
     ∙ ap (λ xs. xs ++ drop (length request) (concat pieces)) (sym read.bytes)
     ∙ ap (λ xs. request ++ xs) (sym (ap concat read.rest ∙ bytes_left (length request) pieces))
 
-left_more : (pieces : List (List ℕ)) (request : List ℕ) (count : ℕ) (before after : Traffic) → IsReadTo pieces request before.rest
-    → after ≡ read_by (Ok count) before → after.rest ≡ left_after (length request + count) pieces
-left_more pieces request count before after so_far is =
-    ap (λ t. t.rest) is ∙ ap (left_after count) so_far.rest ∙ left_on (length request) count pieces
+-- ---- What a door makes of it
 
-pub read_on : (pieces : List (List ℕ)) (request next : List ℕ) (count : ℕ) (before after : Traffic)
-    → IsReadTo pieces request before.rest → length next ≡ length request + count
-    → next ≡ request ++ take count (concat before.rest) → after ≡ read_by (Ok count) before → IsReadTo pieces next after.rest
-read_on pieces request next count before after so_far longer more is = record {
-  rest = left_more pieces request count before after so_far is ∙ ap (λ n. left_after n pieces) (sym longer);
-  bytes =
-      more
-      ∙ ap (λ xs. request ++ take count xs) (ap concat so_far.rest ∙ bytes_left (length request) pieces)
-      ∙ ap (λ xs. xs ++ take count (drop (length request) (concat pieces))) so_far.bytes
-      ∙ sym (take-add (length request) count (concat pieces))
-      ∙ ap (λ n. take n (concat pieces)) (sym longer);
+with_traffic : DoorState → ℕ → Traffic → DoorState
+with_traffic d lines traffic = record d { traffic = traffic; line_faults = lines }
+
+rest_of : List (List ℕ) → Traffic → Traffic
+rest_of left t = record { waiting = t.waiting; rest = left; replies = t.replies }
+
+same_rest : (tells : Bool) (t : Traffic) → t ≡ (if tells then record { waiting = t.waiting; rest = t.rest; replies = t.replies } else t)
+same_rest true t = refl
+same_rest false t = refl
+
+read_again : (tells : Bool) (left : List (List ℕ)) (count : ℕ) (t : Traffic)
+    → (if tells then record {
+      waiting = (if tells then rest_of left t else t).waiting;
+      rest = left_after count (if tells then rest_of left t else t).rest;
+      replies = (if tells then rest_of left t else t).replies;
+    } else (if tells then rest_of left t else t))
+    ≡ (if tells then rest_of (left_after count left) t else t)
+unfolding rest_of
+read_again true left count t = refl
+read_again false left count t = refl
+
+pub unread_again : (tells : Bool) (t : Traffic) → (if tells then t else t) ≡ t
+unread_again true t = refl
+unread_again false t = refl
+
+rest_by : (tells : Bool) (left : List (List ℕ)) (t : Traffic) → IsTrue tells → (if tells then rest_of left t else t).rest ≡ left
+unfolding rest_of
+rest_by true left t is = refl
+rest_by false left t is = absurd (cc)
+
+-- so far bytes were read of the open connection, and no read has failed
+pub record ReadSoFar (first : DoorState) (request : List ℕ) (now : DoorState) : Type 0 where
+  left : List (List ℕ)
+  door : now ≡ read_to left false first
+  read : IsTrue first.tells → IsReadTo first.traffic.rest request left
+
+pub read_none : (first : DoorState) → ReadSoFar first [] first
+unfolding with_traffic
+read_none first = record {
+  left = first.traffic.rest;
+  door = ap (with_traffic first first.line_faults) (same_rest first.tells first.traffic);
+  read = λ t. none_read first.traffic.rest;
 }
 
--- at the end of the bytes all were read
-pub all_read : (pieces : List (List ℕ)) (request next : List ℕ) (count : ℕ) (before after : Traffic)
-    → IsReadTo pieces request before.rest → length next ≡ length request + count
-    → next ≡ request ++ take count (concat before.rest) → after ≡ read_by (Ok count) before → concat before.rest ≡ []
-    → IsRead (concat pieces) next
-all_read pieces request next count before after so_far longer more is none =
-    let now = read_on pieces request next count before after so_far longer more is in
-    let left : concat after.rest ≡ [] =
-    ap (λ t. concat t.rest) is ∙ bytes_left count before.rest ∙ ap (drop count) none ∙ drop-nil count in record {
-      rest = concat after.rest;
-      parts = read_parts pieces next after.rest now;
+pub still_open : (first now : DoorState) (request : List ℕ) → ReadSoFar first request now → now.doorway ≡ first.doorway
+still_open first now request so_far = ap (λ d. d.doorway) so_far.door
+
+still_tells : (first now : DoorState) (request : List ℕ) → ReadSoFar first request now → IsTrue first.tells → IsTrue now.tells
+still_tells first now request so_far t = subst (λ (b : Bool). IsTrue b) (sym (ap (λ d. d.tells) so_far.door)) t
+
+still_keeps : (first now : DoorState) (request : List ℕ) → ReadSoFar first request now → IsTrue first.keeps_pieces → IsTrue now.keeps_pieces
+still_keeps first now request so_far k = subst (λ (b : Bool). IsTrue b) (sym (ap (λ d. d.keeps_pieces) so_far.door)) k
+
+rest_now : (first now : DoorState) (request : List ℕ) (so_far : ReadSoFar first request now) → IsTrue first.tells
+    → now.traffic.rest ≡ so_far.left
+unfolding rest_of
+rest_now first now request so_far t = ap (λ d. d.traffic.rest) so_far.door ∙ rest_by first.tells so_far.left first.traffic t
+
+one_more : (first now after : DoorState) (left : List (List ℕ)) (count : ℕ) → now ≡ read_to left false first
+    → after ≡ door_after_read (Ok count) now → after ≡ read_to (left_after count left) false first
+unfolding with_traffic rest_of
+one_more first now after left count door is =
+    is ∙ ap (door_after_read (Ok count)) door ∙ ap (with_traffic first first.line_faults) (read_again first.tells left count first.traffic)
+
+one_failed : (first now after : DoorState) (left : List (List ℕ)) (failed : Failed) → now ≡ read_to left false first
+    → after ≡ door_after_read (Err failed) now → after ≡ read_to left true first
+unfolding with_traffic rest_of
+one_failed first now after left failed door is =
+    is ∙ ap (door_after_read (Err failed)) door
+    ∙ ap (with_traffic first (counted first.line_faults)) (unread_again first.tells (if first.tells then rest_of left first.traffic else first.traffic))
+
+-- what one read more gives
+pub record OneMore (now : DoorState) (request next : List ℕ) (count : ℕ) (after : DoorState) : Type 0 where
+  pub door : after ≡ door_after_read (Ok count) now
+  pub longer : length next ≡ length request + count
+  pub bytes : IsTrue now.tells → next ≡ request ++ take count (concat now.traffic.rest)
+
+pub read_on : (first now after : DoorState) (request next : List ℕ) (count : ℕ) → ReadSoFar first request now
+    → OneMore now request next count after → ReadSoFar first next after
+read_on first now after request next count so_far more = record {
+  left = left_after count so_far.left;
+  door = one_more first now after so_far.left count so_far.door more.door;
+  read = λ t.
+      let read = so_far.read t in
+      let rest = rest_now first now request so_far t in record {
+        rest =
+            ap (left_after count) read.rest ∙ left_on (length request) count first.traffic.rest
+            ∙ ap (λ n. left_after n first.traffic.rest) (sym more.longer);
+        bytes =
+            more.bytes (still_tells first now request so_far t)
+            ∙ ap (λ xs. request ++ take count xs) (ap concat rest ∙ ap concat read.rest ∙ bytes_left (length request) first.traffic.rest)
+            ∙ ap (λ xs. xs ++ take count (drop (length request) (concat first.traffic.rest))) read.bytes
+            ∙ sym (take-add (length request) count (concat first.traffic.rest))
+            ∙ ap (λ n. take n (concat first.traffic.rest)) (sym more.longer);
+      };
+}
+
+-- the bytes read, and those that are left
+pub parts_read : (first now : DoorState) (request : List ℕ) (so_far : ReadSoFar first request now) → IsTrue first.tells
+    → concat first.traffic.rest ≡ request ++ concat so_far.left
+parts_read first now request so_far t = read_parts first.traffic.rest request so_far.left (so_far.read t)
+
+-- where nothing was left before one read more, all were read
+pub all_read : (first now after : DoorState) (request next : List ℕ) (count : ℕ) → ReadSoFar first request now
+    → OneMore now request next count after → IsTrue first.tells → (IsTrue now.tells → concat now.traffic.rest ≡ [])
+    → IsRead (concat first.traffic.rest) next
+all_read first now after request next count so_far more t none =
+    let now_read = read_on first now after request next count so_far more in
+    let ended : concat so_far.left ≡ [] =
+    sym (ap concat (rest_now first now request so_far t)) ∙ none (still_tells first now request so_far t) in
+    let left : concat now_read.left ≡ [] = bytes_left count so_far.left ∙ ap (drop count) ended ∙ drop-nil count in record {
+      rest = concat now_read.left;
+      parts = parts_read first after next now_read t;
       enough = inl left;
     }
 
--- what was read last was needed, where nothing more is read
-pub needed_still : (pieces : List (List ℕ)) (request : List ℕ) (left : List (List ℕ)) → IsReadTo pieces request left
-    → ¬ (IsEnough request) → IsReadAsNeeded pieces left
-needed_still pieces request left read waits = record {
-  before = length request;
-  all = length request;
-  rest = read.rest;
-  waits = subst (λ (bs : List ℕ). ¬ (IsEnough bs)) read.bytes waits;
-  one = omega arith;
+-- where the bytes are enough, so many were read
+pub enough_read : (first now : DoorState) (request : List ℕ) → ReadSoFar first request now → IsTrue first.tells → IsEnough request
+    → IsRead (concat first.traffic.rest) request
+enough_read first now request so_far t enough =
+    record { rest = concat so_far.left; parts = parts_read first now request so_far t; enough = inr enough }
+
+-- nothing more is read: the last read has failed
+pub has_failed : (first now after : DoorState) (request : List ℕ) (failed : Failed) → ReadSoFar first request now
+    → ¬ (IsEnough request) → after ≡ door_after_read (Err failed) now → HasRead true first after
+has_failed first now after request failed so_far waits is = record {
+  left = so_far.left;
+  door = one_failed first now after so_far.left failed so_far.door is;
+  needed = λ t k. record {
+    before = length request;
+    all = length request;
+    rest = (so_far.read t).rest;
+    waits = subst (λ (bs : List ℕ). ¬ (IsEnough bs)) (so_far.read t).bytes waits;
+    one = omega arith;
+  };
 }
 
--- so was one read more, which stays in one piece, where the bytes before it weren't enough
-pub needed_on : (pieces : List (List ℕ)) (request : List ℕ) (count : ℕ) (before after : Traffic)
-    → IsReadTo pieces request before.rest → ¬ (IsEnough request) → count ≤ length (first_or_empty before.rest)
-    → after ≡ read_by (Ok count) before → IsReadAsNeeded pieces after.rest
-needed_on pieces request count before after so_far waits one is = record {
-  before = length request;
-  all = length request + count;
-  rest = left_more pieces request count before after so_far is;
-  waits = subst (λ (bs : List ℕ). ¬ (IsEnough bs)) so_far.bytes waits;
-  one = rw (← so_far.rest) (omega (arith, one));
+-- or it was the last one needed, since the bytes before it weren't enough
+pub has_read : (first now after : DoorState) (request next : List ℕ) (count : ℕ) → ReadSoFar first request now
+    → ¬ (IsEnough request) → OneMore now request next count after
+    → (IsTrue now.tells → IsTrue now.keeps_pieces → count ≤ length (first_or_empty now.traffic.rest)) → HasRead false first after
+has_read first now after request next count so_far waits more one = record {
+  left = left_after count so_far.left;
+  door = one_more first now after so_far.left count so_far.door more.door;
+  needed = λ t k.
+      let few : count ≤ length (first_or_empty now.traffic.rest) =
+      one (still_tells first now request so_far t) (still_keeps first now request so_far k) in
+      let there : count ≤ length (first_or_empty so_far.left) = rw (rest_now first now request so_far t) at few in record {
+        before = length request;
+        all = length request + count;
+        rest = ap (left_after count) (so_far.read t).rest ∙ left_on (length request) count first.traffic.rest;
+        waits = subst (λ (bs : List ℕ). ¬ (IsEnough bs)) (so_far.read t).bytes waits;
+        one = rw (← (so_far.read t).rest) (omega (arith, there));
+      };
 }
 
--- sending leaves what wasn't read
-pub sent_unread : {T : Type 0} (result : Result T Failed) (text : List ℕ) (before after : Traffic) → SentBy result text before after
-    → after.rest ≡ before.rest
-sent_unread (Ok value) text before after sends = ap (λ t. t.rest) sends
-sent_unread (Err failed) text before after sends = ap (λ t. t.rest) sends.1
+-- ---- Sending
 
-pub quiet_on : (first before after : Traffic) (result : Result ℕ Failed) → IsQuiet first before → after ≡ read_by result before
-    → IsQuiet first after
-quiet_on first before after (Ok count) quiet is =
-    record { waiting = ap (λ t. t.waiting) is ∙ quiet.waiting; replies = ap (λ t. t.replies) is ∙ quiet.replies }
-quiet_on first before after (Err failed) quiet is =
-    record { waiting = ap (λ t. t.waiting) is ∙ quiet.waiting; replies = ap (λ t. t.replies) is ∙ quiet.replies }
+appended : List ℕ → Traffic → Traffic
+appended text t = record { waiting = t.waiting; rest = t.rest; replies = append_to_last t.replies text }
+
+sent_nothing : (tells : Bool) (t : Traffic) → t ≡ (if tells then appended [] t else t)
+unfolding appended
+sent_nothing true t = ap (λ rs. record { waiting = t.waiting; rest = t.rest; replies = rs }) (sym (append_none t.replies))
+sent_nothing false t = refl
+
+pub sent_none : (d : DoorState) → d ≡ sent [] false d
+unfolding with_traffic appended
+sent_none d = ap (with_traffic d d.line_faults) (sent_nothing d.tells d.traffic)
+
+sent_twice : (tells : Bool) (a b : List ℕ) (t : Traffic)
+    → (if tells then appended b (if tells then appended a t else t) else (if tells then appended a t else t))
+    ≡ (if tells then appended (a ++ b) t else t)
+unfolding appended
+sent_twice true a b t = ap (λ rs. record { waiting = t.waiting; rest = t.rest; replies = rs }) (append_twice t.replies a b)
+sent_twice false a b t = refl
+
+-- after one piece more
+pub sent_on : (first now after : DoorState) (text : List ℕ) (at count : ℕ) → now ≡ sent (take at text) false first
+    → after ≡ door_after_write (Ok count) (drop at text) now → after ≡ sent (take (at + count) text) false first
+unfolding with_traffic appended
+sent_on first now after text at count so_far is =
+    is
+    ∙ ap (door_after_write (Ok count) (drop at text)) so_far
+    ∙ ap (with_traffic first first.line_faults) (sent_twice first.tells (take at text) (take count (drop at text)) first.traffic)
+    ∙ ap (λ xs. sent xs false first) (sym (take-add at count text))
+
+pub sent_failed : (first now after : DoorState) (text : List ℕ) (at : ℕ) (failed : Failed) → now ≡ sent (take at text) false first
+    → after ≡ door_after_write (Err failed) (drop at text) now → after ≡ sent (take at text) true first
+unfolding with_traffic appended
+sent_failed first now after text at failed so_far is =
+    is
+    ∙ ap (door_after_write (Err failed) (drop at text)) so_far
+    ∙ ap (with_traffic first (counted first.line_faults))
+    (unread_again first.tells (if first.tells then appended (take at text) first.traffic else first.traffic))

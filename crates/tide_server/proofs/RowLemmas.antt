@@ -6,10 +6,11 @@ use Rattle.std.proofs.lemmas.Bool.Decides.{nat_tests}
 use Rattle.std.proofs.lemmas.List.{take-append-le, drop-append-le}
 use Rattle.httparse.proofs.GrammarLemmas.{request_unique}
 use Rattle.httparse.specs.Spans.{name_and_value}
+use Rattle.tide_server.specs.declared.limits.TheConstants.{LONGEST, MOST_BODY, MOST_HEAD, MOST_LINES}
 use Rattle.tide_server.specs.declared.rejection.Rejection.{Rejection}
 use Rattle.tide_server.specs.declared.rejection.Rejection.TheVariants.{HeadTooLarge, HeadCutShort, BadRequest, BodyCutShort}
 use Rattle.tide_server.specs.Heads.{line_feeds, Head, head_length, head_end, head_of, ReadsAs}
-use Rattle.tide_server.specs.Rows.{unended_row, Row, rejects, asks, first_row, field_rows, body_rows, field_row, head_row, head_rows, ended_row, path_of, query_of, is_post, is_head, size_of, is_settled_by, is_settled, IsRowAt, IsRow}
+use Rattle.tide_server.specs.Rows.{unended_row, Row, rejects, asks, first_row, field_rows, body_rows, field_row, head_row, head_rows, ended_row, path_of, query_of, is_post, is_head, length_of, is_settled_by, is_settled, IsRowAt, IsRow}
 use Rattle.tide_server.proofs.EndLemmas.{head_within, end_stays}
 
 -- ---- a request has one row
@@ -68,14 +69,14 @@ body_stays false size rest more there = refl
 abbrev pub row_by : Bool → Head → List ℕ → Row
 row_by cut head rest = field_row (if cut then Some BodyCutShort else None) head rest
 
-row_stays_by : (cut : Bool) (head : Head) (rest more : List ℕ) → (is_post head && nat_lt (length rest) (size_of head)) ≡ cut
+row_stays_by : (cut : Bool) (head : Head) (rest more : List ℕ) → (is_post head && nat_lt (length rest) (length_of head)) ≡ cut
     → IsTrue (is_settled (row_by cut head rest))
-    → row_by (is_post head && nat_lt (length (rest ++ more)) (size_of head)) head (rest ++ more) ≡ row_by cut head rest
+    → row_by (is_post head && nat_lt (length (rest ++ more)) (length_of head)) head (rest ++ more) ≡ row_by cut head rest
 row_stays_by true head rest more is settled = absurd (cc)
 row_stays_by false head rest more is settled =
-    let there = cut_later (is_post head) (size_of head) rest more is in
+    let there = cut_later (is_post head) (length_of head) rest more is in
     rw there (ap (λ body. asks record { path = path_of head.target; query = query_of head.target; body = body; bodiless = is_head head })
-    (body_stays (is_post head) (size_of head) rest more is))
+    (body_stays (is_post head) (length_of head) rest more is))
 
 fields_stay : (rows : List (Bool × Rejection)) (first : Option Rejection) (head : Head) (rest more : List ℕ) → first_row rows ≡ first
     → IsTrue (is_settled (field_row (first_row (rows ++ body_rows head rest)) head rest))
@@ -86,7 +87,7 @@ fields_stay rows (Some rejection) head rest more is settled =
 fields_stay rows None head rest more is settled =
     let now = first_in_second rows (body_rows head rest) is in
     let later = first_in_second rows (body_rows head (rest ++ more)) is in
-    rw (now, later) (row_stays_by (is_post head && nat_lt (length rest) (size_of head)) head rest more refl (rw now at settled))
+    rw (now, later) (row_stays_by (is_post head && nat_lt (length rest) (length_of head)) head rest more refl (rw now at settled))
 
 ended_stays : (first : Option Rejection) (read : Option Head) (rest more : List ℕ) → IsTrue (is_settled (head_row first read rest))
     → head_row first read (rest ++ more) ≡ head_row first read rest
@@ -97,7 +98,7 @@ ended_stays None (Some head) rest more settled =
 
 -- ---- more bytes of a request
 
-longer : (request more : List ℕ) → nat_le 8192 (length request) ≡ true → nat_le 8192 (length (request ++ more)) ≡ true
+longer : (request more : List ℕ) → nat_le MOST_HEAD (length request) ≡ true → nat_le MOST_HEAD (length (request ++ more)) ≡ true
 longer request more long = grind (arith, common_steps, nat_tests)
 
 -- whether a head that hasn't ended is too large
@@ -112,7 +113,7 @@ settled_long : (long : Bool) → IsTrue (is_settled (unended long)) → long ≡
 settled_long true settled = refl
 settled_long false settled = absurd (cc)
 
-long_enough : (request : List ℕ) → nat_le 8192 (length request) ≡ true → 8192 ≤ length request
+long_enough : (request : List ℕ) → nat_le MOST_HEAD (length request) ≡ true → MOST_HEAD ≤ length request
 long_enough request long = grind (arith, nat_tests)
 
 ended_within : (most : ℕ) (request : List ℕ) (end : ℕ) → head_length (take most request) ≡ Some end → end ≤ length request
@@ -123,18 +124,18 @@ ended_within most request end ends =
 stays_at : (end : Option ℕ) (request more : List ℕ) (row : Row) → head_end request ≡ end → IsRowAt end request row
     → IsTrue (is_settled row) → IsRow (request ++ more) row
 stays_at None request more row ends x settled =
-    let before : row ≡ unended (nat_le 8192 (length request)) = x ∙ unended_is (nat_le 8192 (length request)) in
+    let before : row ≡ unended (nat_le MOST_HEAD (length request)) = x ∙ unended_is (nat_le MOST_HEAD (length request)) in
     let S : Row → Type 0 = λ r. IsTrue (is_settled r) in
-    let long : nat_le 8192 (length request) ≡ true = settled_long (nat_le 8192 (length request)) (subst S before settled) in
-    let fits : 8192 ≤ length request = long_enough request long in
-    let later : head_end (request ++ more) ≡ None = ap head_length (take-append-le 8192 request more fits) ∙ ends in
+    let long : nat_le MOST_HEAD (length request) ≡ true = settled_long (nat_le MOST_HEAD (length request)) (subst S before settled) in
+    let fits : MOST_HEAD ≤ length request = long_enough request long in
+    let later : head_end (request ++ more) ≡ None = ap head_length (take-append-le MOST_HEAD request more fits) ∙ ends in
     let P : Option ℕ → Type 0 = λ e. IsRowAt e (request ++ more) row in
     let same : row ≡ unended_row (request ++ more) =
-    before ∙ ap unended (long ∙ sym (longer request more long)) ∙ sym (unended_is (nat_le 8192 (length (request ++ more)))) in
+    before ∙ ap unended (long ∙ sym (longer request more long)) ∙ sym (unended_is (nat_le MOST_HEAD (length (request ++ more)))) in
     subst P (sym later) same
 stays_at (Some end) request more row ends x settled =
-    let later : head_end (request ++ more) ≡ Some end = end_stays 8192 request more end ends in
-    let fits : end ≤ length request = ended_within 8192 request end ends in
+    let later : head_end (request ++ more) ≡ Some end = end_stays MOST_HEAD request more end ends in
+    let fits : end ≤ length request = ended_within MOST_HEAD request end ends in
     let bytes : take end (request ++ more) ≡ take end request = take-append-le end request more fits in
     let rest : drop end (request ++ more) ≡ drop end request ++ more = drop-append-le end request more fits in
     let Q : List ℕ → Type 0 = λ bytes. ReadsAs bytes x.0 in
@@ -170,11 +171,11 @@ none_hold (row ∷ rows) none =
     let one = fails row.0 row.1 (first_row rows) none in (one.0, none_hold rows one.1)
 
 -- the last row of the fields: a body isn't too large
-small_body : (head : Head) → first_row (field_rows head) ≡ None → (is_post head && nat_lt 4194304 (size_of head)) ≡ false
+small_body : (head : Head) → first_row (field_rows head) ≡ None → (is_post head && nat_lt MOST_BODY (length_of head)) ≡ false
 unfolding NoneHold
 small_body head none = (none_hold (field_rows head) none).1.1.1.1.1.1.1.0
 
-not_cut : (post : Bool) (size : ℕ) (rest : List ℕ) → (post && nat_lt 4194304 size) ≡ false → 4194304 ≤ length rest
+not_cut : (post : Bool) (size : ℕ) (rest : List ℕ) → (post && nat_lt MOST_BODY size) ≡ false → MOST_BODY ≤ length rest
     → (post && nat_lt (length rest) size) ≡ false
 not_cut true size rest small long = grind (arith, nat_tests)
 not_cut false size rest small long = refl
@@ -202,40 +203,40 @@ uncut : (cut : Bool) (head : Head) (rest : List ℕ) → cut ≡ false → IsTru
 uncut true head rest is = absurd (cc)
 uncut false head rest is = refl
 
-field_row_long : (first : Option Rejection) (head : Head) (rest : List ℕ) → first_row (field_rows head) ≡ first → 4194304 ≤ length rest
+field_row_long : (first : Option Rejection) (head : Head) (rest : List ℕ) → first_row (field_rows head) ≡ first → MOST_BODY ≤ length rest
     → IsTrue (is_settled (field_row (first_row (field_rows head ++ body_rows head rest)) head rest))
 field_row_long (Some rejection) head rest is long =
     rw (first_in_first (field_rows head) (body_rows head rest) rejection is) (found_settled (field_rows head) rejection (fields_settled head) is)
 field_row_long None head rest is long =
     rw (first_in_second (field_rows head) (body_rows head rest) is)
-    (uncut (is_post head && nat_lt (length rest) (size_of head)) head rest (not_cut (is_post head) (size_of head) rest (small_body head is) long))
+    (uncut (is_post head && nat_lt (length rest) (length_of head)) head rest (not_cut (is_post head) (length_of head) rest (small_body head is) long))
 
-ended_long : (many : Bool) (read : Option Head) (rest : List ℕ) → 4194304 ≤ length rest
+ended_long : (many : Bool) (read : Option Head) (rest : List ℕ) → MOST_BODY ≤ length rest
     → IsTrue (is_settled (head_row (first_row ((many, HeadTooLarge) ∷ (is_none read, BadRequest) ∷ [])) read rest))
 ended_long true read rest long = refl
 ended_long false None rest long = refl
 ended_long false (Some head) rest long = field_row_long (first_row (field_rows head)) head rest refl long
 
-long_head : (request : List ℕ) → 4202496 ≤ length request → nat_le 8192 (length request) ≡ true
+long_head : (request : List ℕ) → LONGEST ≤ length request → nat_le MOST_HEAD (length request) ≡ true
 long_head request long = grind (arith, nat_tests)
 
 taken_short : (most : ℕ) (bytes : List ℕ) → length (take most bytes) ≤ most
 taken_short most bytes = grind (arith, common_steps)
 
-long_rest : (request : List ℕ) (end : ℕ) → 4202496 ≤ length request → end ≤ 8192 → 4194304 ≤ length (drop end request)
+long_rest : (request : List ℕ) (end : ℕ) → LONGEST ≤ length request → end ≤ MOST_HEAD → MOST_BODY ≤ length (drop end request)
 long_rest request end long fits = rw (length-drop end request) (omega arith)
 
 ended_early : (most : ℕ) (request : List ℕ) (end : ℕ) → head_length (take most request) ≡ Some end → end ≤ most
 ended_early most request end ends = omega (arith, head_within (take most request) end ends, taken_short most request)
 
-long_at : (end : Option ℕ) (request : List ℕ) (row : Row) → head_end request ≡ end → IsRowAt end request row → 4202496 ≤ length request
+long_at : (end : Option ℕ) (request : List ℕ) (row : Row) → head_end request ≡ end → IsRowAt end request row → LONGEST ≤ length request
     → IsTrue (is_settled row)
 long_at None request row ends x long =
-    let is : row ≡ unended true = x ∙ unended_is (nat_le 8192 (length request)) ∙ ap unended (long_head request long) in
+    let is : row ≡ unended true = x ∙ unended_is (nat_le MOST_HEAD (length request)) ∙ ap unended (long_head request long) in
     subst (λ (r : Row). IsTrue (is_settled r)) (sym is) refl
 long_at (Some end) request row ends x long =
-    let behind : 4194304 ≤ length (drop end request) = long_rest request end long (ended_early 8192 request end ends) in
-    subst (λ (r : Row). IsTrue (is_settled r)) (sym x.2) (ended_long (nat_lt 66 (line_feeds (take end request))) x.0 (drop end request) behind)
+    let behind : MOST_BODY ≤ length (drop end request) = long_rest request end long (ended_early MOST_HEAD request end ends) in
+    subst (λ (r : Row). IsTrue (is_settled r)) (sym x.2) (ended_long (nat_lt MOST_LINES (line_feeds (take end request))) x.0 (drop end request) behind)
 
-pub long_settled : (request : List ℕ) (row : Row) → IsRow request row → 4202496 ≤ length request → IsTrue (is_settled row)
+pub long_settled : (request : List ℕ) (row : Row) → IsRow request row → LONGEST ≤ length request → IsTrue (is_settled row)
 long_settled request row x long = long_at (head_end request) request row refl x long

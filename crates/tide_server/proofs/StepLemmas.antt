@@ -1,79 +1,180 @@
 -- Connections served one after the other.
-use Rattle.std.proofs.Common.{◌≡◌, ℕ, ◌+◌, ◌-◌, ◌^◌, ◌<◌, Bool, false, true, List, [], ◌∷◌, ◌++◌, length, map, append_assoc, append-nil, arith, Ok, Err, inl, inr, ap, sym, ◌∙◌, subst, refl}
+use Rattle.std.proofs.Common.{◌≡◌, ℕ, ◌+◌, ◌-◌, ◌^◌, ◌<◌, Bool, false, true, List, [], ◌∷◌, ◌++◌, length, map, append_assoc, append-nil, arith, Ok, Err, Result, inl, inr, ap, sym, ◌∙◌, subst, refl}
+use Rattle.std.specs.Bool.{IsTrue}
 use Rattle.std.specs.List.{concat}
-use Rattle.std.specs.Prelude.{count_by, ◌==◌, drop, if◌then◌else◌}
+use Rattle.std.specs.Prelude.{ℤ, count_by, ◌==◌, drop, if◌then◌else◌}
 use Rattle.std.proofs.lemmas.Grind.{common_steps}
 use Rattle.std.proofs.lemmas.Bool.Decides.{nat_tests}
 use Rattle.std.proofs.lemmas.List.{map-append}
 use Rattle.std.proofs.lemmas.List.Elements.{All-nil, All-push}
-use Rattle.tide_edge.specs.Doors.{Doorway, Traffic, taken_by, first_or_empty, append_to_last}
+use Rattle.tide_edge.specs.declared.failed.Failed.{Failed}
+use Rattle.tide_edge.specs.Clocks.{ClockState, clock_after, next_minute}
+use Rattle.tide_edge.specs.Doors.{Doorway, DoorState, Traffic, append_to_last, door_after_close, door_after_next, first_or_empty, taken_by}
 use Rattle.tide_edge.specs.Faults.{counted, faults_after}
 use Rattle.tide_server.specs.declared.outage.Outage.{Outage}
 use Rattle.tide_server.specs.declared.outage.Outage.TheVariants as outages
-use Rattle.tide_server.specs.Serving.{AnswersUnlessCut, AsksUnlessCut, IsHeld, IsLastReadAsNeeded, IsReadAsNeeded, MayLeave, RoseBy, Served}
-use Rattle.tide_server.specs.Workings.Connections.{IsQuiet, Went}
-use Rattle.tide_server.specs.Workings.Steps.{IsStill, LeftNext, ServedNext, StepBy, WereServed, after_taking, doorway_after, is_clock, serving}
-use Rattle.tide_server.proofs.ConnectionLemmas.{append_last}
+use Rattle.tide_server.specs.declared.stock.Stock.{Stock}
+use Rattle.tide_server.specs.Serving.{Answers, AnswersUnlessCut, AreHeld, AsksUnlessCut, Conversation, Exchange, IsHeld, IsLastReadAsNeeded, IsReadAsNeeded, MayLeave, RoseBy, Served, clock_after_all, clock_with, exchange}
+use Rattle.tide_server.specs.Workings.Connections.{Closed, Talk, talked}
+use Rattle.tide_server.specs.Workings.Steps.{IsKept, IsNext, LeftNext, ServedNext, StepBy, WereServed, after_taking, conversation, door_at_end, door_failed, door_with, is_clock, is_door, serving}
+use Rattle.tide_server.proofs.AnswerLemmas.{talk_of, unsent_talk}
+use Rattle.tide_server.proofs.ConnectionLemmas.{append_last, unread_again}
 use Rattle.tide_server.proofs.PieceLemmas.{last_read}
 
 -- ---- One step
 
-took : (waiting : List (List (List ℕ))) → 0 < length waiting
+next_by : (waiting : List (List (List ℕ))) → 0 < length waiting
     → (request : List (List ℕ)) × (more : List (List (List ℕ))) × (waiting ≡ request ∷ more)
-took [] some = absurd (omega arith)
-took (request ∷ more) some = (request, more, refl)
+next_by [] some = absurd (omega arith)
+next_by (request ∷ more) some = (request, more, refl)
 
-abbrev taken_at : List (List (List ℕ)) → Traffic → Traffic
-taken_at waiting t = record { waiting = drop 1 waiting; rest = first_or_empty waiting; replies = t.replies ++ [] ∷ [] }
+next_of : (door : DoorState) → 0 < length door.traffic.waiting → IsNext door
+next_of door some =
+    let next = next_by door.traffic.waiting some in record { request = next.0; more = next.1; waiting = next.2 }
 
-pub served_next : (answers : List ℕ → List ℕ → Type 0) (before between after : Traffic) (was still is asked_was asked_is : ℕ)
-    → 0 < length before.waiting → between ≡ taken_by (Ok true) before → still ≡ was
-    → Went answers (concat between.rest) between after still is asked_was asked_is → IsReadAsNeeded between.rest after.rest
-    → ServedNext answers before after was is asked_was asked_is
-served_next answers before between after was still is asked_was asked_is some takes same went read =
-    let first = took before.waiting some in
-    let now : between ≡ taken_at (first.0 ∷ first.1) before = takes ∙ ap (λ w. taken_at w before) first.2 in
-    record {
-      next = record { request = first.0; reply = went.reply; is_cut = went.is_cut; is_asked = went.is_asked };
-      requests = first.2 ∙ ap (λ w. first.0 ∷ w) (sym (went.waiting ∙ ap (λ t. t.waiting) now));
-      replies =
-          went.replies
-          ∙ ap (λ t. append_to_last t.replies went.reply) now
-          ∙ append_last before.replies [] went.reply;
-      held = record {
-        answered = subst (λ (ps : List (List ℕ)). AnswersUnlessCut went.is_cut answers (concat ps) went.reply) (ap (λ t. t.rest) now) went.answered;
-        asked = subst (λ (ps : List (List ℕ)). AsksUnlessCut went.is_cut (concat ps) went.is_asked) (ap (λ t. t.rest) now) went.asks;
+rest_by : (tells : Bool) (t : Traffic) (request : List (List ℕ)) (more : List (List (List ℕ))) → IsTrue tells
+    → t.waiting ≡ request ∷ more → (if tells then taken_by (Ok true) t else t).rest ≡ request
+rest_by true t request more is next = ap first_or_empty next
+rest_by false t request more is next = absurd (cc)
+
+taken_rest : (first now : DoorState) (next : IsNext first) → IsTrue first.tells → now ≡ door_after_next (Ok true) first
+    → now.traffic.rest ≡ next.request
+taken_rest first now next t is = ap (λ d. d.traffic.rest) is ∙ rest_by first.tells first.traffic next.request next.more t next.waiting
+
+tells_on : (before after : Bool) → after ≡ before → IsTrue before → IsTrue after
+tells_on before after same is = subst (λ (b : Bool). IsTrue b) (sym same) is
+
+pub served_next : (stock : Stock) (first now after : DoorState) (clock clock_now : ClockState)
+    → (IsTrue first.tells → 0 < length first.traffic.waiting) → now ≡ door_after_next (Ok true) first
+    → Closed false stock (exchange now clock) (exchange after clock_now) → ServedNext stock (exchange first clock) (exchange after clock_now)
+served_next stock first now after clock clock_now some is closes =
+    let went = closes.went in
+    let tells : IsTrue first.tells → IsTrue now.tells = λ t. tells_on first.tells now.tells (ap (λ d. d.tells) is) t in
+    let keeps : IsTrue first.keeps_pieces → IsTrue now.keeps_pieces =
+    λ k. tells_on first.keeps_pieces now.keeps_pieces (ap (λ d. d.keeps_pieces) is) k in record {
+      talk = went.talk;
+      door = closes.door ∙ ap door_after_close (went.door ∙ ap (talked went.talk) is);
+      clock = went.clock;
+      next = λ t. next_of first (some t);
+      held = λ t k. record {
+        answered =
+            subst (λ (ps : List (List ℕ)). AnswersUnlessCut went.talk.is_cut (Answers stock (next_minute clock)) (concat ps) went.talk.reply)
+            (taken_rest first now (next_of first (some t)) t is) (went.answered (tells t) k);
+        asked =
+            subst (λ (ps : List (List ℕ)). AsksUnlessCut went.talk.is_cut (concat ps) went.talk.is_asked)
+            (taken_rest first now (next_of first (some t)) t is) (went.asked (tells t));
       };
-      read = subst (λ (ps : List (List ℕ)). IsReadAsNeeded ps after.rest) (ap (λ t. t.rest) now) read;
-      lines = went.lines ∙ ap (faults_after went.is_cut) same;
-      asked = went.asked;
+      needed = λ t k.
+          subst (λ (ps : List (List ℕ)). IsReadAsNeeded ps went.talk.left) (taken_rest first now (next_of first (some t)) t is)
+          (went.needed (tells t) (keeps k));
     }
 
-pub left_next : (before between after : Traffic) → 0 < length before.waiting → between ≡ taken_by (Ok true) before
-    → ¬ (concat between.rest ≡ []) → IsQuiet between after → IsReadAsNeeded between.rest after.rest → LeftNext before after
-left_next before between after some takes byte quiet read =
-    let first = took before.waiting some in
-    let now : between ≡ taken_at (first.0 ∷ first.1) before = takes ∙ ap (λ w. taken_at w before) first.2 in
-    record {
-      request = first.0;
-      bytes = λ none. byte (ap (λ t. concat t.rest) now ∙ none);
-      requests = first.2 ∙ ap (λ w. first.0 ∷ w) (sym (quiet.waiting ∙ ap (λ t. t.waiting) now));
-      replies = quiet.replies ∙ ap (λ t. t.replies) now;
-      read = subst (λ (ps : List (List ℕ)). IsReadAsNeeded ps after.rest) (ap (λ t. t.rest) now) read;
+pub left_next : (stock : Stock) (first now after : DoorState) (clock clock_now : ClockState)
+    → (IsTrue first.tells → 0 < length first.traffic.waiting) → now ≡ door_after_next (Ok true) first
+    → Closed true stock (exchange now clock) (exchange after clock_now) → LeftNext (exchange first clock) (exchange after clock_now)
+left_next stock first now after clock clock_now some is closes =
+    let went = closes.went in
+    let tells : IsTrue first.tells → IsTrue now.tells = λ t. tells_on first.tells now.tells (ap (λ d. d.tells) is) t in
+    let keeps : IsTrue first.keeps_pieces → IsTrue now.keeps_pieces =
+    λ k. tells_on first.keeps_pieces now.keeps_pieces (ap (λ d. d.keeps_pieces) is) k in record {
+      left = went.left;
+      door = closes.door ∙ ap door_after_close (unsent_talk now closes.still went.left false true went.door ∙ ap (talked (talk_of went.left [] false true)) is);
+      clock = went.clock;
+      next = λ t. next_of first (some t);
+      byte = λ t none. went.byte (tells t) (ap concat (taken_rest first now (next_of first (some t)) t is) ∙ none);
+      needed = λ t k.
+          subst (λ (ps : List (List ℕ)). IsReadAsNeeded ps went.left) (taken_rest first now (next_of first (some t)) t is)
+          (went.needed (tells t) (keeps k));
     }
+
+with_all : DoorState → Doorway → ℕ → Traffic → DoorState
+with_all d doorway faults traffic = record d { doorway = doorway; traffic = traffic; faults = faults }
+
+pub next_failed : (first after : DoorState) (failed : Failed) → after ≡ door_after_next (Err failed) first → after ≡ door_failed first
+unfolding with_all
+next_failed first after failed is =
+    is ∙ ap (with_all first first.doorway (counted first.faults)) (unread_again first.tells first.traffic)
+
+pub next_over : (first after : DoorState) → after ≡ door_after_next (Ok false) first → after ≡ door_at_end first
+unfolding with_all
+next_over first after is =
+    is ∙ ap (with_all first (door_at_end first).doorway first.faults) (unread_again first.tells first.traffic)
+
+-- ---- What serving leaves as it is
+
+pub none_kept : (before : Exchange) → IsKept false false before before
+none_kept before =
+    record { tells = refl; pieces = refl; faults = refl; asked = before.clock.asked; clock = refl }
+
+with_counts : ClockState → ℕ → ℕ → ClockState
+with_counts clock asked faults = record clock { asked = asked; faults = faults }
+
+clock_asked : (is_asked : Bool) (before now after : ClockState) (asked : ℕ) → now ≡ with_counts before asked before.faults
+    → after ≡ clock_with is_asked now → (count : ℕ) × (after ≡ with_counts before count before.faults)
+unfolding with_counts
+clock_asked true before now after asked so_far is = (counted asked, is ∙ ap (clock_after false) so_far)
+clock_asked false before now after asked so_far is = (asked, is ∙ so_far)
+
+pub kept_on : (stock : Stock) (before now after : Exchange) → IsKept false false before now → ServedNext stock now after
+    → IsKept false false before after
+unfolding with_counts
+kept_on stock before now after kept step =
+    let clock = clock_asked step.talk.is_asked before.clock now.clock after.clock kept.asked kept.clock step.clock in record {
+      tells = ap (λ d. d.tells) step.door ∙ kept.tells;
+      pieces = ap (λ d. d.keeps_pieces) step.door ∙ kept.pieces;
+      faults = ap (λ d. d.faults) step.door ∙ kept.faults;
+      asked = clock.0;
+      clock = clock.1;
+    }
+
+pub kept_left : (before now after : Exchange) → IsKept false false before now → LeftNext now after → IsKept false true before after
+unfolding with_counts
+kept_left before now after kept step = record {
+  tells = ap (λ d. d.tells) step.door ∙ kept.tells;
+  pieces = ap (λ d. d.keeps_pieces) step.door ∙ kept.pieces;
+  faults = ap (λ d. d.faults) step.door ∙ kept.faults;
+  asked = counted kept.asked;
+  clock = step.clock ∙ ap (clock_after true) kept.clock;
+}
+
+pub kept_failed : (before now after : Exchange) → IsKept false false before now
+    → (after.door ≡ door_failed now.door) × (after.clock ≡ now.clock) → IsKept true false before after
+kept_failed before now after kept step = record {
+  tells = ap (λ d. d.tells) step.0 ∙ kept.tells;
+  pieces = ap (λ d. d.keeps_pieces) step.0 ∙ kept.pieces;
+  faults = ap (λ d. d.faults) step.0 ∙ ap counted kept.faults;
+  asked = kept.asked;
+  clock = step.1 ∙ kept.clock;
+}
+
+pub kept_over : (before now after : Exchange) → IsKept false false before now
+    → (after.door ≡ door_at_end now.door) × (after.clock ≡ now.clock) → IsKept false false before after
+kept_over before now after kept step = record {
+  tells = ap (λ d. d.tells) step.0 ∙ kept.tells;
+  pieces = ap (λ d. d.keeps_pieces) step.0 ∙ kept.pieces;
+  faults = ap (λ d. d.faults) step.0 ∙ kept.faults;
+  asked = kept.asked;
+  clock = step.1 ∙ kept.clock;
+}
+
+pub kept_by : (stock : Stock) (outage : Outage) (before now after : Exchange) → IsKept false false before now
+    → StepBy (Err outage) stock now after → IsKept (is_door outage) (is_clock outage) before after
+kept_by stock outages.Door before now after kept step = kept_failed before now after kept step
+kept_by stock outages.Clock before now after kept step = kept_left before now after kept step
 
 -- ---- So many steps
 
-pub none_served : (answers : List ℕ → List ℕ → Type 0) (t : Traffic) (lines asked : ℕ) → WereServed answers 0 t t lines lines asked asked
-none_served answers t lines asked = record {
+pub none_served : (stock : Stock) (before : Exchange) → WereServed stock 0 before before
+unfolding clock_after_all AreHeld
+none_served stock before = record {
   served = [];
   requests = refl;
-  replies = sym (append-nil t.replies);
+  replies = sym (append-nil before.door.traffic.replies);
   counted = refl;
-  held = All-nil (IsHeld answers);
-  read = tt;
+  held = tt;
+  read = λ k. tt;
   cut = inl (omega arith);
-  asked = inl (omega arith);
+  clock = refl;
 }
 
 count_push : {X : Type 0} (p : X → Bool) (xs : List X) (x : X)
@@ -93,32 +194,79 @@ rose_by more before now after false rose is =
 rose_by more before now after true rose is =
     elim rose [ inl r ↦ rose_at (now == 2 ^ 64 - 1) more before now after refl r is | inr last ↦ inr (grind (arith, nat_tests)) ]
 
-pub more_served : (answers : List ℕ → List ℕ → Type 0) (count : ℕ) (before now after : Traffic) (was still is asked_was asked asked_is : ℕ)
-    → WereServed answers count before now was still asked_was asked → ServedNext answers now after still is asked asked_is
-    → WereServed answers (count + 1) before after was is asked_was asked_is
-more_served answers count before now after was still is asked_was asked asked_is so_far step = record {
-  served = so_far.served ++ step.next ∷ [];
-  requests =
-      so_far.requests
-      ∙ ap (λ w. map (λ c. c.request) so_far.served ++ w) step.requests
-      ∙ sym (append_assoc (map (λ c. c.request) so_far.served) (step.next.request ∷ []) after.waiting)
-      ∙ ap (λ w. w ++ after.waiting) (sym (map-append (λ c. c.request) so_far.served (step.next ∷ [])));
-  replies =
-      step.replies
-      ∙ ap (λ rs. rs ++ step.next.reply ∷ []) so_far.replies
-      ∙ append_assoc before.replies (map (λ c. c.reply) so_far.served) (step.next.reply ∷ [])
-      ∙ ap (λ rs. before.replies ++ rs) (sym (map-append (λ c. c.reply) so_far.served (step.next ∷ [])));
-  counted = grind (arith, common_steps, so_far.counted);
-  held = All-push (IsHeld answers) so_far.served step.next so_far.held step.held;
-  read = subst (λ (rs : List (List (List ℕ))). IsLastReadAsNeeded rs after.rest) (sym (map-append (λ c. c.request) so_far.served (step.next ∷ [])))
-      (last_read (map (λ c. c.request) so_far.served) step.next.request after.rest step.read);
-  cut =
-      subst (λ (n : ℕ). RoseBy n was is) (sym (count_push (λ c. c.is_cut) so_far.served step.next))
-      (rose_by (count_by (λ c. c.is_cut) so_far.served) was still is step.next.is_cut so_far.cut step.lines);
-  asked =
-      subst (λ (n : ℕ). RoseBy n asked_was asked_is) (sym (count_push (λ c. c.is_asked) so_far.served step.next))
-      (rose_by (count_by (λ c. c.is_asked) so_far.served) asked_was asked asked_is step.next.is_asked so_far.asked step.asked);
-}
+all_on : (served : List Conversation) (c : Conversation) (clock : ClockState)
+    → clock_after_all (served ++ c ∷ []) clock ≡ clock_with c.is_asked (clock_after_all served clock)
+unfolding clock_after_all
+all_on [] c clock = refl
+all_on (first ∷ more) c clock = all_on more c (clock_with first.is_asked clock)
+
+held_on : (stock : Stock) (served : List Conversation) (c : Conversation) (clock : ClockState) → AreHeld stock clock served
+    → IsHeld stock (next_minute (clock_after_all served clock)) c → AreHeld stock clock (served ++ c ∷ [])
+unfolding clock_after_all AreHeld
+held_on stock [] c clock so_far last = (last, tt)
+held_on stock (first ∷ more) c clock so_far last =
+    (so_far.0, held_on stock more c (clock_with first.is_asked clock) so_far.1 last)
+
+taken_traffic : Talk → Traffic → Traffic
+taken_traffic talk t =
+    record { waiting = drop 1 t.waiting; rest = talk.left; replies = append_to_last (t.replies ++ [] ∷ []) talk.reply }
+
+traffic_by : (tells : Bool) (talk : Talk) (t : Traffic) → IsTrue tells
+    → (if tells then record {
+      waiting = (if tells then taken_by (Ok true) t else t).waiting;
+      rest = talk.left;
+      replies = append_to_last (if tells then taken_by (Ok true) t else t).replies talk.reply;
+    } else (if tells then taken_by (Ok true) t else t))
+    ≡ taken_traffic talk t
+unfolding taken_traffic
+traffic_by true talk t is = refl
+traffic_by false talk t is = absurd (cc)
+
+traffic_with : (talk : Talk) (before after : DoorState) → IsTrue before.tells → after ≡ door_with talk before
+    → after.traffic ≡ taken_traffic talk before.traffic
+traffic_with talk before after t is = ap (λ d. d.traffic) is ∙ traffic_by before.tells talk before.traffic t
+
+pub more_served : (stock : Stock) (count : ℕ) (before now after : Exchange) → IsTrue before.door.tells → IsTrue before.clock.tells
+    → IsKept false false before now → WereServed stock count before now → ServedNext stock now after
+    → WereServed stock (count + 1) before after
+unfolding taken_traffic
+more_served stock count before now after t k kept so_far step =
+    let tells : IsTrue now.door.tells = tells_on before.door.tells now.door.tells kept.tells t in
+    let clock_tells : IsTrue now.clock.tells = tells_on before.clock.tells now.clock.tells (ap (λ c. c.tells) kept.clock) k in
+    let next = step.next tells in
+    let c = conversation next.request step.talk in
+    let traffic = traffic_with step.talk now.door after.door tells step.door in
+    let left : after.door.traffic.waiting ≡ next.more = ap (λ s. s.waiting) traffic ∙ ap (λ w. drop 1 w) next.waiting in record {
+      served = so_far.served ++ c ∷ [];
+      requests =
+          so_far.requests
+          ∙ ap (λ w. map (λ c. c.request) so_far.served ++ w) (next.waiting ∙ ap (λ w. next.request ∷ w) (sym left))
+          ∙ sym (append_assoc (map (λ c. c.request) so_far.served) (next.request ∷ []) after.door.traffic.waiting)
+          ∙ ap (λ w. w ++ after.door.traffic.waiting) (sym (map-append (λ c. c.request) so_far.served (c ∷ [])));
+      replies =
+          ap (λ s. s.replies) traffic
+          ∙ append_last now.door.traffic.replies [] step.talk.reply
+          ∙ ap (λ rs. rs ++ step.talk.reply ∷ []) so_far.replies
+          ∙ append_assoc before.door.traffic.replies (map (λ c. c.reply) so_far.served) (step.talk.reply ∷ [])
+          ∙ ap (λ rs. before.door.traffic.replies ++ rs) (sym (map-append (λ c. c.reply) so_far.served (c ∷ [])));
+      counted = grind (arith, common_steps, so_far.counted);
+      held =
+          held_on stock so_far.served c before.clock so_far.held
+          (subst (λ (clock : ClockState). IsHeld stock (next_minute clock) c) so_far.clock (step.held tells clock_tells));
+      read = λ keeps.
+          let still : IsTrue now.door.keeps_pieces = tells_on before.door.keeps_pieces now.door.keeps_pieces kept.pieces keeps in
+          let needed : IsReadAsNeeded next.request after.door.traffic.rest =
+          subst (λ (ps : List (List ℕ)). IsReadAsNeeded next.request ps) (sym (ap (λ s. s.rest) traffic)) (step.needed tells still) in
+          subst (λ (rs : List (List (List ℕ))). IsLastReadAsNeeded rs after.door.traffic.rest)
+          (sym (map-append (λ c. c.request) so_far.served (c ∷ [])))
+          (last_read (map (λ c. c.request) so_far.served) next.request after.door.traffic.rest needed);
+      cut =
+          subst (λ (n : ℕ). RoseBy n before.door.line_faults after.door.line_faults) (sym (count_push (λ c. c.is_cut) so_far.served c))
+          (rose_by (count_by (λ c. c.is_cut) so_far.served) before.door.line_faults now.door.line_faults after.door.line_faults
+          step.talk.is_cut so_far.cut (ap (λ d. d.line_faults) step.door));
+      clock =
+          step.clock ∙ ap (clock_with step.talk.is_asked) so_far.clock ∙ sym (all_on so_far.served c before.clock);
+    }
 
 -- ---- The end
 
@@ -129,52 +277,60 @@ none_left : (has_failed : Bool) → MayLeave has_failed []
 none_left false = refl
 none_left true = omega arith
 
-rose_still : (more before now after : ℕ) → RoseBy more before now → after ≡ now → RoseBy (more + 0) before after
-rose_still more before now after rose same =
-    elim rose [ inl r ↦ inl (omega (arith, same, r)) | inr last ↦ inr (same ∙ last) ]
-
-pub ended : (answers : List ℕ → List ℕ → Type 0) (has_failed : Bool) (count taken : ℕ) (before now after : Traffic) (was still is clock_was clock_is asked_was asked asked_is : ℕ)
-    → WereServed answers count before now was still asked_was asked → IsStill now after still is asked asked_is → taken ≡ count → clock_is ≡ clock_was
-    → Served answers has_failed taken before after was is clock_was clock_is asked_was asked_is
-ended answers has_failed count taken before now after was still is clock_was clock_is asked_was asked asked_is so_far step all clock = record {
+pub ended : (stock : Stock) (has_failed : Bool) (count : ℕ) (before now after : Exchange) → WereServed stock count before now
+    → after.door.traffic ≡ now.door.traffic → after.door.line_faults ≡ now.door.line_faults → after.clock ≡ now.clock
+    → after.door.doorway.taken ≡ count → Served stock has_failed before after
+ended stock has_failed count before now after so_far traffic lines clock all = record {
   served = so_far.served;
   left = [];
   requests =
       so_far.requests
-      ∙ ap (λ t. map (λ c. c.request) so_far.served ++ t.waiting) (sym step.traffic)
-      ∙ ap (λ w. w ++ after.waiting) (sym (append-nil (map (λ c. c.request) so_far.served)));
-  replies = ap (λ t. t.replies) step.traffic ∙ so_far.replies ∙ sym (append-nil (before.replies ++ map (λ c. c.reply) so_far.served));
+      ∙ ap (λ t. map (λ c. c.request) so_far.served ++ t.waiting) (sym traffic)
+      ∙ ap (λ w. w ++ after.door.traffic.waiting) (sym (append-nil (map (λ c. c.request) so_far.served)));
+  replies =
+      ap (λ t. t.replies) traffic ∙ so_far.replies
+      ∙ sym (append-nil (before.door.traffic.replies ++ map (λ c. c.reply) so_far.served));
   counted = omega (arith, all, so_far.counted);
   held = so_far.held;
-  read = rw (append-nil (map (λ c. c.request) so_far.served), step.traffic) so_far.read;
-  cut = subst (λ (n : ℕ). RoseBy (count_by (λ c. c.is_cut) so_far.served) was n) (sym step.lines) so_far.cut;
-  asked = rose_still (count_by (λ c. c.is_asked) so_far.served) asked_was asked asked_is so_far.asked step.asked;
+  read = λ keeps. rw (append-nil (map (λ c. c.request) so_far.served), traffic) (so_far.read keeps);
+  cut =
+      subst (λ (n : ℕ). RoseBy (count_by (λ c. c.is_cut) so_far.served) before.door.line_faults n) (sym lines) so_far.cut;
+  clock = clock ∙ so_far.clock;
   last = none_left has_failed;
   bytes = All-nil HasByte;
-  clock = clock;
 }
 
-pub broken : (answers : List ℕ → List ℕ → Type 0) (count taken : ℕ) (before now after : Traffic) (was still is clock_was clock_is asked_was asked asked_is : ℕ)
-    → WereServed answers count before now was still asked_was asked → LeftNext now after → is ≡ still → asked_is ≡ counted asked
-    → taken ≡ count + 1 → clock_is ≡ counted clock_was
-    → Served answers true taken before after was is clock_was clock_is asked_was asked_is
-broken answers count taken before now after was still is clock_was clock_is asked_was asked asked_is so_far step same asks all clock = record {
-  served = so_far.served;
-  left = step.request ∷ [];
-  requests =
-      so_far.requests
-      ∙ ap (λ w. map (λ c. c.request) so_far.served ++ w) step.requests
-      ∙ sym (append_assoc (map (λ c. c.request) so_far.served) (step.request ∷ []) after.waiting);
-  replies = step.replies ∙ ap (λ rs. rs ++ [] ∷ []) so_far.replies;
-  counted = omega (arith, all, so_far.counted);
-  held = so_far.held;
-  read = last_read (map (λ c. c.request) so_far.served) step.request after.rest step.read;
-  cut = subst (λ (n : ℕ). RoseBy (count_by (λ c. c.is_cut) so_far.served) was n) (sym same) so_far.cut;
-  asked = rose_by (count_by (λ c. c.is_asked) so_far.served) asked_was asked asked_is true so_far.asked asks;
-  last = omega arith;
-  bytes = All-push HasByte [] step.request (All-nil HasByte) step.bytes;
-  clock = clock;
-}
+broken : (stock : Stock) (count : ℕ) (before now after : Exchange) → IsTrue before.door.tells → IsKept false false before now
+    → WereServed stock count before now → LeftNext now after → after.door.doorway.taken ≡ count + 1 → Served stock true before after
+unfolding taken_traffic
+broken stock count before now after t kept so_far step all =
+    let tells : IsTrue now.door.tells = tells_on before.door.tells now.door.tells kept.tells t in
+    let next = step.next tells in
+    let talk : Talk = record { left = step.left; reply = []; is_cut = false; is_asked = true } in
+    let traffic = traffic_with talk now.door after.door tells step.door in
+    let left : after.door.traffic.waiting ≡ next.more = ap (λ s. s.waiting) traffic ∙ ap (λ w. drop 1 w) next.waiting in record {
+      served = so_far.served;
+      left = next.request ∷ [];
+      requests =
+          so_far.requests
+          ∙ ap (λ w. map (λ c. c.request) so_far.served ++ w) (next.waiting ∙ ap (λ w. next.request ∷ w) (sym left))
+          ∙ sym (append_assoc (map (λ c. c.request) so_far.served) (next.request ∷ []) after.door.traffic.waiting);
+      replies =
+          ap (λ s. s.replies) traffic ∙ append_last now.door.traffic.replies [] [] ∙ ap (λ rs. rs ++ [] ∷ []) so_far.replies;
+      counted = omega (arith, all, so_far.counted);
+      held = so_far.held;
+      read = λ keeps.
+          let still : IsTrue now.door.keeps_pieces = tells_on before.door.keeps_pieces now.door.keeps_pieces kept.pieces keeps in
+          let needed : IsReadAsNeeded next.request after.door.traffic.rest =
+          subst (λ (ps : List (List ℕ)). IsReadAsNeeded next.request ps) (sym (ap (λ s. s.rest) traffic)) (step.needed tells still) in
+          last_read (map (λ c. c.request) so_far.served) next.request after.door.traffic.rest needed;
+      cut =
+          subst (λ (n : ℕ). RoseBy (count_by (λ c. c.is_cut) so_far.served) before.door.line_faults n)
+          (sym (ap (λ d. d.line_faults) step.door)) so_far.cut;
+      clock = step.clock ∙ ap (clock_after true) so_far.clock;
+      last = omega arith;
+      bytes = All-push HasByte [] next.request (All-nil HasByte) (step.byte tells);
+    }
 
 counted_by : (last : Bool) (count : ℕ) → (count == 2 ^ 64 - 1) ≡ last → count < 2 ^ 64 - 1 → counted count ≡ count + 1
 counted_by true count is few = absurd (grind (arith, nat_tests))
@@ -187,21 +343,19 @@ pub next_serving : (port count : ℕ) (after : Doorway) → count < 2 ^ 64 - 1 �
     → after ≡ serving port (count + 1)
 next_serving port count after few is = is ∙ ap (serving port) (counted_on count few)
 
-pub failed : (answers : List ℕ → List ℕ → Type 0) (outage : Outage) (port count : ℕ) (door : Doorway) (before now after : Traffic)
-    (was still is clock_was clock_is asked_was asked asked_is : ℕ) → count < 2 ^ 64 - 1 → WereServed answers count before now was still asked_was asked
-    → StepBy (Err outage) answers now after still is asked asked_is → door ≡ doorway_after (Err outage) (serving port count)
-    → clock_is ≡ faults_after (is_clock outage) clock_was
-    → Served answers true door.taken before after was is clock_was clock_is asked_was asked_is
-failed answers outages.Door port count door before now after was still is clock_was clock_is asked_was asked asked_is few so_far step there clock =
-    ended answers true count door.taken before now after was still is clock_was clock_is asked_was asked asked_is so_far step (ap (λ d. d.taken) there) clock
-failed answers outages.Clock port count door before now after was still is clock_was clock_is asked_was asked asked_is few so_far step there clock =
-    broken answers count door.taken before now after was still is clock_was clock_is asked_was asked asked_is so_far step.0 step.1 step.2
-    (ap (λ d. d.taken) there ∙ counted_on count few) clock
+pub failed : (stock : Stock) (outage : Outage) (count : ℕ) (before now after : Exchange) → IsTrue before.door.tells → count < 2 ^ 64 - 1
+    → now.door.doorway.taken ≡ count → IsKept false false before now → WereServed stock count before now
+    → StepBy (Err outage) stock now after → Served stock true before after
+failed stock outages.Door count before now after t few taken kept so_far step =
+    ended stock true count before now after so_far (ap (λ d. d.traffic) step.0) (ap (λ d. d.line_faults) step.0) step.1
+    (ap (λ d. d.doorway.taken) step.0 ∙ taken)
+failed stock outages.Clock count before now after t few taken kept so_far step =
+    broken stock count before now after t kept so_far step
+    (ap (λ d. d.doorway.taken) step.door ∙ ap counted taken ∙ counted_on count few)
 
 -- where nobody was served
-pub nobody : (answers : List ℕ → List ℕ → Type 0) (has_failed : Bool) (taken : ℕ) (before after : Traffic) (was is clock_was clock_is asked_was asked_is : ℕ)
-    → IsStill before after was is asked_was asked_is → taken ≡ 0 → clock_is ≡ clock_was
-    → Served answers has_failed taken before after was is clock_was clock_is asked_was asked_is
-nobody answers has_failed taken before after was is clock_was clock_is asked_was asked_is still none clock =
-    ended answers has_failed 0 taken before before after was was is clock_was clock_is asked_was asked_was asked_is
-    (none_served answers before was asked_was) still none clock
+pub nobody : (stock : Stock) (has_failed : Bool) (before after : Exchange) → after.door.traffic ≡ before.door.traffic
+    → after.door.line_faults ≡ before.door.line_faults → after.clock ≡ before.clock → after.door.doorway.taken ≡ 0
+    → Served stock has_failed before after
+nobody stock has_failed before after traffic lines clock none =
+    ended stock has_failed 0 before before after (none_served stock before) traffic lines clock none

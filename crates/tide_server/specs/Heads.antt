@@ -6,6 +6,7 @@ use Rattle.std.specs.Str.{str_eq_ignore_ascii_case}
 use Rattle.httparse.specs.Ascii.{line_feed, crlf_bytes}
 use Rattle.httparse.specs.Grammar.{RequestHead, ReadsRequest}
 use Rattle.httparse.specs.Spans.{name_and_value}
+use Rattle.tide_server.specs.declared.limits.TheConstants.{MOST_FIELDS, MOST_HEAD}
 
 -- how long the empty line at the front is: LF, or CR LF
 unfoldable pub empty_line : List ℕ → Option ℕ
@@ -19,9 +20,9 @@ head_length [] = None
 head_length (b ∷ bytes) =
     option_map (λ n. n + 1) (if b == line_feed && is_some (empty_line bytes) then empty_line bytes else head_length bytes)
 
--- the head of a request ends within its first 8,192 bytes
+-- the head of a request ends within the most bytes that it may have
 abbrev pub head_end : List ℕ → Option ℕ
-head_end request = head_length (take 8192 request)
+head_end request = head_length (take MOST_HEAD request)
 
 abbrev pub line_feeds : List ℕ → ℕ
 line_feeds bytes = count_by (λ b. b == line_feed) bytes
@@ -49,8 +50,8 @@ pub record Head : Type 0 where
   pub target : List ℕ
   pub minor : ℕ
   pub host : Occurs
-  pub size : Occurs
-  pub coding : Occurs
+  pub content_length : Occurs
+  pub transfer_coding : Occurs
 
 abbrev pub head_of : List ℕ → List ℕ → ℕ → List (List ℕ × List ℕ) → Head
 head_of method target minor fields = record {
@@ -58,13 +59,13 @@ head_of method target minor fields = record {
   target = target;
   minor = minor;
   host = occurs (codes "host") fields;
-  size = occurs (codes "content-length") fields;
-  coding = occurs (codes "transfer-encoding") fields;
+  content_length = occurs (codes "content-length") fields;
+  transfer_coding = occurs (codes "transfer-encoding") fields;
 }
 
--- What bytes read as: the head of the crate's grammar that they are to their last byte, if it has at most 64 fields.
+-- What bytes read as: the head of the crate's grammar that they are to their last byte, unless it has too many fields.
 abbrev pub ReadsAs : List ℕ → Option Head → Type 0
-ReadsAs bytes None = (h : RequestHead) → ReadsRequest bytes h [] → 64 < length h.fields
+ReadsAs bytes None = (h : RequestHead) → ReadsRequest bytes h [] → MOST_FIELDS < length h.fields
 ReadsAs bytes (Some head) =
-    (h : RequestHead) × ReadsRequest bytes h [] × (length h.fields ≤ 64)
+    (h : RequestHead) × ReadsRequest bytes h [] × (length h.fields ≤ MOST_FIELDS)
     × (head ≡ head_of h.method h.target h.minor (map name_and_value h.fields))

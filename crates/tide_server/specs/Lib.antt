@@ -1,5 +1,7 @@
 pub mod Heads
+pub mod Laws
 pub mod Openings
+pub mod Paths
 pub mod Queries
 pub mod Replies
 pub mod Responses

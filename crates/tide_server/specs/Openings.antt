@@ -1,5 +1,5 @@
 -- What a server serves from, and how it ends (this project).
-use Rattle.std.specs.Prelude.{◌≡◌, ◌⊎◌, ℕ, Bool, false, not, if◌then◌else◌, List, [], ◌∷◌, ◌++◌, codes, count_by, decimal, Option, Some, None, Result, Ok, Err}
+use Rattle.std.specs.Prelude.{◌≡◌, ◌⊎◌, ℕ, Bool, true, false, IsTrue, not, if◌then◌else◌, List, [], ◌∷◌, ◌++◌, codes, count_by, decimal, Option, Some, None, Result, Ok, Err}
 use Rattle.std.specs.Option.{option_map_or}
 use Rattle.std.specs.Str.{bytes_eq}
 use Rattle.decimal_text.specs.Expected.{◌>>=◌}
@@ -15,16 +15,19 @@ use Rattle.tide_fault.specs.declared.fault.Fault.TheVariants.{Ask}
 use Rattle.tide_fault.specs.declared.slot.Slot.TheVariants as slots
 use Rattle.tide_fault.specs.declared.status.Status.{Status}
 use Rattle.tide_fault.specs.declared.status.Status.TheVariants.{Done, ReadFault, NoMemory}
-use Rattle.tide_edge.specs.Doors.{Doorway}
+use Rattle.tide_edge.specs.Clocks.{ClockState}
+use Rattle.tide_edge.specs.Doors.{Doorway, DoorState}
 use Rattle.tide_edge.specs.Excuses.{Excuses}
 use Rattle.tide_edge.specs.Faults.{faults_after}
-use Rattle.tide_desk.specs.Answers.{ask_from}
-use Rattle.tide_desk.specs.declared.no_answer.NoAnswer.{NoAnswer}
-use Rattle.tide_desk.specs.declared.no_answer.NoAnswer.TheVariants.{Told}
-use Rattle.tide_desk.specs.NoAnswers.{told, status_of, line_of, source_of}
-use Rattle.tide_desk.specs.Outcomes.{Stands}
-use Rattle.tide_desk.specs.Readings.{Folders, book_named, table_named}
+use Rattle.tide_edge.specs.FileStates.{FilesState, Folder}
+use Rattle.tide_edge.specs.SinkStates.{SinkState, WroteBoth}
+use Rattle.tide_edge.specs.Whole.{Allowance, both, no_file}
+use Rattle.named_files.specs.declared.no_answer.NoAnswer.{NoAnswer}
+use Rattle.named_files.specs.declared.no_answer.NoAnswer.TheVariants.{Told}
+use Rattle.named_files.specs.NoAnswers.{told, status_of, line_of, source_of}
+use Rattle.named_files.specs.Readings.{Folders, allowed_for, book_named, table_named}
 use Rattle.tide_server.specs.declared.stock.Stock.{Stock}
+use Rattle.tide_server.specs.Serving.{Served, exchange}
 
 -- ---- The words
 
@@ -35,9 +38,13 @@ asks_another pairs = option_map_or (λ word. not (bytes_eq word (codes "serve"))
 abbrev pub service_in : Pairs → Result Question AskFault
 service_in pairs = if asks_another pairs then Err UnknownCommand else question_of pairs
 
+abbrev pub service_from : Result Question AskFault → Result Question Fault
+service_from (Ok question) = Ok question
+service_from (Err fault) = Err (Ask fault)
+
 -- what the words ask of a server
 unfoldable pub service_of : List (List ℕ) → Result Question Fault
-service_of words = ask_from (service_in (pairs_of words))
+service_of words = service_from (service_in (pairs_of words))
 
 -- ---- The files, the first of this name
 
@@ -52,11 +59,20 @@ abbrev pub stock_by : Folders → Question → Option (List ℕ) → Result Stoc
 stock_by folders question None = Err (Told (Ask (MissingKey keys.File)))
 stock_by folders question (Some name) = stock_named folders question name
 
--- what the words ask to serve from
+-- what the words ask to serve from, where each file is read from a folder of its own
 unfoldable pub stock_from : Folders → List (List ℕ) → Result Stock NoAnswer
 stock_from folders words = do
   question ← told (service_of words)
   stock_by folders question question.file
+
+-- the same from one folder
+abbrev pub stock_of : Folder → List (List ℕ) → Result Stock NoAnswer
+stock_of folder words = stock_from (λ slot. folder) words
+
+-- what may be read of the files that the words name
+abbrev pub files_asked : Result Question Fault → Allowance
+files_asked (Ok question) = both (allowed_for slots.File question.file) (allowed_for slots.Offsets question.offsets)
+files_asked (Err fault) = no_file
 
 -- ---- What is told on standard error
 
@@ -67,61 +83,71 @@ notice_of port = codes "http://127.0.0.1:" ++ decimal port ++ codes "/\n"
 abbrev pub notice_at : ℕ → Doorway → List ℕ
 notice_at port door = if door.listens then notice_of port else []
 
--- Two texts were written one after the other: the sink's count of faults is one more for each that failed, and where the sink tells
--- what it has taken, they stand there.
-pub record WroteBoth (tells still_tells : Type 0) (before after : List ℕ) (was is : ℕ) (first second : List ℕ) : Type 0 where
-  pub first_failed : Bool
-  pub second_failed : Bool
-  pub count : is ≡ faults_after second_failed (faults_after first_failed was)
-  pub told : tells → still_tells
-  pub stands : tells → (between : List ℕ) × Stands first_failed first before between × Stands second_failed second between after
-
 -- a fault has its status and its line, unless telling it wanted memory
 abbrev pub IsSaid : NoAnswer → Status → List ℕ → Type 0
 IsSaid why status line = ((status ≡ status_of why) × (line ≡ line_of why)) ⊎ ((status ≡ NoMemory) × (line ≡ codes "no memory\n"))
 
 -- ---- How a server ends
 
+-- what a server is handed, and how it leaves it
+pub record Handed : Type 0 where
+  pub files : FilesState
+  pub door : DoorState
+  pub err : SinkState
+  pub clock : ClockState
+
+abbrev pub handed : FilesState → DoorState → SinkState → ClockState → Handed
+handed files door err clock = record { files = files; door = door; err = err; clock = clock }
+
 -- Nobody was served, for want of what to serve from: `why` is the expected fault, save that want of memory says nothing, nor does a
--- fault of reading over files that aren't steady. The door was never asked to listen. `err` says of two texts that they were written.
-pub record IsRefused (steady : Bool) (expected : Result Stock NoAnswer) (status : Status) (door : Doorway) (err : List ℕ → List ℕ → Type 0) : Type 0 where
+-- fault of reading where the files didn't stand firm. The door was never asked to listen, and the clock never asked.
+pub record IsRefused (firm : Type 0) (expected : Result Stock NoAnswer) (status : Status) (before after : Handed) : Type 0 where
   pub why : NoAnswer
-  pub excused : Excuses (source_of why) steady expected why
+  pub excused : Excuses (source_of why) firm expected why
   pub line : List ℕ
   pub said : IsSaid why status line
-  pub unasked : door.port ≡ None
-  pub wrote : err [] line
+  pub wrote : WroteBoth before.err after.err [] line
+  pub door : after.door ≡ before.door
+  pub clock : after.clock ≡ before.clock
+
+abbrev pub is_read_fault : Status → Bool
+is_read_fault ReadFault = true
+is_read_fault _ = false
 
 -- the line of the end
 abbrev pub end_line : Status → List ℕ
 end_line Done = []
 end_line _ = codes "read fault\n"
 
--- The door was asked to listen at the port, and connections were served until the end of them or a fault.
-pub record HasListened (stock : Stock) (status : Status) (door : Doorway) (serves : Type 0) (err : List ℕ → List ℕ → Type 0) : Type 0 where
-  pub asked : door.port ≡ Some stock.port
+-- The door was asked to listen at the port, and connections were served until the end of them or a fault: that says something where
+-- door and clock tell. What was told says first where the server listens.
+pub record HasListened (stock : Stock) (status : Status) (before after : Handed) : Type 0 where
+  pub asked : after.door.doorway.port ≡ Some stock.port
   pub ends : (status ≡ Done) ⊎ (status ≡ ReadFault)
-  pub served : serves
-  pub wrote : err (notice_at stock.port door) (end_line status)
+  pub served : IsTrue before.door.tells → IsTrue before.clock.tells
+      → Served stock (is_read_fault status) (exchange before.door before.clock) (exchange after.door after.clock)
+  pub wrote : WroteBoth before.err after.err (notice_at stock.port after.door.doorway) (end_line status)
 
 -- it was refused, or has listened for what it was expected to serve from
-abbrev pub EndsAs : Bool → Result Stock NoAnswer → Status → Doorway → (Stock → Type 0) → (List ℕ → List ℕ → Type 0) → Type 0
-EndsAs steady expected status door served err =
-    IsRefused steady expected status door err
-    ⊎ ((stock : Stock) × (expected ≡ Ok stock) × HasListened stock status door (served stock) err)
+abbrev pub EndsAs : Type 0 → Result Stock NoAnswer → Status → Handed → Handed → Type 0
+EndsAs firm expected status before after =
+    IsRefused firm expected status before after ⊎ ((stock : Stock) × (expected ≡ Ok stock) × HasListened stock status before after)
 
 -- ---- Where a fault of reading comes from
 
 -- A server ends with a fault of reading exactly where the files, the clock or the door has failed, one of them and once: its count is
--- one more, and the others are as before.
-pub record EndedBy (has_failed : Bool) (files_was files_is clock_was clock_is door_was door_is : ℕ) : Type 0 where
+-- one more, and the others are as before. What door and clock tell of themselves stays.
+pub record EndedBy (has_failed : Bool) (before after : Handed) : Type 0 where
   pub files : Bool
   pub clock : Bool
   pub door : Bool
   pub one : count_by (λ failed. failed) (files ∷ clock ∷ door ∷ []) ≡ (if has_failed then 1 else 0)
-  pub files_count : files_is ≡ faults_after files files_was
-  pub clock_count : clock_is ≡ faults_after clock clock_was
-  pub door_count : door_is ≡ faults_after door door_was
+  pub files_count : after.files.faults ≡ faults_after files before.files.faults
+  pub door_count : after.door.faults ≡ faults_after door before.door.faults
+  pub door_tells : after.door.tells ≡ before.door.tells
+  pub door_pieces : after.door.keeps_pieces ≡ before.door.keeps_pieces
+  pub asked : ℕ
+  pub clock_state : after.clock ≡ record before.clock { asked = asked; faults = faults_after clock before.clock.faults }
 
 -- ---- The whole objects
 

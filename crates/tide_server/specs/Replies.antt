@@ -16,7 +16,7 @@ use Rattle.tide_fault.specs.declared.refusal.Refusal.{Refusal}
 use Rattle.tide_answer.specs.declared.text.Answer.{Answer}
 use Rattle.tide_answer.specs.Answers.{answered}
 use Rattle.tide_fault.specs.Faults.{line_of}
-use Rattle.tide_desk.specs.Readings.{zone_file}
+use Rattle.named_files.specs.Readings.{zone_file}
 use Rattle.zone_time.specs.declared.zone.Zone.{Zone}
 use Rattle.zone_time.specs.declared.zone.Zone.TheVariants.{Utc, Fixed}
 use Rattle.tide_server.specs.declared.code.Code.{Code}

@@ -82,5 +82,8 @@ is_bodiless (rejects rejection bodiless) = bodiless
 is_bodiless (asks asking) = asking.bodiless
 
 -- the reply that stands for any other one where memory is wanting
+abbrev pub unavailable_to : Bool → List ℕ
+unavailable_to bodiless = response code.Unavailable (codes "text/plain") [] (codes "no memory\n") bodiless
+
 abbrev pub unavailable_of : Row → List ℕ
-unavailable_of row = response code.Unavailable (codes "text/plain") [] (codes "no memory\n") (is_bodiless row)
+unavailable_of row = unavailable_to (is_bodiless row)

@@ -1,11 +1,14 @@
 -- Which row of the table of statuses answers a request (RFC 9110, sections 9 and 15; RFC 9112, sections 2, 3 and 6; the paths
 -- and the order are this project's).
-use Rattle.std.specs.Prelude.{◌≡◌, ℕ, ◌+◌, ◌==◌, nat_lt, nat_le, Bool, true, false, not, ◌&&◌, ◌||◌, if◌then◌else◌, List, [], ◌∷◌, ◌++◌, length, take, drop, Option, Some, None, is_none, codes}
-use Rattle.std.specs.List.{list_all, list_any, position_or_len, starts_with}
-use Rattle.std.specs.Char.{is_ascii_digit}
+use Rattle.std.specs.Prelude.{◌≡◌, ℕ, ◌+◌, ◌==◌, nat_lt, nat_le, Bool, true, false, not, ◌&&◌, ◌||◌, if◌then◌else◌, List, [], ◌∷◌, ◌++◌, length, take, drop, Option, Some, None, is_none, unwrap_or, codes}
+use Rattle.std.specs.List.{position_or_len, starts_with}
+use Rattle.std.specs.Option.{option_map_or}
 use Rattle.std.specs.Str.{bytes_eq}
-use Rattle.std.specs.Str.Parse.{digits_value}
+use Rattle.decimal_text.specs.Digits.{digits_of}
 use Rattle.tide_server.specs.Heads.{Head, head_end, line_feeds, ReadsAs}
+use Rattle.tide_server.specs.Paths.{is_posted, path_named}
+use Rattle.tide_server.specs.declared.limits.TheConstants.{MOST_BODY, MOST_DIGITS, MOST_HEAD, MOST_LINES}
+use Rattle.tide_server.specs.declared.path.Path.{Path}
 use Rattle.tide_server.specs.declared.rejection.Rejection.{Rejection}
 use Rattle.tide_server.specs.declared.rejection.Rejection.TheVariants.{HeadTooLarge, HeadCutShort, BadRequest, NotFound, WantsGet, WantsPost, LengthRequired, BodyTooLarge, BodyCutShort}
 
@@ -16,18 +19,14 @@ path_of target = take (position_or_len (λ b. b == 63) target) target
 abbrev pub query_of : List ℕ → List ℕ
 query_of target = drop (position_or_len (λ b. b == 63) target + 1) target
 
--- the paths for GET and HEAD
-abbrev pub is_read_path : List ℕ → Bool
-is_read_path path =
-    list_any (λ known. bytes_eq path known)
-    (codes "/predict" ∷ codes "/certify" ∷ codes "/heights" ∷ codes "/calendar" ∷ codes "/clock" ∷ codes "/stations" ∷ [])
+abbrev pub path_in : Head → Option Path
+path_in head = path_named (path_of head.target)
 
--- the path for POST
-abbrev pub is_post_path : List ℕ → Bool
-is_post_path path = bytes_eq path (codes "/check")
+abbrev pub wants_get : Head → Bool
+wants_get head = option_map_or (λ path. not (is_posted path)) (path_in head) false
 
-abbrev pub is_known_path : List ℕ → Bool
-is_known_path path = is_read_path path || is_post_path path
+abbrev pub wants_post : Head → Bool
+wants_post head = option_map_or is_posted (path_in head) false
 
 abbrev pub is_head : Head → Bool
 is_head head = bytes_eq head.method (codes "HEAD")
@@ -38,27 +37,28 @@ is_read head = bytes_eq head.method (codes "GET") || is_head head
 abbrev pub is_post : Head → Bool
 is_post head = bytes_eq head.method (codes "POST")
 
--- a length is 1 to 18 digits
-abbrev pub is_size : List ℕ → Bool
-is_size value = nat_lt 0 (length value) && nat_le (length value) 18 && list_all is_ascii_digit value
+-- how long the body is to be: one field says it by digits alone, and no transfer coding says it otherwise
+abbrev pub length_in : Head → Option ℕ
+length_in head =
+    if nat_lt 1 head.content_length.count || nat_lt 0 head.transfer_coding.count then None
+    else digits_of MOST_DIGITS head.content_length.first
 
--- how long the body is to be
-abbrev pub size_of : Head → ℕ
-size_of head = digits_value 10 head.size.first
+abbrev pub length_of : Head → ℕ
+length_of head = unwrap_or (length_in head) 0
 
 -- ---- the table, in its order
 
 -- of a request whose head hasn't ended
 abbrev pub unended_rows : List ℕ → List (Bool × Rejection)
 unended_rows request =
-    (nat_le 8192 (length request), HeadTooLarge)
+    (nat_le MOST_HEAD (length request), HeadTooLarge)
     ∷ (true, HeadCutShort)
     ∷ []
 
 -- of a head that has ended, and of what it reads as
 abbrev pub head_rows : List ℕ → Option Head → List (Bool × Rejection)
 head_rows bytes read =
-    (nat_lt 66 (line_feeds bytes), HeadTooLarge)
+    (nat_lt MOST_LINES (line_feeds bytes), HeadTooLarge)
     ∷ (is_none read, BadRequest)
     ∷ []
 
@@ -67,18 +67,18 @@ abbrev pub field_rows : Head → List (Bool × Rejection)
 field_rows head =
     (nat_lt 1 head.host.count || (head.minor == 1 && (head.host.count == 0)), BadRequest)
     ∷ (not (starts_with (λ a b. a == b) head.target (codes "/")), BadRequest)
-    ∷ (not (is_known_path (path_of head.target)), NotFound)
-    ∷ (is_read_path (path_of head.target) && not (is_read head), WantsGet)
-    ∷ (is_post_path (path_of head.target) && not (is_post head), WantsPost)
-    ∷ (is_post head && (head.size.count == 0), LengthRequired)
-    ∷ (is_post head && (nat_lt 1 head.size.count || not (is_size head.size.first) || nat_lt 0 head.coding.count), BadRequest)
-    ∷ (is_post head && nat_lt 4194304 (size_of head), BodyTooLarge)
+    ∷ (is_none (path_in head), NotFound)
+    ∷ (wants_get head && not (is_read head), WantsGet)
+    ∷ (wants_post head && not (is_post head), WantsPost)
+    ∷ (is_post head && (head.content_length.count == 0), LengthRequired)
+    ∷ (is_post head && is_none (length_in head), BadRequest)
+    ∷ (is_post head && nat_lt MOST_BODY (length_of head), BodyTooLarge)
     ∷ []
 
 -- of the bytes behind the head
 abbrev pub body_rows : Head → List ℕ → List (Bool × Rejection)
 body_rows head rest =
-    (is_post head && nat_lt (length rest) (size_of head), BodyCutShort)
+    (is_post head && nat_lt (length rest) (length_of head), BodyCutShort)
     ∷ []
 
 -- the first row whose condition holds
@@ -104,7 +104,7 @@ abbrev pub asking : Head → List ℕ → Asking
 asking head rest = record {
   path = path_of head.target;
   query = query_of head.target;
-  body = (if is_post head then take (size_of head) rest else []);
+  body = (if is_post head then take (length_of head) rest else []);
   bodiless = is_head head;
 }
 

@@ -1,12 +1,14 @@
 -- Who was served, and with what (this project).
-use Rattle.std.specs.Prelude.{◌≡◌, ◌⊎◌, ◌≤◌, ◌+◌, ◌-◌, ◌^◌, ℕ, ℤ, Bool, true, false, IsTrue, List, [], ◌∷◌, ◌++◌, length, map, take, All, count_by, nat_lt, None}
+use Rattle.std.specs.Prelude.{◌≡◌, ◌⊎◌, ◌≤◌, ◌+◌, ◌-◌, ◌^◌, ℕ, ℤ, Bool, true, false, IsTrue, if◌then◌else◌, List, [], ◌∷◌, ◌++◌, length, map, take, All, count_by, nat_lt, None}
 use Rattle.std.specs.List.{concat}
-use Rattle.tide_edge.specs.Doors.{Doorway, Traffic, first_or_empty, left_after}
-use Rattle.tide_edge.specs.Faults.{faults_after}
+use Rattle.tide_edge.specs.Clocks.{ClockState, clock_after, next_minute}
+use Rattle.tide_edge.specs.Doors.{Doorway, DoorState, first_or_empty, left_after}
 use Rattle.tide_server.specs.declared.stock.Stock.{Stock}
 use Rattle.tide_server.specs.Replies.{IsReply}
 use Rattle.tide_server.specs.Responses.{fixed_of, unavailable_of}
 use Rattle.tide_server.specs.Rows.{Row, IsRow, is_settled}
+
+-- ---- One connection
 
 -- the response for want of memory stands for a reply that isn't a fixed one
 abbrev pub IsUnavailable : List ℕ → List ℕ → Type 0
@@ -41,9 +43,27 @@ pub record Conversation : Type 0 where
   pub is_cut : Bool
   pub is_asked : Bool
 
-pub record IsHeld (answers : List ℕ → List ℕ → Type 0) (c : Conversation) : Type 0 where
-  pub answered : AnswersUnlessCut c.is_cut answers (concat c.request) c.reply
+-- it was held at a minute
+pub record IsHeld (stock : Stock) (minute : ℤ) (c : Conversation) : Type 0 where
+  pub answered : AnswersUnlessCut c.is_cut (Answers stock minute) (concat c.request) c.reply
   pub asked : AsksUnlessCut c.is_cut (concat c.request) c.is_asked
+
+-- ---- One after the other
+
+-- the clock after a conversation, for which it is asked once or not at all
+abbrev pub clock_with : Bool → ClockState → ClockState
+clock_with is_asked clock = if is_asked then clock_after false clock else clock
+
+pub clock_after_all : List Conversation → ClockState → ClockState
+clock_after_all [] clock = clock
+clock_after_all (c ∷ more) clock = clock_after_all more (clock_with c.is_asked clock)
+
+-- each was held at the minute that the clock gives at the asking for it
+pub AreHeld : Stock → ClockState → List Conversation → Type 0
+AreHeld stock clock [] = Unit {0}
+AreHeld stock clock (c ∷ more) = IsHeld stock (next_minute clock) c × AreHeld stock (clock_with c.is_asked clock) more
+
+-- ---- How far they are read
 
 -- the bytes that came so far settle their row
 abbrev pub IsEnough : List ℕ → Type 0
@@ -64,6 +84,16 @@ IsLastReadAsNeeded [] left = Unit {0}
 IsLastReadAsNeeded (request ∷ []) left = IsReadAsNeeded request left
 IsLastReadAsNeeded (request ∷ next ∷ more) left = IsLastReadAsNeeded (next ∷ more) left
 
+-- ---- All of them
+
+-- what conversations go over
+pub record Exchange : Type 0 where
+  pub door : DoorState
+  pub clock : ClockState
+
+abbrev pub exchange : DoorState → ClockState → Exchange
+exchange door clock = record { door = door; clock = clock }
+
 -- a count rose by so many, unless it stands at its last value
 abbrev pub RoseBy : ℕ → ℕ → ℕ → Type 0
 RoseBy more before now = (now ≡ before + more) ⊎ (now ≡ 2 ^ 64 - 1)
@@ -77,19 +107,25 @@ abbrev pub MayLeave : Bool → List (List (List ℕ)) → Type 0
 MayLeave false left = left ≡ []
 MayLeave true left = length left ≤ 1
 
+-- where a connection was left the clock has failed for it
+abbrev pub clock_at_end : List (List (List ℕ)) → ClockState → ClockState
+clock_at_end [] clock = clock
+clock_at_end (request ∷ more) clock = clock_after true clock
+
 -- Connections were served one after the other, in the order in which they waited, and each has its reply. As many were cut short
 -- as the count of the lines' faults rose by. One was left exactly where the clock has failed, and it has a byte. The clock was asked
--- once for each connection that it is asked for.
-pub record Served (answers : List ℕ → List ℕ → Type 0) (has_failed : Bool) (count : ℕ) (before after : Traffic) (was is clock_was clock_is asked_was asked_is : ℕ) : Type 0 where
+-- once for each connection that it is asked for, and for nothing else. Of a door that keeps pieces the last connection was read as
+-- needed.
+pub record Served (stock : Stock) (has_failed : Bool) (before after : Exchange) : Type 0 where
   pub served : List Conversation
   pub left : List (List (List ℕ))
-  pub requests : before.waiting ≡ map (λ c. c.request) served ++ left ++ after.waiting
-  pub replies : after.replies ≡ before.replies ++ map (λ c. c.reply) served ++ map (λ request. []) left
-  pub counted : count ≡ length served + length left
-  pub held : All (IsHeld answers) served
-  pub read : IsLastReadAsNeeded (map (λ c. c.request) served ++ left) after.rest
-  pub cut : RoseBy (count_by (λ c. c.is_cut) served) was is
-  pub asked : RoseBy (count_by (λ c. c.is_asked) served + length left) asked_was asked_is
+  pub requests : before.door.traffic.waiting ≡ map (λ c. c.request) served ++ left ++ after.door.traffic.waiting
+  pub replies : after.door.traffic.replies ≡ before.door.traffic.replies ++ map (λ c. c.reply) served ++ map (λ request. []) left
+  pub counted : after.door.doorway.taken ≡ length served + length left
+  pub held : AreHeld stock before.clock served
+  pub read : IsTrue before.door.keeps_pieces
+      → IsLastReadAsNeeded (map (λ c. c.request) served ++ left) after.door.traffic.rest
+  pub cut : RoseBy (count_by (λ c. c.is_cut) served) before.door.line_faults after.door.line_faults
+  pub clock : after.clock ≡ clock_at_end left (clock_after_all served before.clock)
   pub last : MayLeave has_failed left
   pub bytes : All (λ request. ¬ (concat request ≡ [])) left
-  pub clock : clock_is ≡ faults_after (nat_lt 0 (length left)) clock_was

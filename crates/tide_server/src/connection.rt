@@ -1,20 +1,19 @@
 //! One connection.
 
-ghost use Rattle.std.specs.Prelude.{◌≡◌, ◌⊎◌, ℕ, List, IsTrue, None, is_err};
-ghost use Rattle.std.specs.List.{concat};
+ghost use Rattle.std.specs.Prelude.{◌≡◌, ◌==◌, ◌||◌, ℕ, List, IsTrue, is_err};
 ghost use Rattle.tide_edge.specs.Clocks.{IsClockMinute};
-ghost use Rattle.tide_edge.specs.Doors.{closed};
-ghost use Rattle.tide_edge.specs.Faults.{faults_after};
-ghost use Rattle.tide_server.specs.Replies.{IsReply};
-ghost use Rattle.tide_server.specs.Responses.{fixed_of};
-ghost use Rattle.tide_server.specs.Rows.{Row, IsRow};
-ghost use Rattle.tide_server.specs.Serving.{Answers, IsReadAsNeeded, IsUnavailable};
-ghost use Rattle.tide_server.specs.Workings.Connections.{IsStock, SentBy, WentBy};
+ghost use Rattle.tide_server.specs.Responses.{rejection_of, unavailable_to};
+ghost use Rattle.tide_server.specs.Rows.{is_settled};
+ghost use Rattle.tide_server.specs.Serving.{exchange};
+ghost use Rattle.tide_server.specs.Workings.Connections.{Closed, IsStock, Replies, RowSent, SentBy, WentBy};
+ghost use Rattle.tide_server.specs.Workings.Views.{IsAskingRow, row_seen};
 
-use crate::deciding::{fixed_reply, unavailable_reply};
-use crate::replying::reply;
-use crate::request::{Request, read_request};
-use crate::sending::send;
+use crate::http_reply::asking_reply;
+use crate::rejection::Rejection;
+use crate::request::Request;
+use crate::response::{write_rejection, write_unavailable};
+use crate::row::{Row, row_for};
+use crate::sent_text::send;
 use crate::stock::Stock;
 use arrayvec::ArrayString;
 use std::alloc::Global;
@@ -32,25 +31,18 @@ pub(crate) fn serve_connection<D: Door, K: Clock>(
     door: &mut D,
     clock: &mut K,
 ) -> Result<(), Failed>
-    requires open { IsTrue (D.doorway door.old).is_open }
+    requires is_open { IsTrue (D.state door.old).doorway.is_open }
     requires stock { IsStock stock.now }
-    ensures went { D.tells door.old → K.tells clock.old
-        → WentBy result (Answers stock.now (K.minute_held clock.old)) (concat (D.traffic door.old).rest)
-        (D.traffic door.old) (D.traffic door.new) (D.line_faults door.old) (D.line_faults door.new)
-        (K.asked clock.old) (K.asked clock.new) }
-    ensures needed { D.tells door.old → IsReadAsNeeded (D.traffic door.old).rest (D.traffic door.new).rest }
-    ensures closed { D.doorway door.new ≡ closed (D.doorway door.old) }
-    ensures still_tells { D.tells door.old → D.tells door.new }
-    ensures same_faults { D.faults door.new ≡ D.faults door.old }
-    ensures counts { K.faults clock.new ≡ faults_after (is_err result) (K.faults clock.old) }
-    ensures same_minute { K.minute_held clock.new ≡ K.minute_held clock.old }
-    ensures clock_still_tells { K.tells clock.old → K.tells clock.new }
+    ensures { Closed (is_err result) stock.now
+        (exchange (D.state door.old) (K.state clock.old)) (exchange (D.state door.new) (K.state clock.new)) }
 {
     let answered = answer_connection(alloc, stock, request, door, clock);
     door.close();
     answered
 }
 
+// Reads the open connection until its bytes are enough for a reply, or to their end, and no further:
+// a client may wait for its reply before it sends more. The row that reading ended with is answered.
 fn answer_connection<D: Door, K: Clock>(
     alloc: Global,
     stock: &Stock,
@@ -58,53 +50,50 @@ fn answer_connection<D: Door, K: Clock>(
     door: &mut D,
     clock: &mut K,
 ) -> Result<(), Failed>
-    requires open { IsTrue (D.doorway door.old).is_open }
+    requires is_open { IsTrue (D.state door.old).doorway.is_open }
     requires stock { IsStock stock.now }
-    ensures went { D.tells door.old → K.tells clock.old
-        → WentBy result (Answers stock.now (K.minute_held clock.old)) (concat (D.traffic door.old).rest)
-        (D.traffic door.old) (D.traffic door.new) (D.line_faults door.old) (D.line_faults door.new)
-        (K.asked clock.old) (K.asked clock.new) }
-    ensures needed { D.tells door.old → IsReadAsNeeded (D.traffic door.old).rest (D.traffic door.new).rest }
-    ensures same_doorway { D.doorway door.new ≡ D.doorway door.old }
-    ensures still_tells { D.tells door.old → D.tells door.new }
-    ensures same_faults { D.faults door.new ≡ D.faults door.old }
-    ensures counts { K.faults clock.new ≡ faults_after (is_err result) (K.faults clock.old) }
-    ensures same_minute { K.minute_held clock.new ≡ K.minute_held clock.old }
-    ensures clock_still_tells { K.tells clock.old → K.tells clock.new }
+    ensures { WentBy (is_err result) stock.now
+        (exchange (D.state door.old) (K.state clock.old)) (exchange (D.state door.new) (K.state clock.new)) }
 {
-    match read_request(request, door) {
-        Ok(()) => answer_request(alloc, stock, request.as_slice(), door, clock),
-        Err(_) => Ok(()),
+    request.clear();
+    loop {
+        let Ok(count) = request.read_more(door) else {
+            return Ok(());
+        };
+        let bytes = request.as_slice();
+        if bytes.is_empty() {
+            return Ok(());
+        }
+        let row = row_for(bytes);
+        if ends_reading(count, &row) {
+            return answer_row(alloc, stock, &row, door, clock);
+        }
     }
 }
 
+// Whether nothing more is to be read behind so many bytes, which made this row.
+fn ends_reading(count: usize, row: &Row<'_>) -> bool
+    ensures { result ≡ (count == 0 || is_settled (row_seen row.now)) }
+{
+    count == 0 || row.is_settled()
+}
+
 // Answers what was read of a connection, at the present minute.
-fn answer_request<D: Door, K: Clock>(
+fn answer_row<D: Door, K: Clock>(
     alloc: Global,
     stock: &Stock,
-    request: &[u8],
+    row: &Row<'_>,
     door: &mut D,
     clock: &mut K,
 ) -> Result<(), Failed>
-    requires open { IsTrue (D.doorway door.old).is_open }
+    requires is_open { IsTrue (D.state door.old).doorway.is_open }
     requires stock { IsStock stock.now }
-    ensures went { D.tells door.old → K.tells clock.old
-        → WentBy result (Answers stock.now (K.minute_held clock.old)) request.now
-        (D.traffic door.old) (D.traffic door.new) (D.line_faults door.old) (D.line_faults door.new)
-        (K.asked clock.old) (K.asked clock.new) }
-    ensures unread { D.tells door.old → (D.traffic door.new).rest ≡ (D.traffic door.old).rest }
-    ensures same_doorway { D.doorway door.new ≡ D.doorway door.old }
-    ensures still_tells { D.tells door.old → D.tells door.new }
-    ensures same_faults { D.faults door.new ≡ D.faults door.old }
-    ensures counts { K.faults clock.new ≡ faults_after (is_err result) (K.faults clock.old) }
-    ensures same_minute { K.minute_held clock.new ≡ K.minute_held clock.old }
-    ensures clock_still_tells { K.tells clock.old → K.tells clock.new }
+    requires known { IsAskingRow (row_seen row.now) }
+    ensures { RowSent (is_err result) stock.now (row_seen row.now)
+        (exchange (D.state door.old) (K.state clock.old)) (exchange (D.state door.new) (K.state clock.new)) }
 {
-    if request.is_empty() {
-        return Ok(());
-    }
     let now = clock.minute()?;
-    let _ = send_reply(alloc, stock, request, now, door);
+    let _ = send_reply(alloc, stock, row, now, door);
     Ok(())
 }
 
@@ -112,42 +101,41 @@ fn answer_request<D: Door, K: Clock>(
 fn send_reply<D: Door>(
     alloc: Global,
     stock: &Stock,
-    request: &[u8],
+    row: &Row<'_>,
     now: i64,
     door: &mut D,
 ) -> Result<(), Failed>
-    requires open { IsTrue (D.doorway door.old).is_open }
+    requires is_open { IsTrue (D.state door.old).doorway.is_open }
     requires stock { IsStock stock.now }
+    requires known { IsAskingRow (row_seen row.now) }
     requires now { IsClockMinute now }
-    ensures sends { (text : List ℕ) × (IsReply stock.now.book stock.now.table now request.now text ⊎ IsUnavailable request.now text)
-        × (D.tells door.old → SentBy result text (D.traffic door.old) (D.traffic door.new)) }
-    ensures same_doorway { D.doorway door.new ≡ D.doorway door.old }
-    ensures still_tells { D.tells door.old → D.tells door.new }
-    ensures counts { D.line_faults door.new ≡ faults_after (is_err result) (D.line_faults door.old) }
-    ensures same_faults { D.faults door.new ≡ D.faults door.old }
+    ensures { (text : List ℕ) × Replies stock.now now (row_seen row.now) text
+        × SentBy (is_err result) text (D.state door.old) (D.state door.new) }
 {
-    let mut fixed = ArrayString::new();
-    if fixed_reply(request, &mut fixed) {
-        return send(door, fixed.as_str().as_bytes());
-    }
-    match reply(alloc, &stock.book, &stock.table, request, now) {
-        Ok(text) => send(door, text.as_slice()),
-        Err(_) => send_unavailable(request, door),
+    match row {
+        Row::Rejects(rejection, bodiless) => send_rejection(*rejection, *bodiless, door),
+        Row::Asks(asking) => match asking_reply(alloc, &stock.book, &stock.table, asking, now) {
+            Ok(text) => send(door, text.as_slice()),
+            Err(_) => send_unavailable(asking.bodiless, door),
+        },
     }
 }
 
-// Sends what stands for a reply that wants memory.
-fn send_unavailable<D: Door>(request: &[u8], door: &mut D) -> Result<(), Failed>
-    requires open { IsTrue (D.doorway door.old).is_open }
-    requires unfixed { (row : Row) × IsRow request.now row × (fixed_of row ≡ None) }
-    ensures sends { (text : List ℕ) × IsUnavailable request.now text
-        × (D.tells door.old → SentBy result text (D.traffic door.old) (D.traffic door.new)) }
-    ensures same_doorway { D.doorway door.new ≡ D.doorway door.old }
-    ensures still_tells { D.tells door.old → D.tells door.new }
-    ensures counts { D.line_faults door.new ≡ faults_after (is_err result) (D.line_faults door.old) }
-    ensures same_faults { D.faults door.new ≡ D.faults door.old }
+fn send_rejection<D: Door>(rejection: Rejection, bodiless: bool, door: &mut D) -> Result<(), Failed>
+    requires { IsTrue (D.state door.old).doorway.is_open }
+    ensures { SentBy (is_err result) (rejection_of rejection bodiless) (D.state door.old) (D.state door.new) }
 {
     let mut text = ArrayString::new();
-    unavailable_reply(request, &mut text);
+    write_rejection(rejection, bodiless, &mut text);
+    send(door, text.as_str().as_bytes())
+}
+
+// Sends what stands for a reply that wants memory.
+fn send_unavailable<D: Door>(bodiless: bool, door: &mut D) -> Result<(), Failed>
+    requires { IsTrue (D.state door.old).doorway.is_open }
+    ensures { SentBy (is_err result) (unavailable_to bodiless) (D.state door.old) (D.state door.new) }
+{
+    let mut text = ArrayString::new();
+    write_unavailable(bodiless, &mut text);
     send(door, text.as_str().as_bytes())
 }

@@ -2,10 +2,9 @@
 
 ghost use Rattle.std.specs.Prelude.{◌≡◌, false, true, Some, IsTrue, OnOk, is_err};
 ghost use Rattle.tide_edge.specs.Doors.{asked};
-ghost use Rattle.tide_edge.specs.Faults.{faults_after};
-ghost use Rattle.tide_server.specs.Serving.{Answers, IsOver, Served};
+ghost use Rattle.tide_server.specs.Serving.{IsOver, Served, exchange};
 ghost use Rattle.tide_server.specs.Workings.Connections.{IsStock};
-ghost use Rattle.tide_server.specs.Workings.Steps.{StepBy, doorway_after, is_clock_outage, is_door_outage};
+ghost use Rattle.tide_server.specs.Workings.Steps.{IsKept, StepBy, is_clock_outage, is_door_outage};
 
 use crate::connection::serve_connection;
 use crate::outage::Outage;
@@ -22,22 +21,17 @@ pub(crate) fn serve_all<D: Door, K: Clock>(
     door: &mut D,
     clock: &mut K,
 ) -> Result<(), Outage>
-    requires listens { D.doorway door.old ≡ asked stock.now.port true }
+    requires listens { (D.state door.old).doorway ≡ asked stock.now.port true }
     requires stock { IsStock stock.now }
-    ensures served { D.tells door.old → K.tells clock.old
-        → Served (Answers stock.now (K.minute_held clock.old)) (is_err result) (D.doorway door.new).taken
-        (D.traffic door.old) (D.traffic door.new) (D.line_faults door.old) (D.line_faults door.new)
-        (K.faults clock.old) (K.faults clock.new) (K.asked clock.old) (K.asked clock.new) }
-    ensures over { OnOk result (IsOver (D.doorway door.new)) }
-    ensures port { (D.doorway door.new).port ≡ Some stock.now.port }
-    ensures listens { (D.doorway door.new).listens ≡ true }
-    ensures closed { (D.doorway door.new).is_open ≡ false }
-    ensures counts { D.faults door.new ≡ faults_after (is_door_outage result) (D.faults door.old) }
-    ensures clock_counts { K.faults clock.new ≡ faults_after (is_clock_outage result) (K.faults clock.old) }
-    ensures unasked { (D.doorway door.new).taken ≡ 0 → clock.new ≡ clock.old }
-    ensures still_tells { D.tells door.old → D.tells door.new }
-    ensures same_minute { K.minute_held clock.new ≡ K.minute_held clock.old }
-    ensures clock_still_tells { K.tells clock.old → K.tells clock.new }
+    ensures served { IsTrue (D.state door.old).tells → IsTrue (K.state clock.old).tells → Served stock.now (is_err result)
+        (exchange (D.state door.old) (K.state clock.old)) (exchange (D.state door.new) (K.state clock.new)) }
+    ensures kept { IsKept (is_door_outage result) (is_clock_outage result)
+        (exchange (D.state door.old) (K.state clock.old)) (exchange (D.state door.new) (K.state clock.new)) }
+    ensures over { OnOk result (IsOver (D.state door.new).doorway) }
+    ensures port { (D.state door.new).doorway.port ≡ Some stock.now.port }
+    ensures listens { (D.state door.new).doorway.listens ≡ true }
+    ensures closed { (D.state door.new).doorway.is_open ≡ false }
+    ensures unasked { (D.state door.new).doorway.taken ≡ 0 → clock.new ≡ clock.old }
 {
     for _taken in 0..u64::MAX {
         if !serve_next(alloc, stock, request, door, clock)? {
@@ -55,20 +49,12 @@ fn serve_next<D: Door, K: Clock>(
     door: &mut D,
     clock: &mut K,
 ) -> Result<bool, Outage>
-    requires listens { IsTrue (D.doorway door.old).listens }
-    requires none_open { (D.doorway door.old).is_open ≡ false }
+    requires listens { IsTrue (D.state door.old).doorway.listens }
+    requires none_open { (D.state door.old).doorway.is_open ≡ false }
     requires stock { IsStock stock.now }
-    ensures steps { D.tells door.old → K.tells clock.old
-        → StepBy result (Answers stock.now (K.minute_held clock.old))
-        (D.traffic door.old) (D.traffic door.new) (D.line_faults door.old) (D.line_faults door.new)
-        (K.asked clock.old) (K.asked clock.new) }
-    ensures doorway { D.doorway door.new ≡ doorway_after result (D.doorway door.old) }
-    ensures counts { D.faults door.new ≡ faults_after (is_door_outage result) (D.faults door.old) }
-    ensures clock_counts { K.faults clock.new ≡ faults_after (is_clock_outage result) (K.faults clock.old) }
-    ensures unasked { (D.doorway door.new).taken ≡ 0 → clock.new ≡ clock.old }
-    ensures still_tells { D.tells door.old → D.tells door.new }
-    ensures same_minute { K.minute_held clock.new ≡ K.minute_held clock.old }
-    ensures clock_still_tells { K.tells clock.old → K.tells clock.new }
+    ensures steps { StepBy result stock.now
+        (exchange (D.state door.old) (K.state clock.old)) (exchange (D.state door.new) (K.state clock.new)) }
+    ensures unasked { (D.state door.new).doorway.taken ≡ 0 → clock.new ≡ clock.old }
 {
     match door.next() {
         Ok(comes) => {

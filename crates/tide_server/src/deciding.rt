@@ -2,10 +2,9 @@
 
 ghost use Rattle.std.specs.Prelude.{◌≡◌, [], is_some, unwrap_or};
 ghost use Rattle.tide_server.specs.Responses.{fixed_of, unavailable_of};
-ghost use Rattle.tide_server.specs.Rows.{is_settled, is_settled_by, IsRow};
+ghost use Rattle.tide_server.specs.Rows.{is_settled, IsRow};
 ghost use Rattle.tide_server.specs.Rows as rows;
 
-use crate::rejection::Rejection;
 use crate::response::{write_rejection, write_unavailable};
 use crate::row::{Row, row_for};
 use arrayvec::ArrayString;
@@ -14,16 +13,7 @@ use arrayvec::ArrayString;
 pub fn enough(request: &[u8]) -> bool
     ensures { (row : rows.Row) × IsRow request.now row × (result ≡ is_settled row) }
 {
-    match row_for(request) {
-        Row::Rejects(rejection, _) => is_settled_by(rejection),
-        Row::Asks(_) => true,
-    }
-}
-
-fn is_settled_by(rejection: Rejection) -> bool
-    ensures { result ≡ is_settled_by rejection }
-{
-    !matches!(rejection, Rejection::HeadCutShort | Rejection::BodyCutShort)
+    row_for(request).is_settled()
 }
 
 /// Writes the reply to the whole of a request, if it is one that needs no answer of the predictor. It takes no memory.
@@ -46,8 +36,5 @@ pub fn unavailable_reply(request: &[u8], out: &mut ArrayString<256>)
     requires { out.old.bytes ≡ [] }
     ensures { (row : rows.Row) × IsRow request.now row × (out.new.bytes ≡ unavailable_of row) }
 {
-    match row_for(request) {
-        Row::Rejects(_, bodiless) => write_unavailable(bodiless, out),
-        Row::Asks(asking) => write_unavailable(asking.bodiless, out),
-    }
+    write_unavailable(row_for(request).is_bodiless(), out);
 }

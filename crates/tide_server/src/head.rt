@@ -8,11 +8,9 @@ ghost use Rattle.tide_server.specs.Heads.{occurs, head_of, ReadsAs};
 ghost use Rattle.tide_server.specs.Rows.{is_head};
 ghost use Rattle.tide_server.specs.Workings.Views.{occurs_seen, head_seen};
 
+use crate::limits::MOST_FIELDS;
 use httparse::Status;
 use httparse::spans::{EMPTY_HEADER_SPAN, HeaderSpan, RequestSpans, parse_request};
-
-/// How many fields a head may have.
-const MOST_FIELDS: usize = 64;
 
 /// How many fields have a name, and the value of the first of them.
 #[derive(Clone, Copy, Debug)]
@@ -28,8 +26,8 @@ pub(crate) struct Head<'a> {
     pub(crate) target: &'a [u8],
     pub(crate) minor: u8,
     pub(crate) host: Occurs<'a>,
-    pub(crate) size: Occurs<'a>,
-    pub(crate) coding: Occurs<'a>,
+    pub(crate) content_length: Occurs<'a>,
+    pub(crate) transfer_coding: Occurs<'a>,
 }
 
 /// Whether the method is HEAD.
@@ -64,8 +62,8 @@ fn head_at<'a>(bytes: &'a [u8], request: &RequestSpans, fields: &[HeaderSpan]) -
         target: request.path.of(bytes),
         minor: request.version,
         host: named(bytes, fields, "host"),
-        size: named(bytes, fields, "content-length"),
-        coding: named(bytes, fields, "transfer-encoding"),
+        content_length: named(bytes, fields, "content-length"),
+        transfer_coding: named(bytes, fields, "transfer-encoding"),
     }
 }
 

@@ -1,12 +1,18 @@
 //! What is true of the rows of requests, and of the replies.
 
-ghost use Rattle.std.specs.Prelude.{◌≡◌, ℕ, ℤ, ◌≤◌, false, List, ◌++◌, length, Option, Some, Ok, IsTrue};
+ghost use Rattle.std.specs.Prelude.{◌≡◌, ℕ, ℤ, ◌≤◌, false, List, ◌++◌, length, Option, Some, None, Ok, IsTrue};
 ghost use Rattle.harmonics_text.specs.declared.book.Book.{Book};
 ghost use Rattle.question.specs.Questions.{question_of};
 ghost use Rattle.question.specs.declared.origin.Origin.{Origin};
 ghost use Rattle.question.specs.declared.pairs.Item.{Item};
 ghost use Rattle.question.specs.declared.question.Question.{Question};
 ghost use Rattle.station_table.specs.declared.offsets.Offsets.{Offsets};
+ghost use Rattle.tide_server.specs.declared.limits.TheConstants.{LONGEST};
+ghost use Rattle.tide_edge.specs.Memory.{folder_of};
+ghost use Rattle.tide_fault.specs.declared.status.Status.{Status};
+ghost use Rattle.tide_server.specs.declared.stock.Stock.{Stock};
+ghost use Rattle.tide_server.specs.Laws.{HasAnswered, InMemory, handed_in};
+ghost use Rattle.tide_server.specs.Openings.{EndsAs, stock_of};
 ghost use Rattle.tide_server.specs.Replies.{IsReply, names_file};
 ghost use Rattle.tide_server.specs.Responses.{fixed_of};
 ghost use Rattle.tide_server.specs.Rows.{Row, IsRow, is_settled};
@@ -22,9 +28,9 @@ pub fn settled_rows_stay()
         → IsRow request row → IsTrue (is_settled row) → IsRow (request ++ more) row }
 {}
 
-/// The longest request has 4,202,496 bytes: so many settle the row.
+/// So many bytes as the longest request has settle the row.
 pub fn long_requests_are_settled()
-    ensures { (request : List ℕ) (row : Row) → IsRow request row → 4202496 ≤ length request → IsTrue (is_settled row) }
+    ensures { (request : List ℕ) (row : Row) → IsRow request row → LONGEST ≤ length request → IsTrue (is_settled row) }
 {}
 
 /// A request has one reply.
@@ -51,4 +57,14 @@ pub fn queries_name_no_file()
     ensures { (command : Option (List ℕ)) (items : List Item) (question : Question)
         → question_of record { origin = Origin.Query; command = command; items = items } ≡ Ok question
         → names_file question.zone ≡ false }
+{}
+
+/// Over files, a door, a sink and a clock in memory: where [`serve`](crate::serve) has listened and is
+/// done, the door holds a reply for each request that was taken, in their order, each the reply to the
+/// bytes of its request at the clock's minute, unless a line has failed.
+pub fn serve_in_memory()
+    ensures { (firm : Type 0) (words : List (List ℕ)) (before after : InMemory)
+        → before.door.doorway.port ≡ None → ¬ (after.door.doorway.port ≡ None)
+        → EndsAs firm (stock_of (folder_of before.files.files) words) Status.Done (handed_in before) (handed_in after)
+        → (stock : Stock) × (stock_of (folder_of before.files.files) words ≡ Ok stock) × HasAnswered stock before after }
 {}

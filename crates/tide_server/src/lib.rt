@@ -6,37 +6,39 @@
 //! the words and the files, listens, and serves one connection after the other.
 #![tactic(auto)]
 
-mod asking;
+mod asked;
 mod code;
 mod connection;
 mod connections;
 mod deciding;
 mod head;
+mod head_lines;
+mod http_reply;
 mod laws;
-mod lines;
-mod opening;
+mod limits;
 mod outage;
+mod path;
 mod query;
 mod rejection;
-mod replying;
 mod request;
 mod response;
 mod row;
-mod sending;
-mod serving;
-mod size;
+mod sent_text;
+mod service;
 mod stock;
+mod stock_reading;
 mod target;
 mod worked;
 
 pub use code::Code;
 pub use deciding::{enough, fixed_reply, unavailable_reply};
+pub use http_reply::reply;
 pub use laws::{
     fixed_rows_reply, long_requests_are_settled, one_reply, one_row, queries_name_no_file,
-    settled_replies_stay, settled_rows_stay,
+    serve_in_memory, settled_replies_stay, settled_rows_stay,
 };
+pub use path::Path;
 pub use rejection::Rejection;
-pub use replying::reply;
-pub use serving::serve;
+pub use service::serve;
 pub use stock::Stock;
 pub use worked::{worked_answers, worked_queries, worked_replies, worked_rows};

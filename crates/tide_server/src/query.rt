@@ -1,11 +1,10 @@
 //! What a path and a query say.
 
-ghost use Rattle.std.specs.Prelude.{◌≡◌, drop, IfOk, IsTrue};
+ghost use Rattle.std.specs.Prelude.{◌≡◌, IfOk};
 ghost use Rattle.tide_server.specs.Queries.{item_of, items_of, pairs_of, said_by};
-ghost use Rattle.tide_server.specs.Rows.{is_known_path};
-ghost use Rattle.tide_server.specs.Workings.Views.{IsAsking, asking_seen};
+ghost use Rattle.tide_server.specs.Workings.Views.{asking_seen};
 
-use crate::asking::Asking;
+use crate::asked::Asking;
 use decimal_text::Text;
 use form_urlencoded::{decode, raw_pairs};
 use question::{Item, Items, Origin, Pairs};
@@ -13,36 +12,13 @@ use std::alloc::{AllocError, Global};
 
 /// The command and the items of what is asked.
 pub(crate) fn pairs_of(alloc: Global, asking: &Asking<'_>) -> Result<Pairs, AllocError>
-    requires { IsAsking (asking_seen asking.now) }
     ensures { IfOk result (λ pairs. pairs ≡ pairs_of (asking_seen asking.now)) }
 {
     Ok(Pairs {
         origin: Origin::Query,
-        command: Some(Text::from_str(alloc, command_of(asking.path))?),
+        command: Some(Text::from_str(alloc, asking.path.command())?),
         items: Items::from_vec(items_of(alloc, asking.query)?),
     })
-}
-
-/// The command that a path names.
-fn command_of(path: &[u8]) -> &'static str
-    requires { IsTrue (is_known_path path.now) }
-    ensures { result.now ≡ drop 1 path.now }
-{
-    if path == b"/predict".as_slice() {
-        "predict"
-    } else if path == b"/certify".as_slice() {
-        "certify"
-    } else if path == b"/heights".as_slice() {
-        "heights"
-    } else if path == b"/calendar".as_slice() {
-        "calendar"
-    } else if path == b"/clock".as_slice() {
-        "clock"
-    } else if path == b"/stations".as_slice() {
-        "stations"
-    } else {
-        "check"
-    }
 }
 
 fn items_of(alloc: Global, query: &[u8]) -> Result<Vec<Item>, AllocError>

@@ -22,3 +22,15 @@ pub enum Rejection {
     /// The request was over before its body ended.
     BodyCutShort,
 }
+
+impl Rejection {
+    ghost use Rattle.std.specs.Prelude.{◌≡◌};
+    ghost use Rattle.tide_server.specs.Rows.{is_settled_by};
+
+    /// Whether more bytes of the request can't change it: neither its head nor its body was cut short.
+    pub(crate) fn is_settled(self) -> bool
+        ensures { result ≡ is_settled_by self }
+    {
+        !matches!(self, Rejection::HeadCutShort | Rejection::BodyCutShort)
+    }
+}

@@ -2,7 +2,7 @@
 
 ghost use Rattle.std.specs.Prelude.{◌≡◌, ◌≤◌, ◌+◌, ◌++◌, [], length, codes, decimal, IfOk};
 ghost use Rattle.arrayvec.specs.ArrayString.{array_string_len};
-ghost use Rattle.tide_server.specs.Responses.{status_of, code_of, body_of, allow_of, response_head, response, rejection_of};
+ghost use Rattle.tide_server.specs.Responses.{status_of, code_of, body_of, allow_of, response_head, response, rejection_of, unavailable_to};
 
 use crate::code::Code;
 use crate::rejection::Rejection;
@@ -132,7 +132,7 @@ pub(crate) fn write_rejection(rejection: Rejection, bodiless: bool, out: &mut Ar
 /// Writes the reply that stands for another one where memory is wanting.
 pub(crate) fn write_unavailable(bodiless: bool, out: &mut ArrayString<256>)
     requires { out.old.bytes ≡ [] }
-    ensures { out.new.bytes ≡ response Code.Unavailable (codes "text/plain") [] (codes "no memory\n") bodiless }
+    ensures { out.new.bytes ≡ unavailable_to bodiless }
 {
     write_plain(Code::Unavailable, "", "no memory\n", bodiless, out);
 }

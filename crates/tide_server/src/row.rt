@@ -5,13 +5,11 @@ ghost use Rattle.tide_server.specs.Heads as heads;
 ghost use Rattle.tide_server.specs.Rows as rows;
 ghost use Rattle.tide_server.specs.Workings.Views.{IsAskingRow, row_seen};
 
-use crate::asking::{Asking, asked};
+use crate::asked::{Asking, asked};
 use crate::head::{is_head, read_head};
-use crate::lines::{MOST_HEAD, head_end, line_feeds};
+use crate::head_lines::{head_end, line_feeds};
+use crate::limits::{MOST_HEAD, MOST_LINES};
 use crate::rejection::Rejection;
-
-/// How many lines a head may have.
-const MOST_LINES: usize = 66;
 
 /// The row of the table that answers a request.
 #[derive(Clone, Copy, Debug)]
@@ -20,6 +18,33 @@ pub(crate) enum Row<'a> {
     Rejects(Rejection, bool),
     /// One behind the fixed rows, by what is asked.
     Asks(Asking<'a>),
+}
+
+impl Row<'_> {
+    ghost use Rattle.std.specs.Prelude.{◌≡◌};
+    ghost use Rattle.tide_server.specs.Responses.{is_bodiless};
+    ghost use Rattle.tide_server.specs.Rows.{is_settled};
+    ghost use Rattle.tide_server.specs.Workings.Views.{row_seen};
+
+    /// Whether more bytes of the request can't change it.
+    pub(crate) fn is_settled(&self) -> bool
+        ensures { result ≡ is_settled (row_seen self.now) }
+    {
+        match self {
+            Row::Rejects(rejection, _) => rejection.is_settled(),
+            Row::Asks(_) => true,
+        }
+    }
+
+    /// Whether the reply leaves its body out.
+    pub(crate) fn is_bodiless(&self) -> bool
+        ensures { result ≡ is_bodiless (row_seen self.now) }
+    {
+        match self {
+            Row::Rejects(_, bodiless) => *bodiless,
+            Row::Asks(asking) => asking.bodiless,
+        }
+    }
 }
 
 /// The row that answers the whole request.

@@ -71,7 +71,7 @@ struct Outcome {
 
 /// A request that comes in one piece, as a text or as bytes, or byte by byte.
 #[derive(Clone, Copy)]
-enum Coming<'a> {
+pub(super) enum Coming<'a> {
     Whole(&'a str),
     Bytes(&'a [u8]),
     ByBytes(&'a str),
@@ -109,7 +109,7 @@ fn pieces_of(alloc: Global, coming: Coming<'_>) -> Result<Vec<Bytes>, AllocError
     }
 }
 
-fn requests_of(alloc: Global, all: &[Coming<'_>]) -> Result<Vec<Vec<Bytes>>, AllocError>
+pub(super) fn requests_of(alloc: Global, all: &[Coming<'_>]) -> Result<Vec<Vec<Bytes>>, AllocError>
     ensures { IfOk result (λ requests. IsTrue (list_all (λ request. are_pieces request.items) requests.items)) }
 {
     let mut requests = Vec::new(alloc);
@@ -119,7 +119,7 @@ fn requests_of(alloc: Global, all: &[Coming<'_>]) -> Result<Vec<Vec<Bytes>>, All
     Ok(requests)
 }
 
-fn files_of(alloc: Global, fails: u64) -> Result<MemoryFiles, AllocError> {
+pub(super) fn files_of(alloc: Global, fails: u64) -> Result<MemoryFiles, AllocError> {
     let mut files = Vec::new(alloc);
     for (name, text) in [("pier.txt", PIER), ("short.txt", SHORT), ("empty.csv", "")] {
         files.push(NamedFile {

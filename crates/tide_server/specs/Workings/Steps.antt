@@ -1,11 +1,14 @@
 -- One connection after the other, a step at a time.
-use Rattle.std.specs.Prelude.{◌≡◌, ℕ, Bool, true, false, List, [], ◌∷◌, ◌++◌, length, map, All, count_by, Some, Result, Ok, Err}
+use Rattle.std.specs.Prelude.{◌≡◌, ℕ, Bool, true, false, IsTrue, List, [], ◌∷◌, ◌++◌, length, map, count_by, Some, Result, Ok, Err}
 use Rattle.std.specs.List.{concat}
-use Rattle.tide_edge.specs.Doors.{Doorway, Traffic, after_next, closed}
-use Rattle.tide_edge.specs.Faults.{counted, counted_if, faults_after}
+use Rattle.tide_edge.specs.Clocks.{clock_after, next_minute}
+use Rattle.tide_edge.specs.Doors.{Doorway, DoorState, after_next, closed, door_after_close, door_after_next}
+use Rattle.tide_edge.specs.Faults.{counted, faults_after}
 use Rattle.tide_server.specs.declared.outage.Outage.{Outage}
 use Rattle.tide_server.specs.declared.outage.Outage.TheVariants as outages
-use Rattle.tide_server.specs.Serving.{Conversation, IsHeld, IsLastReadAsNeeded, IsReadAsNeeded, RoseBy}
+use Rattle.tide_server.specs.declared.stock.Stock.{Stock}
+use Rattle.tide_server.specs.Serving.{AreHeld, Conversation, Exchange, IsHeld, IsLastReadAsNeeded, IsReadAsNeeded, RoseBy, clock_after_all, clock_with}
+use Rattle.tide_server.specs.Workings.Connections.{Talk, talked}
 
 abbrev pub is_door : Outage → Bool
 is_door outages.Door = true
@@ -25,61 +28,72 @@ is_clock_outage (Err outage) = is_clock outage
 
 -- ---- One step
 
--- a connection was taken, which is closed again
-abbrev pub after_taking : Doorway → Doorway
-after_taking d = closed (after_next (Ok true) d)
+-- a connection was taken, gone through and closed
+abbrev pub door_with : Talk → DoorState → DoorState
+door_with talk d = door_after_close (talked talk (door_after_next (Ok true) d))
 
-abbrev pub doorway_after : Result Bool Outage → Doorway → Doorway
-doorway_after (Ok true) d = after_taking d
-doorway_after (Ok false) d = after_next (Ok false) d
-doorway_after (Err outages.Door) d = d
-doorway_after (Err outages.Clock) d = after_taking d
+abbrev pub conversation : List (List ℕ) → Talk → Conversation
+conversation request talk =
+    record { request = request; reply = talk.reply; is_cut = talk.is_cut; is_asked = talk.is_asked }
 
--- the first connection that waited was served
-pub record ServedNext (answers : List ℕ → List ℕ → Type 0) (before after : Traffic) (was is asked_was asked_is : ℕ) : Type 0 where
-  pub next : Conversation
-  pub requests : before.waiting ≡ next.request ∷ after.waiting
-  pub replies : after.replies ≡ before.replies ++ next.reply ∷ []
-  pub held : IsHeld answers next
-  pub read : IsReadAsNeeded next.request after.rest
-  pub lines : is ≡ faults_after next.is_cut was
-  pub asked : asked_is ≡ counted_if next.is_asked asked_was
-
--- it was taken, has a byte and got no reply
-pub record LeftNext (before after : Traffic) : Type 0 where
+-- the first request that waits, and those behind it
+pub record IsNext (door : DoorState) : Type 0 where
   pub request : List (List ℕ)
-  pub bytes : ¬ (concat request ≡ [])
-  pub requests : before.waiting ≡ request ∷ after.waiting
-  pub replies : after.replies ≡ before.replies ++ [] ∷ []
-  pub read : IsReadAsNeeded request after.rest
+  pub more : List (List (List ℕ))
+  pub waiting : door.traffic.waiting ≡ request ∷ more
 
--- nothing happened
-pub record IsStill (before after : Traffic) (was is asked_was asked_is : ℕ) : Type 0 where
-  pub traffic : after ≡ before
-  pub lines : is ≡ was
-  pub asked : asked_is ≡ asked_was
+-- the next connection was served
+pub record ServedNext (stock : Stock) (before after : Exchange) : Type 0 where
+  pub talk : Talk
+  pub door : after.door ≡ door_with talk before.door
+  pub clock : after.clock ≡ clock_with talk.is_asked before.clock
+  pub next : IsTrue before.door.tells → IsNext before.door
+  pub held : (door : IsTrue before.door.tells) → IsTrue before.clock.tells
+      → IsHeld stock (next_minute before.clock) (conversation (next door).request talk)
+  pub needed : (door : IsTrue before.door.tells) → IsTrue before.door.keeps_pieces → IsReadAsNeeded (next door).request talk.left
 
-abbrev pub StepBy : Result Bool Outage → (List ℕ → List ℕ → Type 0) → Traffic → Traffic → ℕ → ℕ → ℕ → ℕ → Type 0
-StepBy (Ok true) answers before after was is asked_was asked_is =
-    ServedNext answers before after was is asked_was asked_is
-StepBy (Ok false) answers before after was is asked_was asked_is = IsStill before after was is asked_was asked_is
-StepBy (Err outages.Door) answers before after was is asked_was asked_is = IsStill before after was is asked_was asked_is
-StepBy (Err outages.Clock) answers before after was is asked_was asked_is =
-    LeftNext before after × (is ≡ was) × (asked_is ≡ counted asked_was)
+-- it was taken, has a byte and got no reply, since the clock has failed
+pub record LeftNext (before after : Exchange) : Type 0 where
+  pub left : List (List ℕ)
+  pub door : after.door ≡ door_with record { left = left; reply = []; is_cut = false; is_asked = true } before.door
+  pub clock : after.clock ≡ clock_after true before.clock
+  pub next : IsTrue before.door.tells → IsNext before.door
+  pub byte : (door : IsTrue before.door.tells) → ¬ (concat (next door).request ≡ [])
+  pub needed : (door : IsTrue before.door.tells) → IsTrue before.door.keeps_pieces → IsReadAsNeeded (next door).request left
+
+abbrev pub door_at_end : DoorState → DoorState
+door_at_end d = record d { doorway = after_next (Ok false) d.doorway }
+
+abbrev pub door_failed : DoorState → DoorState
+door_failed d = record d { faults = counted d.faults }
+
+abbrev pub StepBy : Result Bool Outage → Stock → Exchange → Exchange → Type 0
+StepBy (Ok true) stock before after = ServedNext stock before after
+StepBy (Ok false) stock before after = (after.door ≡ door_at_end before.door) × (after.clock ≡ before.clock)
+StepBy (Err outages.Door) stock before after = (after.door ≡ door_failed before.door) × (after.clock ≡ before.clock)
+StepBy (Err outages.Clock) stock before after = LeftNext before after
 
 -- ---- So many steps
-
--- so many connections were served
-pub record WereServed (answers : List ℕ → List ℕ → Type 0) (count : ℕ) (before after : Traffic) (was is asked_was asked_is : ℕ) : Type 0 where
-  pub served : List Conversation
-  pub requests : before.waiting ≡ map (λ c. c.request) served ++ after.waiting
-  pub replies : after.replies ≡ before.replies ++ map (λ c. c.reply) served
-  pub counted : count ≡ length served
-  pub held : All (IsHeld answers) served
-  pub read : IsLastReadAsNeeded (map (λ c. c.request) served) after.rest
-  pub cut : RoseBy (count_by (λ c. c.is_cut) served) was is
-  pub asked : RoseBy (count_by (λ c. c.is_asked) served) asked_was asked_is
 
 -- the doorway after so many
 abbrev pub serving : ℕ → ℕ → Doorway
 serving port taken = record { port = Some port; listens = true; taken = taken; is_open = false; is_over = false }
+
+-- What serving leaves as it is: what door and clock tell of themselves, and but for these their counts of faults.
+pub record IsKept (door_failed clock_failed : Bool) (before after : Exchange) : Type 0 where
+  pub tells : after.door.tells ≡ before.door.tells
+  pub pieces : after.door.keeps_pieces ≡ before.door.keeps_pieces
+  pub faults : after.door.faults ≡ faults_after door_failed before.door.faults
+  pub asked : ℕ
+  pub clock : after.clock ≡ record before.clock { asked = asked; faults = faults_after clock_failed before.clock.faults }
+
+-- these were served
+pub record WereServed (stock : Stock) (count : ℕ) (before after : Exchange) : Type 0 where
+  pub served : List Conversation
+  pub requests : before.door.traffic.waiting ≡ map (λ c. c.request) served ++ after.door.traffic.waiting
+  pub replies : after.door.traffic.replies ≡ before.door.traffic.replies ++ map (λ c. c.reply) served
+  pub counted : count ≡ length served
+  pub held : AreHeld stock before.clock served
+  pub read : IsTrue before.door.keeps_pieces → IsLastReadAsNeeded (map (λ c. c.request) served) after.door.traffic.rest
+  pub cut : RoseBy (count_by (λ c. c.is_cut) served) before.door.line_faults after.door.line_faults
+  pub clock : after.clock ≡ clock_after_all served before.clock

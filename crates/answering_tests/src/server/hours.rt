@@ -1,0 +1,80 @@
+//! A server whose clock goes on, and one whose reply is long.
+
+use super::serving::{Coming, files_of, requests_of};
+use crate::texts::words_of;
+use std::alloc::Global;
+use std::test::Fail;
+use tide_answer::Status;
+use tide_edge::{Clock, Failed, FixedClock, MemoryDoor, MemorySink};
+use tide_server::serve;
+
+/// The hours in the test's own clock, which shows one after the other and then stands still.
+const HOURS: u64 = 24;
+
+/// A clock that goes on by an hour at each asking, from 2000-01-10T03:00Z on, and tells which it shows.
+#[derive(Debug, Drop)]
+struct HourClock {
+    asked: u64,
+}
+
+impl Clock for HourClock {
+    ghost use Rattle.std.specs.Prelude.{◌≡◌, ◌+◌, ◌*◌, true, min, pos};
+    ghost use Rattle.tide_edge.specs.Clocks.{ClockState};
+
+    ghost state = { λ c. record { tells = true; minute_at = (λ n. pos (15791160 + 60 * min n 24)); asked = c.asked; faults = 0 } };
+
+    fn minute(&mut self) -> Result<i64, Failed> {
+        self.asked = self.asked.saturating_add(1);
+        let hours = self.asked.min(HOURS);
+        Ok(15_791_160 + 60 * hours as i64)
+    }
+}
+
+const NOW: &str = "GET /clock?station=Pier HTTP/1.1\r\nHost: a\r\n\r\n";
+
+#[test]
+fn each_request_is_answered_at_its_own_minute(rt: HostRuntime) -> Result<(), Fail> {
+    let alloc = rt.alloc();
+    let words = words_of(alloc, "serve|file=pier.txt")?;
+    let mut files = files_of(alloc, 0)?;
+    let coming = requests_of(
+        alloc,
+        &[Coming::Whole(NOW), Coming::Whole(""), Coming::Whole(NOW)],
+    )?;
+    let mut door = MemoryDoor::new(alloc, coming, 4096, Vec::new(alloc))?;
+    let mut err = MemorySink::new(alloc, 4096, 4096, Vec::new(alloc))?;
+    let mut clock = HourClock { asked: 0 };
+    let status = serve(alloc, &words, &mut files, &mut door, &mut err, &mut clock);
+    assert_eq!(rt; status, Status::Done);
+    for (i, line) in [
+        (0, "\nNow 2000-01-10 03:00 UTC       0.00 feet  Falling\n"),
+        (2, "\nNow 2000-01-10 04:00 UTC      -0.50 feet  Falling\n"),
+    ] {
+        let reply = String::from_utf8(door.reply(i).unwrap_or(b"").to_vec(alloc)?)?;
+        assert!(rt; reply.as_str().contains(line), "reply {i}");
+    }
+    Ok(())
+}
+
+const YEAR: &str =
+    "GET /predict?station=Pier&begin=2000-01-01T00:00Z&end=2001-01-01T00:00Z HTTP/1.1\r\nHost: a\r\n\r\n";
+
+/// Two highs and two lows on each of 366 days, behind the head of the reply and the station's name.
+const LINES: usize = 5 + 1 + 4 * 366;
+
+#[test]
+fn a_list_of_a_year_is_sent_whole(rt: HostRuntime) -> Result<(), Fail> {
+    let alloc = rt.alloc();
+    let words = words_of(alloc, "serve|file=pier.txt")?;
+    let mut files = files_of(alloc, 0)?;
+    let coming = requests_of(alloc, &[Coming::Whole(YEAR)])?;
+    let mut door = MemoryDoor::new(alloc, coming, 1_000_000, Vec::new(alloc))?;
+    let mut err = MemorySink::new(alloc, 4096, 4096, Vec::new(alloc))?;
+    let mut clock = FixedClock::new(15_791_220, Vec::new(alloc));
+    let status = serve(alloc, &words, &mut files, &mut door, &mut err, &mut clock);
+    assert_eq!(rt; status, Status::Done);
+    let reply = door.reply(0).unwrap_or(b"");
+    assert!(rt; reply.starts_with(b"HTTP/1.1 200 OK\r\n".as_slice()));
+    assert_eq!(rt; reply.iter().filter(|byte| **byte == b'\n').count(), LINES);
+    Ok(())
+}

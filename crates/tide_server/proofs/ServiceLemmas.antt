@@ -1,0 +1,190 @@
+-- How a server that has something to serve from ends.
+use Rattle.std.proofs.Common.{◌≡◌, ℕ, Bool, true, false, List, Some, Result, Ok, Err, ap, inl, inr, sym, ◌∙◌, subst, refl}
+use Rattle.std.specs.Bool.{IsTrue}
+use Rattle.std.specs.Prelude.{codes, is_err}
+use Rattle.tide_edge.specs.declared.failed.Failed.{Failed}
+use Rattle.tide_edge.specs.Clocks.{ClockState}
+use Rattle.tide_edge.specs.Doors.{DoorState, asked, door_after_listen}
+use Rattle.tide_edge.specs.Faults.{faults_after}
+use Rattle.tide_edge.specs.FileStates.{FilesState}
+use Rattle.tide_edge.specs.SinkStates.{SinkState, Wrote}
+use Rattle.tide_fault.specs.declared.status.Status.{Status}
+use Rattle.tide_fault.specs.declared.status.Status.TheVariants.{Done, ReadFault}
+use Rattle.tide_server.specs.declared.outage.Outage.{Outage}
+use Rattle.tide_server.specs.declared.outage.Outage.TheVariants as outages
+use Rattle.tide_server.specs.declared.stock.Stock.{Stock}
+use Rattle.tide_server.specs.Openings.{EndedBy, HasListened, notice_of}
+use Rattle.tide_server.specs.Serving.{Exchange, IsOver, Served, exchange}
+use Rattle.tide_server.specs.Workings.Ends.{Ended, unread, with_files}
+use Rattle.tide_server.specs.Workings.Steps.{IsKept, is_clock_outage, is_door_outage}
+use Rattle.tide_server.proofs.OpeningLemmas.{wrote_first, wrote_one}
+use Rattle.tide_server.proofs.StepLemmas.{nobody}
+
+-- ---- The door listens
+
+-- what was served
+pub record Serves (stock : Stock) (failed : Bool) (before after : Exchange) : Type 0 where
+  pub port : after.door.doorway.port ≡ Some stock.port
+  pub listens : after.door.doorway.listens ≡ true
+  pub closed : after.door.doorway.is_open ≡ false
+  pub served : IsTrue before.door.tells → IsTrue before.clock.tells → Served stock failed before after
+
+pub served_done : (stock : Stock) (door door_after : DoorState) (err err_after : SinkState) (clock clock_after : ClockState) (failed : Bool)
+    → Serves stock false (exchange door clock) (exchange door_after clock_after) → IsKept false false (exchange door clock) (exchange door_after clock_after)
+    → IsOver door_after.doorway → Wrote err err_after failed (notice_of stock.port)
+    → Ended stock Done (unread door err clock) (unread door_after err_after clock_after)
+served_done stock door door_after err err_after clock clock_after failed serves kept is_over wrote = record {
+  listened = λ files left. record {
+    asked = serves.port;
+    ends = inl refl;
+    served = serves.served;
+    wrote = rw serves.listens (wrote_first err err_after failed (notice_of stock.port) wrote);
+  };
+  done = λ is. is_over;
+  closed = serves.closed;
+  ended = λ files left same. record {
+    files = false;
+    clock = false;
+    door = false;
+    one = refl;
+    files_count = same;
+    door_count = kept.faults;
+    door_tells = kept.tells;
+    door_pieces = kept.pieces;
+    asked = kept.asked;
+    clock_state = kept.clock;
+  };
+}
+
+-- by the door or by the clock
+by_outage : (outage : Outage) (door door_after : DoorState) (err err_after : SinkState) (clock clock_after : ClockState) (files left : FilesState)
+    → IsKept (is_door_outage {T = Unit {0}} (Err outage)) (is_clock_outage {T = Unit {0}} (Err outage)) (exchange door clock) (exchange door_after clock_after)
+    → left.faults ≡ files.faults
+    → EndedBy true (with_files files (unread door err clock)) (with_files left (unread door_after err_after clock_after))
+by_outage outages.Door door door_after err err_after clock clock_after files left kept same = record {
+  files = false;
+  clock = false;
+  door = true;
+  one = refl;
+  files_count = same;
+  door_count = kept.faults;
+  door_tells = kept.tells;
+  door_pieces = kept.pieces;
+  asked = kept.asked;
+  clock_state = kept.clock;
+}
+by_outage outages.Clock door door_after err err_after clock clock_after files left kept same = record {
+  files = false;
+  clock = true;
+  door = false;
+  one = refl;
+  files_count = same;
+  door_count = kept.faults;
+  door_tells = kept.tells;
+  door_pieces = kept.pieces;
+  asked = kept.asked;
+  clock_state = kept.clock;
+}
+
+pub served_failed : (stock : Stock) (outage : Outage) (door door_after : DoorState) (err between err_after : SinkState)
+    (clock clock_after : ClockState) (failed also_failed : Bool)
+    → Serves stock true (exchange door clock) (exchange door_after clock_after)
+    → IsKept (is_door_outage {T = Unit {0}} (Err outage)) (is_clock_outage {T = Unit {0}} (Err outage)) (exchange door clock) (exchange door_after clock_after)
+    → Wrote err between failed (notice_of stock.port) → Wrote between err_after also_failed (codes "read fault\n")
+    → Ended stock ReadFault (unread door err clock) (unread door_after err_after clock_after)
+served_failed stock outage door door_after err between err_after clock clock_after failed also_failed serves kept first second = record {
+  listened = λ files left. record {
+    asked = serves.port;
+    ends = inr refl;
+    served = serves.served;
+    wrote = rw serves.listens (between, failed, also_failed, first, second);
+  };
+  done = λ is. absurd (cc);
+  closed = serves.closed;
+  ended = λ files left same. by_outage outage door door_after err err_after clock clock_after files left kept same;
+}
+
+-- ---- The door was asked to listen
+
+same_served : (stock : Stock) (failed : Bool) (port : ℕ) (door : DoorState) (clock : ClockState) (after : Exchange)
+    → Served stock failed (exchange (door_after_listen {T = Unit {0}} (Ok tt) port door) clock) after → Served stock failed (exchange door clock) after
+same_served stock failed port door clock after s = record {
+  served = s.served;
+  left = s.left;
+  requests = s.requests;
+  replies = s.replies;
+  counted = s.counted;
+  held = s.held;
+  read = s.read;
+  cut = s.cut;
+  clock = s.clock;
+  last = s.last;
+  bytes = s.bytes;
+}
+
+pub ended_listening : (stock : Stock) (status : Status) (door opened door_after : DoorState) (err err_after : SinkState)
+    (clock clock_after : ClockState) → opened ≡ door_after_listen {T = Unit {0}} (Ok tt) stock.port door
+    → Ended stock status (unread opened err clock) (unread door_after err_after clock_after)
+    → Ended stock status (unread door err clock) (unread door_after err_after clock_after)
+ended_listening stock status door opened door_after err err_after clock clock_after is behind =
+    let E : DoorState → Type 0 = λ d. Ended stock status (unread d err clock) (unread door_after err_after clock_after) in
+    let e : E (door_after_listen {T = Unit {0}} (Ok tt) stock.port door) = subst E is behind in record {
+      listened = λ files left. record {
+        asked = (e.listened files left).asked;
+        ends = (e.listened files left).ends;
+        served = λ t k.
+            same_served stock _ stock.port door clock (exchange door_after clock_after) ((e.listened files left).served t k);
+        wrote = (e.listened files left).wrote;
+      };
+      done = e.done;
+      closed = e.closed;
+      ended = λ files left same.
+          let by = e.ended files left same in record {
+            files = by.files;
+            clock = by.clock;
+            door = by.door;
+            one = by.one;
+            files_count = by.files_count;
+            door_count = by.door_count;
+            door_tells = by.door_tells;
+            door_pieces = by.door_pieces;
+            asked = by.asked;
+            clock_state = by.clock_state;
+          };
+    }
+
+unlistening : (stock : Stock) (failed_to : Failed) (door : DoorState) (err err_after : SinkState) (clock : ClockState) (failed : Bool)
+    → Wrote err err_after failed (codes "read fault\n")
+    → Ended stock ReadFault (unread door err clock)
+    (unread (door_after_listen {T = Unit {0}} (Err failed_to) stock.port door) err_after clock)
+unlistening stock failed_to door err err_after clock failed wrote = record {
+  listened = λ files left. record {
+    asked = refl;
+    ends = inr refl;
+    served = λ t k.
+        nobody stock true (exchange door clock) (exchange (door_after_listen {T = Unit {0}} (Err failed_to) stock.port door) clock) refl refl refl refl;
+    wrote = wrote_one err err_after failed (codes "read fault\n") wrote;
+  };
+  done = λ is. absurd (cc);
+  closed = refl;
+  ended = λ files left same. record {
+    files = false;
+    clock = false;
+    door = true;
+    one = refl;
+    files_count = same;
+    door_count = refl;
+    door_tells = refl;
+    door_pieces = refl;
+    asked = clock.asked;
+    clock_state = refl;
+  };
+}
+
+pub ended_unlistening : (stock : Stock) (failed_to : Failed) (door door_after : DoorState) (err err_after : SinkState) (clock : ClockState)
+    (failed : Bool) → door_after ≡ door_after_listen {T = Unit {0}} (Err failed_to) stock.port door
+    → Wrote err err_after failed (codes "read fault\n")
+    → Ended stock ReadFault (unread door err clock) (unread door_after err_after clock)
+ended_unlistening stock failed_to door door_after err err_after clock failed is wrote =
+    let E : DoorState → Type 0 = λ d. Ended stock ReadFault (unread door err clock) (unread d err_after clock) in
+    subst E (sym is) (unlistening stock failed_to door err err_after clock failed wrote)

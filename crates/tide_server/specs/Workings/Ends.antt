@@ -1,0 +1,31 @@
+-- How a server that has something to serve from ends.
+use Rattle.std.specs.Prelude.{◌≡◌, false}
+use Rattle.tide_edge.specs.Clocks.{ClockState}
+use Rattle.tide_edge.specs.Doors.{DoorState}
+use Rattle.tide_edge.specs.FileStates.{FilesState}
+use Rattle.tide_edge.specs.SinkStates.{SinkState}
+use Rattle.tide_fault.specs.declared.status.Status.{Status}
+use Rattle.tide_fault.specs.declared.status.Status.TheVariants.{Done}
+use Rattle.tide_server.specs.declared.stock.Stock.{Stock}
+use Rattle.tide_server.specs.Openings.{EndedBy, Handed, HasListened, handed, is_read_fault}
+use Rattle.tide_server.specs.Serving.{IsOver}
+
+-- what is left once the files were read
+pub record Unread : Type 0 where
+  pub door : DoorState
+  pub err : SinkState
+  pub clock : ClockState
+
+abbrev pub unread : DoorState → SinkState → ClockState → Unread
+unread door err clock = record { door = door; err = err; clock = clock }
+
+abbrev pub with_files : FilesState → Unread → Handed
+with_files files left = handed files left.door left.err left.clock
+
+-- over any files, which aren't read any more
+pub record Ended (stock : Stock) (status : Status) (before after : Unread) : Type 0 where
+  pub listened : (files left : FilesState) → HasListened stock status (with_files files before) (with_files left after)
+  pub done : status ≡ Done → IsOver after.door.doorway
+  pub closed : after.door.doorway.is_open ≡ false
+  pub ended : (files left : FilesState) → left.faults ≡ files.faults
+      → EndedBy (is_read_fault status) (with_files files before) (with_files left after)

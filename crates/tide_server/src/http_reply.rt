@@ -1,0 +1,209 @@
+//! The reply to a request.
+
+ghost use Rattle.std.specs.Prelude.{◌≡◌, ◌≤◌, length, IfOk};
+ghost use Rattle.harmonics_text.specs.Books.{IsBook};
+ghost use Rattle.question.specs.Asked.{IsAsked, IsZoneWord};
+ghost use Rattle.station_table.specs.Offsets.{IsTable};
+ghost use Rattle.tide_answer.specs.Answers.{answered};
+ghost use Rattle.tide_fault.specs.Faults.{IsTold, wants_memory_of_refusal};
+ghost use Rattle.tide_answer.specs.Givens.{IsGiven};
+ghost use Rattle.tide_edge.specs.Clocks.{IsClockMinute};
+ghost use Rattle.question.specs.Questions.{wants_memory};
+ghost use Rattle.tide_server.specs.Replies.{IsReply, answer_reply, asking_reply, fault_reply, given_with, type_of, zone_of};
+ghost use Rattle.tide_server.specs.Responses.{rejection_of};
+ghost use Rattle.tide_server.specs.Workings.Views.{IsAsking, asking_seen};
+ghost use Rattle.zone_time.specs.Zones.{IsZone};
+
+use crate::asked::Asking;
+use crate::code::Code;
+use crate::query::pairs_of;
+use crate::rejection::Rejection;
+use crate::response::{response, write_rejection};
+use crate::row::{Row, row_for};
+use arrayvec::ArrayString;
+use decimal_text::Bytes;
+use harmonics_text::Book;
+use question::{AskFault, Layout, Question, ZoneWord, read_question};
+use station_table::OffsetTable;
+use std::alloc::{AllocError, Global};
+use tide_answer::{Fault, Given, Refusal, answer, fault_line};
+use zone_time::Zone;
+
+/// The reply to the whole of a request, over a book and a table, at the present minute. Bytes behind
+/// the request count for nothing.
+///
+/// # Errors
+/// [`AllocError`] says nothing of the request.
+pub fn reply(
+    alloc: Global,
+    book: &Book,
+    table: &OffsetTable,
+    request: &[u8],
+    now: i64,
+) -> Result<Bytes, AllocError>
+    requires book { IsBook book.now }
+    requires table { IsTable table.now }
+    requires now { IsClockMinute now }
+    ensures { IfOk result (IsReply book.now table.now now request.now) }
+{
+    match row_for(request) {
+        Row::Rejects(rejection, bodiless) => rejection_reply(alloc, rejection, bodiless),
+        Row::Asks(asking) => asking_reply(alloc, book, table, &asking, now),
+    }
+}
+
+/// The reply of a fixed row.
+fn rejection_reply(alloc: Global, rejection: Rejection, bodiless: bool) -> Result<Bytes, AllocError>
+    ensures { IfOk result (λ bytes. bytes ≡ rejection_of rejection bodiless) }
+{
+    let mut out = ArrayString::new();
+    write_rejection(rejection, bodiless, &mut out);
+    Ok(Bytes::from_vec(out.as_bytes().to_vec(alloc)?))
+}
+
+/// The reply to what is asked behind the fixed rows.
+///
+/// # Errors
+/// [`AllocError`] says nothing of the request.
+#[tactic(auto, unfolding(crate::specs::Replies::asking_reply, crate::specs::Replies::question_reply))]
+pub(crate) fn asking_reply(
+    alloc: Global,
+    book: &Book,
+    table: &OffsetTable,
+    asking: &Asking<'_>,
+    now: i64,
+) -> Result<Bytes, AllocError>
+    requires book { IsBook book.now }
+    requires table { IsTable table.now }
+    requires asking { IsAsking (asking_seen asking.now) }
+    requires now { IsClockMinute now }
+    ensures { IfOk result (λ bytes. bytes ≡ asking_reply book.now table.now now (asking_seen asking.now)) }
+{
+    let pairs = pairs_of(alloc, asking)?;
+    match read_question(alloc, &pairs) {
+        Ok(question) => answer_reply(alloc, book, table, &question, asking, now),
+        Err(fault) => {
+            if wants_memory(fault) {
+                return Err(AllocError);
+            }
+            fault_reply(
+                alloc,
+                Code::BadRequest,
+                table,
+                &Fault::Ask(fault),
+                asking.bodiless,
+            )
+        }
+    }
+}
+
+/// The reply to a question.
+#[tactic(auto, unfolding(crate::specs::Replies::answer_reply))]
+fn answer_reply(
+    alloc: Global,
+    book: &Book,
+    table: &OffsetTable,
+    question: &Question,
+    asking: &Asking<'_>,
+    now: i64,
+) -> Result<Bytes, AllocError>
+    requires book { IsBook book.now }
+    requires table { IsTable table.now }
+    requires question { IsAsked question.now }
+    requires asking { IsAsking (asking_seen asking.now) }
+    requires now { IsClockMinute now }
+    ensures { IfOk result (λ bytes. bytes ≡ answer_reply table.now question.now.layout
+        (answered book.now table.now question.now (given_with question.now (asking_seen asking.now) now)) asking.now.bodiless) }
+{
+    let given = given_with(alloc, question, asking, now)?;
+    match answer(alloc, book, table, question, &given) {
+        Ok(answer) => {
+            let kind = type_of(question.layout);
+            response(
+                alloc,
+                Code::Success,
+                kind,
+                answer.text.as_slice(),
+                asking.bodiless,
+            )
+        }
+        Err(refusal) => {
+            if wants_memory_of_refusal(refusal) {
+                return Err(AllocError);
+            }
+            let fault = Fault::Refused(refusal);
+            fault_reply(alloc, Code::Unprocessable, table, &fault, asking.bodiless)
+        }
+    }
+}
+
+/// What is given with a question besides the book and the table.
+fn given_with(
+    alloc: Global,
+    question: &Question,
+    asking: &Asking<'_>,
+    now: i64,
+) -> Result<Given, AllocError>
+    requires question { IsAsked question.now }
+    requires asking { IsAsking (asking_seen asking.now) }
+    requires now { IsClockMinute now }
+    ensures exact { IfOk result (λ given. given ≡ given_with question.now (asking_seen asking.now) now) }
+    ensures given { IfOk result IsGiven }
+{
+    Ok(Given {
+        zone: zone_of(&question.zone),
+        certificate: Bytes::from_vec(asking.body.to_vec(alloc)?),
+        now,
+    })
+}
+
+/// The zone of a query's word, which never names a file.
+fn zone_of(word: &ZoneWord) -> Zone
+    requires { IsZoneWord word.now }
+    ensures exact { result ≡ zone_of word.now }
+    ensures zone { IsZone result }
+{
+    match word {
+        ZoneWord::Utc => Zone::Utc,
+        ZoneWord::Fixed(minutes) => Zone::Fixed(*minutes),
+        ZoneWord::Named(_) => Zone::Utc,
+    }
+}
+
+/// The type of an answer's text.
+fn type_of(layout: Layout) -> &'static str
+    ensures text { result.now ≡ type_of layout }
+    ensures short { length result.now ≤ 10 }
+{
+    match layout {
+        Layout::Plain => "text/plain",
+        Layout::Csv => "text/csv",
+    }
+}
+
+fn wants_memory(fault: AskFault) -> bool
+    ensures { result ≡ wants_memory fault }
+{
+    matches!(fault, AskFault::NoMemory)
+}
+
+fn wants_memory_of_refusal(refusal: Refusal) -> bool
+    ensures { result ≡ wants_memory_of_refusal refusal }
+{
+    matches!(refusal, Refusal::NoMemory)
+}
+
+/// The line that tells of a fault, as a reply.
+fn fault_reply(
+    alloc: Global,
+    code: Code,
+    table: &OffsetTable,
+    fault: &Fault,
+    bodiless: bool,
+) -> Result<Bytes, AllocError>
+    requires { IsTold table.now fault.now }
+    ensures { IfOk result (λ bytes. bytes ≡ fault_reply code table.now fault.now bodiless) }
+{
+    let line = fault_line(alloc, fault, table)?;
+    response(alloc, code, "text/plain", line.as_slice(), bodiless)
+}

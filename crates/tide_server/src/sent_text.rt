@@ -1,0 +1,22 @@
+//! Sending a text.
+
+ghost use Rattle.std.specs.Prelude.{IsTrue, is_err};
+ghost use Rattle.tide_server.specs.Workings.Connections.{SentBy};
+
+use crate::head_lines::rest_from;
+use tide_edge::{Door, Failed};
+
+/// Sends all of a text over the open connection. It takes no memory.
+///
+/// # Errors
+/// [`Failed`] where a write failed. Nothing was sent after that one.
+pub(crate) fn send<D: Door>(door: &mut D, text: &[u8]) -> Result<(), Failed>
+    requires { IsTrue (D.state door.old).doorway.is_open }
+    ensures { SentBy (is_err result) text.now (D.state door.old) (D.state door.new) }
+{
+    let mut at = 0;
+    while at < text.len() {
+        at += door.write(rest_from(text, at))?;
+    }
+    Ok(())
+}

@@ -1,0 +1,140 @@
+//! The server, from the words to the status.
+
+ghost use Rattle.std.specs.Prelude.{◌≡◌, ◌++◌, ◌≤◌, ◌+◌, Bool, false, true, IsTrue, [], IsOk, None, decimal};
+ghost use Rattle.arrayvec.specs.ArrayString.{array_string_len};
+ghost use Rattle.tide_edge.specs.Doors.{asked};
+ghost use Rattle.tide_edge.specs.SinkStates.{Wrote};
+ghost use Rattle.tide_edge.specs.Whole.{ReadWithin};
+ghost use Rattle.tide_fault.specs.declared.status.Status.{Status};
+ghost use Rattle.named_files.specs.Readings.{Folders};
+ghost use Rattle.tide_server.specs.Openings.{EndedBy, EndsAs, TookNone, files_asked, handed, is_read_fault, notice_of, service_of, stock_from, stock_of};
+ghost use Rattle.tide_server.specs.Serving.{IsOver};
+ghost use Rattle.tide_server.specs.Workings.Connections.{IsStock};
+ghost use Rattle.tide_server.specs.Workings.Ends.{Ended, unread};
+
+use crate::connections::serve_all;
+use crate::request::Request;
+use crate::stock::Stock;
+use crate::stock_reading::read_stock;
+use arrayvec::ArrayString;
+use decimal_text::Words;
+use itoa::Buffer;
+use named_files::{refuse, tell};
+use std::alloc::Global;
+use tide_edge::{Clock, Door, Files, Sink};
+use tide_fault::Status;
+
+/// Serves the tables of the files that the words name, at the port that they name: reads words and
+/// files, takes the memory for the longest request, listens, and serves one connection after the
+/// other. It tells on `err` where it listens, and why it ends where something has failed; a failure
+/// there changes nothing. A failure of a connection's lines ends that connection alone. The clock is
+/// asked once for each connection that has a byte, and the reply is of that minute. Of a door that
+/// keeps pieces no connection is read further than its reply needs.
+pub fn serve<F: Files, D: Door, E: Sink, K: Clock>(
+    alloc: Global,
+    words: &Words,
+    files: &mut F,
+    door: &mut D,
+    err: &mut E,
+    clock: &mut K,
+) -> Status
+    requires { (D.state door.old).doorway.port ≡ None }
+    ensures own_files { IsTrue (F.state files.old).store.tells
+        → EndsAs (IsTrue (F.state files.old).store.is_steady) (stock_of (F.state files.old).store.folder words.now) result
+        (handed (F.state files.old) (D.state door.old) (E.state err.old) (K.state clock.old))
+        (handed (F.state files.new) (D.state door.new) (E.state err.new) (K.state clock.new)) }
+    ensures some_files { (folders : Folders)
+        × EndsAs (Unit {0}) (stock_from folders words.now) result
+        (handed (F.state files.old) (D.state door.old) (E.state err.old) (K.state clock.old))
+        (handed (F.state files.new) (D.state door.new) (E.state err.new) (K.state clock.new)) }
+    ensures done { result ≡ Status.Done → IsOver (D.state door.new).doorway }
+    ensures read_fault { EndedBy (is_read_fault result)
+        (handed (F.state files.old) (D.state door.old) (E.state err.old) (K.state clock.old))
+        (handed (F.state files.new) (D.state door.new) (E.state err.new) (K.state clock.new)) }
+    ensures read { (failed : Bool) × ReadWithin (files_asked (service_of words.now)) failed (F.state files.old) (F.state files.new) }
+    ensures read_first { ¬ ((D.state door.new).doorway.port ≡ None) → (F.state files.new).faults ≡ (F.state files.old).faults }
+    ensures unopened { ¬ (IsOk (service_of words.now)) → files.new ≡ files.old }
+    ensures unlistened { (D.state door.new).doorway.port ≡ None → door.new ≡ door.old }
+    ensures unasked { TookNone (D.state door.new).doorway → clock.new ≡ clock.old }
+    ensures closed { ¬ ((D.state door.new).doorway.port ≡ None) → (D.state door.new).doorway.is_open ≡ false }
+{
+    match read_stock(alloc, words, files) {
+        Ok(stock) => match Request::new(alloc) {
+            Ok(mut request) => serve_stock(alloc, &stock, &mut request, door, err, clock),
+            Err(_) => refuse(err, Status::NoMemory, b"no memory\n"),
+        },
+        Err(none) => tell(alloc, none, err),
+    }
+}
+
+// Listens, and serves what comes.
+fn serve_stock<D: Door, E: Sink, K: Clock>(
+    alloc: Global,
+    stock: &Stock,
+    request: &mut Request,
+    door: &mut D,
+    err: &mut E,
+    clock: &mut K,
+) -> Status
+    requires unasked { (D.state door.old).doorway.port ≡ None }
+    requires stock { IsStock stock.now }
+    ensures ended { Ended stock.now result
+        (unread (D.state door.old) (E.state err.old) (K.state clock.old))
+        (unread (D.state door.new) (E.state err.new) (K.state clock.new)) }
+    ensures unasked { (D.state door.new).doorway.taken ≡ 0 → clock.new ≡ clock.old }
+{
+    match door.listen(stock.port) {
+        Ok(()) => serve_open(alloc, stock, request, door, err, clock),
+        Err(_) => refuse(err, Status::ReadFault, b"read fault\n"),
+    }
+}
+
+// Serves what comes to the door, which listens.
+fn serve_open<D: Door, E: Sink, K: Clock>(
+    alloc: Global,
+    stock: &Stock,
+    request: &mut Request,
+    door: &mut D,
+    err: &mut E,
+    clock: &mut K,
+) -> Status
+    requires listens { (D.state door.old).doorway ≡ asked stock.now.port true }
+    requires stock { IsStock stock.now }
+    ensures ended { Ended stock.now result
+        (unread (D.state door.old) (E.state err.old) (K.state clock.old))
+        (unread (D.state door.new) (E.state err.new) (K.state clock.new)) }
+    ensures unasked { (D.state door.new).doorway.taken ≡ 0 → clock.new ≡ clock.old }
+{
+    tell_port(stock.port, err);
+    match serve_all(alloc, stock, request, door, clock) {
+        Ok(()) => Status::Done,
+        Err(_) => refuse(err, Status::ReadFault, b"read fault\n"),
+    }
+}
+
+// Tells where the server listens.
+fn tell_port<E: Sink>(port: u16, err: &mut E)
+    ensures { (failed : Bool) × Wrote (E.state err.old) (E.state err.new) failed (notice_of port) }
+{
+    let mut line = ArrayString::new();
+    write_notice(port, &mut line);
+    refuse(err, Status::Done, line.as_str().as_bytes());
+}
+
+fn write_notice(port: u16, line: &mut ArrayString<64>)
+    requires { line.old.bytes ≡ [] }
+    ensures { line.new.bytes ≡ notice_of port }
+{
+    line.push_str("http://127.0.0.1:");
+    push_port(port, line);
+    line.push_str("/\n");
+}
+
+fn push_port(port: u16, line: &mut ArrayString<64>)
+    requires { array_string_len line.old + 40 ≤ 64 }
+    ensures bytes { line.new.bytes ≡ line.old.bytes ++ decimal port }
+    ensures short { array_string_len line.new ≤ array_string_len line.old + 40 }
+{
+    let mut buffer = Buffer::new();
+    line.push_str(buffer.format(port));
+}

@@ -1,0 +1,98 @@
+//! What a server serves from.
+
+ghost use Rattle.std.specs.Prelude.{◌≡◌, [], IsOk, IsTrue, IfOk, IfErr};
+ghost use Rattle.decimal_text.specs.Expected.{Gives};
+ghost use Rattle.question.specs.Questions.{wants_memory as ask_wants_memory};
+ghost use Rattle.question.specs.Words.{pairs_of};
+ghost use Rattle.tide_fault.specs.Faults.{wants_memory, IsTold as IsToldFault};
+ghost use Rattle.tide_edge.specs.Excuses.{Meets};
+ghost use Rattle.tide_edge.specs.Whole.{ReadWithin, both, one_file};
+ghost use Rattle.named_files.specs.NoAnswers.{IsTold, reading_failed, source_of};
+ghost use Rattle.named_files.specs.Readings.{Folders, allowed_for, limit_of};
+ghost use Rattle.tide_fault.specs.declared.slot.Slot.{Slot};
+ghost use Rattle.tide_server.specs.Openings.{asks_another, files_asked, service_in, service_of, stock_from, stock_named, stock_of};
+ghost use Rattle.tide_server.specs.Workings.Connections.{IsStock};
+
+use crate::stock::Stock;
+use decimal_text::{Text, Words};
+use named_files::{NoAnswer, read_book, read_table};
+use question::{AskFault, Key, Pairs, Question, pairs_of_words, read_question};
+use std::alloc::Global;
+use tide_edge::Files;
+use tide_fault::Fault;
+
+/// What the words ask to serve from, or the first fault on the way to it: the words, the harmonic
+/// constants, the table, of each file its reading before its form.
+pub(crate) fn read_stock<F: Files>(
+    alloc: Global,
+    words: &Words,
+    files: &mut F,
+) -> Result<Stock, NoAnswer>
+    ensures own { IsTrue (F.state files.old).store.tells → Meets source_of (IsTrue (F.state files.old).store.is_steady)
+        (stock_of (F.state files.old).store.folder words.now) result }
+    ensures some { (folders : Folders) × Meets source_of (Unit {0}) (stock_from folders words.now) result }
+    ensures sound { IfOk result IsStock }
+    ensures told { IfErr result IsTold }
+    ensures read { ReadWithin (files_asked (service_of words.now)) (reading_failed result) (F.state files.old) (F.state files.new) }
+    ensures unopened { ¬ (IsOk (service_of words.now)) → files.new ≡ files.old }
+{
+    let question = read_service(alloc, words)?;
+    match &question.file {
+        Some(name) => read_named(alloc, files, &question, name),
+        None => Err(NoAnswer::Told(Fault::Ask(AskFault::MissingKey(Key::File)))),
+    }
+}
+
+// What the files hold, of which the first has this name.
+#[tactic(auto, unfolding(crate::specs::Openings::stock_named))]
+fn read_named<F: Files>(
+    alloc: Global,
+    files: &mut F,
+    question: &Question,
+    name: &Text,
+) -> Result<Stock, NoAnswer>
+    ensures own { IsTrue (F.state files.old).store.tells → Meets source_of (IsTrue (F.state files.old).store.is_steady)
+        (stock_named (λ slot. (F.state files.old).store.folder) question.now name.now) result }
+    ensures some { (folders : Folders) × Meets source_of (Unit {0}) (stock_named folders question.now name.now) result }
+    ensures sound { IfOk result IsStock }
+    ensures told { IfErr result IsTold }
+    ensures read { ReadWithin (both (one_file (limit_of Slot.File)) (allowed_for Slot.Offsets question.now.offsets))
+        (reading_failed result) (F.state files.old) (F.state files.new) }
+{
+    let book = read_book(alloc, files, name)?;
+    let table = read_table(alloc, files, &question.offsets)?;
+    Ok(Stock {
+        book,
+        table,
+        port: question.port,
+    })
+}
+
+// What the words ask of a server.
+#[tactic(auto, unfolding(crate::specs::Openings::service_of))]
+fn read_service(alloc: Global, words: &Words) -> Result<Question, Fault>
+    ensures exact { Gives wants_memory (service_of words.now) result }
+    ensures told { IfErr result (IsToldFault []) }
+{
+    let question = service_in_words(alloc, words)?;
+    Ok(question)
+}
+
+fn service_in_words(alloc: Global, words: &Words) -> Result<Question, AskFault>
+    ensures { Gives ask_wants_memory (service_in (pairs_of words.now)) result }
+{
+    let pairs = pairs_of_words(alloc, words)?;
+    if asks_another(&pairs) {
+        return Err(AskFault::UnknownCommand);
+    }
+    read_question(alloc, &pairs)
+}
+
+fn asks_another(pairs: &Pairs) -> bool
+    ensures { result ≡ asks_another pairs.now }
+{
+    match &pairs.command {
+        Some(word) => word.as_str() != "serve",
+        None => false,
+    }
+}
