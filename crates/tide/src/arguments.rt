@@ -11,8 +11,8 @@ use std::alloc::{AllocError, Global};
 use std::env;
 use std::env::Args;
 use std::io::ErrorKind;
-use tide_desk::Status;
 use tide_edge::Sink;
+use tide_fault::Status;
 
 /// Why the program has no words.
 #[derive(Clone, Copy, Debug, PartialEq, Eq)]

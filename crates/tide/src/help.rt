@@ -75,7 +75,7 @@ impl Page {
 pub fn page_asked(words: &Words) -> Option<Page>
     ensures { result ≡ page_of words.now }
 {
-    if words.as_slice().iter().any(asks_for_help) {
+    if words.as_slice().iter().any(|word| asks_for_help(word)) {
         return Some(Page::Help);
     }
     match words.as_slice().first() {

@@ -10,8 +10,8 @@ mod tests;
 use arguments::{read_words, tell_no_words};
 use responding::respond;
 use std::process::ExitCode;
-use tide_desk::Status;
 use tide_edge::{HostClock, HostDoor, HostFiles, HostSink};
+use tide_fault::Status;
 
 fn main(rt: HostRuntime) -> ExitCode {
     ExitCode::from(run_words(&rt).number())

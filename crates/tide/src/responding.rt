@@ -15,8 +15,9 @@ use crate::help::{Page, asks_to_serve, page_asked};
 use decimal_text::Words;
 use named_files::refuse;
 use std::alloc::Global;
-use tide_desk::{Status, run};
+use tide_desk::run;
 use tide_edge::{Clock, Door, Files, Sink, write_all};
+use tide_fault::Status;
 use tide_server::serve;
 
 /// Writes the page that the words ask for, or serves where they ask for that, or else answers them, over

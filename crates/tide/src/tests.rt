@@ -8,8 +8,8 @@ use crate::responding::respond;
 use decimal_text::{Bytes, Text, Words};
 use std::alloc::{AllocError, Global};
 use std::test::Fail;
-use tide_desk::Status;
 use tide_edge::{FixedClock, MemoryDoor, MemoryFiles, MemorySink, NamedFile};
+use tide_fault::Status;
 
 /// A pier with a tide of half a day, from 1999 to 2001.
 const PIER: &str = "# Pier test\n1\nS2 30.0000000\n1999\n3\nS2\n0 0 0\n*END*\n3\nS2\n1 1 1\n*END*\n\
@@ -66,7 +66,7 @@ fn responded(alloc: Global, line: &str) -> Result<Left, AllocError> {
     let words = words_of(alloc, line)?;
     let mut files = files_of(alloc)?;
     let mut door = MemoryDoor::new(alloc, request_of(alloc)?, 4_096, Vec::new(alloc))?;
-    let mut out = MemorySink::new(alloc, 4_096, 65_536, Vec::new(alloc))?;
+    let mut out = MemorySink::new(alloc, 65_536, 4_000_000, Vec::new(alloc))?;
     let mut err = MemorySink::new(alloc, 4_096, 4_096, Vec::new(alloc))?;
     let mut clock = FixedClock::new(15_791_220, Vec::new(alloc));
     let status = respond(
@@ -108,7 +108,6 @@ const ANSWERED: &[(&str, &str)] = &[
     ),
     ("stations|file=pier.txt", "Ref feet Pier\n"),
     ("sample|seed=1", "#"),
-    ("trial|seed=1", ""),
     ("--help", "Predicts tides"),
     ("-h", "Predicts tides"),
     ("predict|file=none.txt|-h", "Predicts tides"),

@@ -1,8 +1,8 @@
 -- What goes over a connection, piece by piece.
-use Rattle.std.proofs.Common.{◌≡◌, ℕ, ◌+◌, ◌<◌, ◌≤◌, Bool, false, true, List, [], ◌∷◌, ◌++◌, length, take, drop, append_assoc, append-nil, arith, ap, sym, ◌∙◌, subst, refl, Result, Ok, Err, inl, inr}
+use Rattle.std.proofs.Common.{◌≡◌, ℕ, ◌+◌, ◌<◌, ◌≤◌, Bool, false, true, List, [], ◌∷◌, ◌++◌, length, take, drop, append_assoc, append-nil, arith, ap, sym, ◌∙◌, subst, refl, Result, Ok, Err, Some, inl, inr}
 use Rattle.std.specs.Bool.{IsTrue}
 use Rattle.std.specs.List.{concat}
-use Rattle.std.specs.Prelude.{nat_le, if◌then◌else◌}
+use Rattle.std.specs.Prelude.{nat_le, ◌==◌, ◌||◌, ◌↔◌, if◌then◌else◌}
 use Rattle.std.proofs.lemmas.Bool.Decides.{nat_tests}
 use Rattle.std.proofs.lemmas.List.{take-append-drop}
 use Rattle.std.proofs.Math.Seq.{drop-nil, take-add}
@@ -13,7 +13,7 @@ use Rattle.tide_server.specs.declared.limits.TheConstants.{LONGEST}
 use Rattle.tide_server.specs.Heads.{head_end, head_length}
 use Rattle.tide_server.specs.Rows.{Row, IsRow, is_settled}
 use Rattle.tide_server.specs.Serving.{IsEnough, IsReadAsNeeded}
-use Rattle.tide_server.specs.Workings.Connections.{HasRead, IsRead, SentBy, read_to, sent}
+use Rattle.tide_server.specs.Workings.Connections.{HasRead, IsRead, IsReadAs, SentBy, read_to, sent}
 use Rattle.tide_server.proofs.PieceLemmas.{all_left, bytes_left, left_on}
 use Rattle.tide_server.proofs.RowLemmas.{long_settled, one_row_at}
 
@@ -186,6 +186,7 @@ parts_read first now request so_far t = read_parts first.traffic.rest request so
 pub all_read : (first now after : DoorState) (request next : List ℕ) (count : ℕ) → ReadSoFar first request now
     → OneMore now request next count after → IsTrue first.tells → (IsTrue now.tells → concat now.traffic.rest ≡ [])
     → IsRead (concat first.traffic.rest) next
+unfolding read_on
 all_read first now after request next count so_far more t none =
     let now_read = read_on first now after request next count so_far more in
     let ended : concat so_far.left ≡ [] =
@@ -201,6 +202,43 @@ pub enough_read : (first now : DoorState) (request : List ℕ) → ReadSoFar fir
     → IsRead (concat first.traffic.rest) request
 enough_read first now request so_far t enough =
     record { rest = concat so_far.left; parts = parts_read first now request so_far t; enough = inr enough }
+
+pub none_came : (bytes : List ℕ) → IsRead bytes [] → bytes ≡ []
+none_came bytes read = elim read.enough [ inl none ↦ read.parts ∙ none | inr e ↦ absurd (not_enough e) ]
+
+found_by : (ends settled : Bool) (first now after : DoorState) (request next : List ℕ) (count : ℕ) (row : Row)
+    → ReadSoFar first request now → OneMore now request next count after → (ends || settled) ≡ true
+    → (ends ≡ true → IsTrue now.tells → concat now.traffic.rest ≡ []) → (settled ≡ true → IsTrue (is_settled row))
+    → IsRow next row → IsTrue first.tells → IsRead (concat first.traffic.rest) next
+found_by true settled first now after request next count row so_far more is over enough row_is t =
+    all_read first now after request next count so_far more t (λ u. over refl u)
+found_by false settled first now after request next count row so_far more is over enough row_is t =
+    enough_read first after next (read_on first now after request next count so_far more) t (row, row_is, enough is)
+
+is_none : (count : ℕ) → (count == 0) ≡ true → count ≡ 0
+is_none count is = grind (arith, nat_tests)
+
+-- the row of what was read, where reading has ended
+pub row_found : (first now after : DoorState) (request next : List ℕ) (count : ℕ) (row : Row)
+    → ReadSoFar first request now → OneMore now request next count after → (count == 0 || is_settled row) ≡ true
+    → (IsTrue now.tells → (count ≡ 0) ↔ (concat now.traffic.rest ≡ [])) → ¬ (next ≡ []) → IsRow next row
+    → IsTrue first.tells → IsReadAs (concat first.traffic.rest) (Some row)
+row_found first now after request next count row so_far more is over some row_is t = (
+  next,
+  found_by (count == 0) (is_settled row) first now after request next count row so_far more is
+      (λ e u. (over u).0 (is_none count e)) (λ s. s) row_is t,
+  some,
+  row_is,
+)
+
+pub not_settled : (ends settled : Bool) → (ends || settled) ≡ false → settled ≡ false
+not_settled true settled is = absurd (cc)
+not_settled false settled is = is
+
+pub still_open_after : (first now after : DoorState) (request next : List ℕ) (count : ℕ) → ReadSoFar first request now
+    → OneMore now request next count after → after.doorway ≡ first.doorway
+still_open_after first now after request next count so_far more =
+    still_open first after next (read_on first now after request next count so_far more)
 
 -- nothing more is read: the last read has failed
 pub has_failed : (first now after : DoorState) (request : List ℕ) (failed : Failed) → ReadSoFar first request now

@@ -15,6 +15,7 @@ use Rattle.tide_edge.specs.Excuses.{Excuses, Meets}
 use Rattle.tide_edge.specs.Faults.{faults_after}
 use Rattle.tide_edge.specs.FileStates.{FilesState}
 use Rattle.tide_edge.specs.SinkStates.{SinkState, Wrote, WroteBoth, put}
+use Rattle.tide_edge.proofs.WritingLemmas.{put_none}
 use Rattle.tide_edge.specs.Whole.{ReadWithin, both, one_file}
 use Rattle.named_files.specs.declared.no_answer.NoAnswer.{NoAnswer}
 use Rattle.named_files.specs.declared.no_answer.NoAnswer.TheVariants.{Told}
@@ -51,16 +52,8 @@ read_named question asked name failed before after is file read =
 
 -- ---- What was written
 
-with_taken : SinkState → List ℕ → SinkState
-with_taken s taken = record s { taken = taken }
-
-same_taken : (tells : Bool) (taken : List ℕ) → taken ≡ (if tells then taken ++ [] else taken)
-same_taken true taken = sym (append-nil taken)
-same_taken false taken = refl
-
 put_nothing : (s : SinkState) → s ≡ put [] s
-unfolding with_taken
-put_nothing s = ap (with_taken s) (same_taken s.tells s.taken)
+put_nothing s = sym (put_none s)
 
 -- one text, behind nothing
 pub wrote_one : (before after : SinkState) (failed : Bool) (text : List ℕ) → Wrote before after failed text → WroteBoth before after [] text

@@ -16,7 +16,7 @@ use Rattle.tide_server.specs.declared.stock.Stock.{Stock}
 use Rattle.tide_server.specs.Openings.{EndedBy, HasListened, notice_of}
 use Rattle.tide_server.specs.Serving.{Exchange, IsOver, Served, exchange}
 use Rattle.tide_server.specs.Workings.Ends.{Ended, unread, with_files}
-use Rattle.tide_server.specs.Workings.Steps.{IsKept, is_clock_outage, is_door_outage}
+use Rattle.tide_server.specs.Workings.Steps.{IsKept, is_clock, is_door}
 use Rattle.tide_server.proofs.OpeningLemmas.{wrote_first, wrote_one}
 use Rattle.tide_server.proofs.StepLemmas.{nobody}
 
@@ -58,7 +58,7 @@ served_done stock door door_after err err_after clock clock_after failed serves 
 
 -- by the door or by the clock
 by_outage : (outage : Outage) (door door_after : DoorState) (err err_after : SinkState) (clock clock_after : ClockState) (files left : FilesState)
-    → IsKept (is_door_outage {T = Unit {0}} (Err outage)) (is_clock_outage {T = Unit {0}} (Err outage)) (exchange door clock) (exchange door_after clock_after)
+    → IsKept (is_door outage) (is_clock outage) (exchange door clock) (exchange door_after clock_after)
     → left.faults ≡ files.faults
     → EndedBy true (with_files files (unread door err clock)) (with_files left (unread door_after err_after clock_after))
 by_outage outages.Door door door_after err err_after clock clock_after files left kept same = record {
@@ -89,7 +89,7 @@ by_outage outages.Clock door door_after err err_after clock clock_after files le
 pub served_failed : (stock : Stock) (outage : Outage) (door door_after : DoorState) (err between err_after : SinkState)
     (clock clock_after : ClockState) (failed also_failed : Bool)
     → Serves stock true (exchange door clock) (exchange door_after clock_after)
-    → IsKept (is_door_outage {T = Unit {0}} (Err outage)) (is_clock_outage {T = Unit {0}} (Err outage)) (exchange door clock) (exchange door_after clock_after)
+    → IsKept (is_door outage) (is_clock outage) (exchange door clock) (exchange door_after clock_after)
     → Wrote err between failed (notice_of stock.port) → Wrote between err_after also_failed (codes "read fault\n")
     → Ended stock ReadFault (unread door err clock) (unread door_after err_after clock_after)
 served_failed stock outage door door_after err between err_after clock clock_after failed also_failed serves kept first second = record {
@@ -106,9 +106,9 @@ served_failed stock outage door door_after err between err_after clock clock_aft
 
 -- ---- The door was asked to listen
 
-same_served : (stock : Stock) (failed : Bool) (port : ℕ) (door : DoorState) (clock : ClockState) (after : Exchange)
-    → Served stock failed (exchange (door_after_listen {T = Unit {0}} (Ok tt) port door) clock) after → Served stock failed (exchange door clock) after
-same_served stock failed port door clock after s = record {
+same_served : {T : Type 0} (value : T) (stock : Stock) (failed : Bool) (port : ℕ) (door : DoorState) (clock : ClockState) (after : Exchange)
+    → Served stock failed (exchange (door_after_listen (Ok value) port door) clock) after → Served stock failed (exchange door clock) after
+same_served value stock failed port door clock after s = record {
   served = s.served;
   left = s.left;
   requests = s.requests;
@@ -122,18 +122,18 @@ same_served stock failed port door clock after s = record {
   bytes = s.bytes;
 }
 
-pub ended_listening : (stock : Stock) (status : Status) (door opened door_after : DoorState) (err err_after : SinkState)
-    (clock clock_after : ClockState) → opened ≡ door_after_listen {T = Unit {0}} (Ok tt) stock.port door
+pub ended_listening : {T : Type 0} (value : T) (stock : Stock) (status : Status) (door opened door_after : DoorState) (err err_after : SinkState)
+    (clock clock_after : ClockState) → opened ≡ door_after_listen (Ok value) stock.port door
     → Ended stock status (unread opened err clock) (unread door_after err_after clock_after)
     → Ended stock status (unread door err clock) (unread door_after err_after clock_after)
-ended_listening stock status door opened door_after err err_after clock clock_after is behind =
+ended_listening value stock status door opened door_after err err_after clock clock_after is behind =
     let E : DoorState → Type 0 = λ d. Ended stock status (unread d err clock) (unread door_after err_after clock_after) in
-    let e : E (door_after_listen {T = Unit {0}} (Ok tt) stock.port door) = subst E is behind in record {
+    let e : E (door_after_listen (Ok value) stock.port door) = subst E is behind in record {
       listened = λ files left. record {
         asked = (e.listened files left).asked;
         ends = (e.listened files left).ends;
         served = λ t k.
-            same_served stock _ stock.port door clock (exchange door_after clock_after) ((e.listened files left).served t k);
+            same_served value stock _ stock.port door clock (exchange door_after clock_after) ((e.listened files left).served t k);
         wrote = (e.listened files left).wrote;
       };
       done = e.done;
@@ -153,16 +153,16 @@ ended_listening stock status door opened door_after err err_after clock clock_af
           };
     }
 
-unlistening : (stock : Stock) (failed_to : Failed) (door : DoorState) (err err_after : SinkState) (clock : ClockState) (failed : Bool)
+unlistening : (T : Type 0) (stock : Stock) (failed_to : Failed) (door : DoorState) (err err_after : SinkState) (clock : ClockState) (failed : Bool)
     → Wrote err err_after failed (codes "read fault\n")
     → Ended stock ReadFault (unread door err clock)
-    (unread (door_after_listen {T = Unit {0}} (Err failed_to) stock.port door) err_after clock)
-unlistening stock failed_to door err err_after clock failed wrote = record {
+    (unread (door_after_listen {T = T} (Err failed_to) stock.port door) err_after clock)
+unlistening T stock failed_to door err err_after clock failed wrote = record {
   listened = λ files left. record {
     asked = refl;
     ends = inr refl;
     served = λ t k.
-        nobody stock true (exchange door clock) (exchange (door_after_listen {T = Unit {0}} (Err failed_to) stock.port door) clock) refl refl refl refl;
+        nobody stock true (exchange door clock) (exchange (door_after_listen {T = T} (Err failed_to) stock.port door) clock) refl refl refl refl;
     wrote = wrote_one err err_after failed (codes "read fault\n") wrote;
   };
   done = λ is. absurd (cc);
@@ -181,10 +181,10 @@ unlistening stock failed_to door err err_after clock failed wrote = record {
   };
 }
 
-pub ended_unlistening : (stock : Stock) (failed_to : Failed) (door door_after : DoorState) (err err_after : SinkState) (clock : ClockState)
-    (failed : Bool) → door_after ≡ door_after_listen {T = Unit {0}} (Err failed_to) stock.port door
+pub ended_unlistening : (T : Type 0) (stock : Stock) (failed_to : Failed) (door door_after : DoorState) (err err_after : SinkState) (clock : ClockState)
+    (failed : Bool) → door_after ≡ door_after_listen {T = T} (Err failed_to) stock.port door
     → Wrote err err_after failed (codes "read fault\n")
     → Ended stock ReadFault (unread door err clock) (unread door_after err_after clock)
-ended_unlistening stock failed_to door door_after err err_after clock failed is wrote =
+ended_unlistening T stock failed_to door door_after err err_after clock failed is wrote =
     let E : DoorState → Type 0 = λ d. Ended stock ReadFault (unread door err clock) (unread d err_after clock) in
-    subst E (sym is) (unlistening stock failed_to door err err_after clock failed wrote)
+    subst E (sym is) (unlistening T stock failed_to door err err_after clock failed wrote)

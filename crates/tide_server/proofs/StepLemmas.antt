@@ -9,14 +9,14 @@ use Rattle.std.proofs.lemmas.List.{map-append}
 use Rattle.std.proofs.lemmas.List.Elements.{All-nil, All-push}
 use Rattle.tide_edge.specs.declared.failed.Failed.{Failed}
 use Rattle.tide_edge.specs.Clocks.{ClockState, clock_after, next_minute}
-use Rattle.tide_edge.specs.Doors.{Doorway, DoorState, Traffic, append_to_last, door_after_close, door_after_next, first_or_empty, taken_by}
+use Rattle.tide_edge.specs.Doors.{Doorway, DoorState, Traffic, after_next, append_to_last, closed, door_after_close, door_after_next, first_or_empty, taken_by}
 use Rattle.tide_edge.specs.Faults.{counted, faults_after}
 use Rattle.tide_server.specs.declared.outage.Outage.{Outage}
 use Rattle.tide_server.specs.declared.outage.Outage.TheVariants as outages
 use Rattle.tide_server.specs.declared.stock.Stock.{Stock}
 use Rattle.tide_server.specs.Serving.{Answers, AnswersUnlessCut, AreHeld, AsksUnlessCut, Conversation, Exchange, IsHeld, IsLastReadAsNeeded, IsReadAsNeeded, MayLeave, RoseBy, Served, clock_after_all, clock_with, exchange}
 use Rattle.tide_server.specs.Workings.Connections.{Closed, Talk, talked}
-use Rattle.tide_server.specs.Workings.Steps.{IsKept, IsNext, LeftNext, ServedNext, StepBy, WereServed, after_taking, conversation, door_at_end, door_failed, door_with, is_clock, is_door, serving}
+use Rattle.tide_server.specs.Workings.Steps.{IsKept, IsNext, LeftNext, ServedNext, StepBy, WereServed, conversation, door_at_end, door_failed, door_with, is_clock, is_door, serving}
 use Rattle.tide_server.proofs.AnswerLemmas.{talk_of, unsent_talk}
 use Rattle.tide_server.proofs.ConnectionLemmas.{append_last, unread_again}
 use Rattle.tide_server.proofs.PieceLemmas.{last_read}
@@ -339,7 +339,7 @@ counted_by false count is few = rw is refl
 pub counted_on : (count : ℕ) → count < 2 ^ 64 - 1 → counted count ≡ count + 1
 counted_on count few = counted_by (count == 2 ^ 64 - 1) count refl few
 
-pub next_serving : (port count : ℕ) (after : Doorway) → count < 2 ^ 64 - 1 → after ≡ after_taking (serving port count)
+pub next_serving : (port count : ℕ) (after : Doorway) → count < 2 ^ 64 - 1 → after ≡ closed (after_next (Ok true) (serving port count))
     → after ≡ serving port (count + 1)
 next_serving port count after few is = is ∙ ap (serving port) (counted_on count few)
 

@@ -54,12 +54,12 @@ pub record IsHeld (stock : Stock) (minute : ℤ) (c : Conversation) : Type 0 whe
 abbrev pub clock_with : Bool → ClockState → ClockState
 clock_with is_asked clock = if is_asked then clock_after false clock else clock
 
-pub clock_after_all : List Conversation → ClockState → ClockState
+unfoldable pub clock_after_all : List Conversation → ClockState → ClockState
 clock_after_all [] clock = clock
 clock_after_all (c ∷ more) clock = clock_after_all more (clock_with c.is_asked clock)
 
 -- each was held at the minute that the clock gives at the asking for it
-pub AreHeld : Stock → ClockState → List Conversation → Type 0
+unfoldable pub AreHeld : Stock → ClockState → List Conversation → Type 0
 AreHeld stock clock [] = Unit {0}
 AreHeld stock clock (c ∷ more) = IsHeld stock (next_minute clock) c × AreHeld stock (clock_with c.is_asked clock) more
 

@@ -1,0 +1,62 @@
+use Rattle.std.proofs.Common.{◌≡◌, ◌∙◌, true, ap, arith, refl, rules}
+use Rattle.std.proofs.lemmas.Result.{err_from_is_err_and}
+use Rattle.tide_server.specs.Serving.{exchange}
+use Rattle.tide_server.proofs.StepLemmas.{failed, kept_by, kept_on, more_served, next_serving, none_kept, none_served}
+use Rattle.tide_server.proofs.connections.serve_all.Goals as goal
+
+pub loop-taken-init : goal.loop-taken-init
+loop-taken-init g c = record {
+  doorway = c.requires.listens;
+  kept = none_kept (exchange (g.D.Door.state c.args.door.now) (g.K.Clock.state c.args.clock.now));
+  served = λ t k. none_served c.args.stock.now (exchange (g.D.Door.state c.args.door.now) (g.K.Clock.state c.args.clock.now));
+  unasked = λ none. refl;
+}
+
+pub returns-in_err-serve_next-clause-served : goal.returns-in_err-serve_next-clause-served
+returns-in_err-serve_next-clause-served g c =
+    λ t k. let p = err_from_is_err_and c.from_residual.result c.from_residual.ensures.1 in
+    rw p.1
+    (failed
+    c.args.stock.now
+    c.in_err-serve_next.field-0.0
+    c.loop-taken._taken
+    (exchange (g.D.Door.state c.args.door.now) (g.K.Clock.state c.args.clock.now))
+    (exchange (g.D.Door.state c.loop-taken.door) (g.K.Clock.state c.loop-taken.clock))
+    (exchange (g.D.Door.state c.serve_next.new.door) (g.K.Clock.state c.serve_next.new.clock))
+    t
+    c.loop-taken-test.true
+    (ap (λ d. d.taken) c.loop-taken.invariant.doorway)
+    c.loop-taken.invariant.kept
+    (c.loop-taken.invariant.served t k)
+    c.in_err-serve_next.ensures.steps)
+
+pub returns-in_err-serve_next-clause-kept : goal.returns-in_err-serve_next-clause-kept
+returns-in_err-serve_next-clause-kept g c =
+    let p = err_from_is_err_and c.from_residual.result c.from_residual.ensures.1 in
+    rw p.1
+    (kept_by
+    c.args.stock.now
+    c.in_err-serve_next.field-0.0
+    (exchange (g.D.Door.state c.args.door.now) (g.K.Clock.state c.args.clock.now))
+    (exchange (g.D.Door.state c.loop-taken.door) (g.K.Clock.state c.loop-taken.clock))
+    (exchange (g.D.Door.state c.serve_next.new.door) (g.K.Clock.state c.serve_next.new.clock))
+    c.loop-taken.invariant.kept
+    c.in_err-serve_next.ensures.steps)
+
+pub loop-taken-preserved : goal.loop-taken-preserved
+loop-taken-preserved g c =
+    let comes : c.in_ok-serve_next.field-0 ≡ true = search rules in
+    let step = rw comes at c.in_ok-serve_next.ensures.steps in
+    let before = exchange (g.D.Door.state c.args.door.now) (g.K.Clock.state c.args.clock.now) in
+    let now = exchange (g.D.Door.state c.loop-taken.door) (g.K.Clock.state c.loop-taken.clock) in
+    let after = exchange (g.D.Door.state c.serve_next.new.door) (g.K.Clock.state c.serve_next.new.clock) in
+    let doorway = rw c.loop-taken.invariant.doorway at (ap (λ d. d.doorway) step.door) in record {
+      doorway =
+          next_serving c.args.stock.now.port c.loop-taken._taken (g.D.Door.state c.serve_next.new.door).doorway
+          c.loop-taken-test.true doorway;
+      kept = kept_on c.args.stock.now before now after c.loop-taken.invariant.kept step;
+      served = λ t k.
+          more_served c.args.stock.now c.loop-taken._taken before now after t k c.loop-taken.invariant.kept
+          (c.loop-taken.invariant.served t k) step;
+      unasked = λ none. absurd (omega (arith, none));
+    }

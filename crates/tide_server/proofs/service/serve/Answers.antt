@@ -1,0 +1,115 @@
+use Rattle.std.proofs.Common.{inl, inr, false, refl}
+use Rattle.std.specs.Bool.{IsTrue}
+use Rattle.named_files.specs.NoAnswers.{is_unread}
+use Rattle.tide_server.specs.Openings.{handed, stock_from, stock_of}
+use Rattle.tide_server.proofs.OpeningLemmas.{files_failed, refused_for, refused_full}
+use Rattle.tide_server.proofs.TellingLemmas.{told_as_read}
+use Rattle.tide_server.proofs.service.serve.Goals as goal
+
+pub returns-in-Ok-clause-own_files : goal.returns-in-Ok-clause-own_files
+returns-in-Ok-clause-own_files g c =
+    λ t. inl (refused_full
+    (IsTrue (g.F.Files.state c.args.files.now).store.is_steady)
+    (stock_of (g.F.Files.state c.args.files.now).store.folder c.args.words.now)
+    c.refuse.result
+    (handed (g.F.Files.state c.args.files.now) (g.D.Door.state c.args.door.now) (g.E.Sink.state c.args.err.now) (g.K.Clock.state c.args.clock.now))
+    (handed (g.F.Files.state c.read_stock.new.files) (g.D.Door.state c.args.door.now) (g.E.Sink.state c.refuse.new.err) (g.K.Clock.state c.args.clock.now))
+    c.refuse.ensures.line.0
+    c.refuse.ensures.same
+    refl
+    refl
+    c.refuse.ensures.line.1)
+
+pub returns-in-Ok-clause-some_files : goal.returns-in-Ok-clause-some_files
+returns-in-Ok-clause-some_files g c =
+    let some = c.in-Ok.ensures.some in (
+      some.0,
+      inl (refused_full
+          (Unit {0})
+          (stock_from some.0 c.args.words.now)
+          c.refuse.result
+          (handed (g.F.Files.state c.args.files.now) (g.D.Door.state c.args.door.now) (g.E.Sink.state c.args.err.now) (g.K.Clock.state c.args.clock.now))
+          (handed (g.F.Files.state c.read_stock.new.files) (g.D.Door.state c.args.door.now) (g.E.Sink.state c.refuse.new.err) (g.K.Clock.state c.args.clock.now))
+          c.refuse.ensures.line.0
+          c.refuse.ensures.same
+          refl
+          refl
+          c.refuse.ensures.line.1),
+    )
+
+pub returns-clause-own_files : goal.returns-clause-own_files
+returns-clause-own_files g c =
+    λ t. inl (refused_for
+    (IsTrue (g.F.Files.state c.args.files.now).store.is_steady)
+    (stock_of (g.F.Files.state c.args.files.now).store.folder c.args.words.now)
+    c.in-Err.none
+    c.tell.result
+    (handed (g.F.Files.state c.args.files.now) (g.D.Door.state c.args.door.now) (g.E.Sink.state c.args.err.now) (g.K.Clock.state c.args.clock.now))
+    (handed (g.F.Files.state c.read_stock.new.files) (g.D.Door.state c.args.door.now) (g.E.Sink.state c.tell.new.err) (g.K.Clock.state c.args.clock.now))
+    (c.in-Err.ensures.own t)
+    refl
+    refl
+    c.tell.ensures)
+
+pub returns-clause-some_files : goal.returns-clause-some_files
+returns-clause-some_files g c =
+    let some = c.in-Err.ensures.some in (
+      some.0,
+      inl (refused_for
+          (Unit {0})
+          (stock_from some.0 c.args.words.now)
+          c.in-Err.none
+          c.tell.result
+          (handed (g.F.Files.state c.args.files.now) (g.D.Door.state c.args.door.now) (g.E.Sink.state c.args.err.now) (g.K.Clock.state c.args.clock.now))
+          (handed (g.F.Files.state c.read_stock.new.files) (g.D.Door.state c.args.door.now) (g.E.Sink.state c.tell.new.err) (g.K.Clock.state c.args.clock.now))
+          some.1
+          refl
+          refl
+          c.tell.ensures),
+    )
+
+pub returns-in-Ok-clause-read_fault : goal.returns-in-Ok-clause-read_fault
+returns-in-Ok-clause-read_fault g c =
+    rw c.refuse.ensures.same
+    (files_failed false
+    (handed (g.F.Files.state c.args.files.now) (g.D.Door.state c.args.door.now) (g.E.Sink.state c.args.err.now) (g.K.Clock.state c.args.clock.now))
+    (handed (g.F.Files.state c.read_stock.new.files) (g.D.Door.state c.args.door.now) (g.E.Sink.state c.refuse.new.err) (g.K.Clock.state c.args.clock.now))
+    c.in-Ok.ensures.read.faults refl refl)
+
+pub returns-clause-read_fault : goal.returns-clause-read_fault
+returns-clause-read_fault g c =
+    rw (told_as_read c.in-Err.none c.tell.result (g.E.Sink.state c.args.err.now) (g.E.Sink.state c.tell.new.err) c.tell.ensures)
+    (files_failed (is_unread c.in-Err.none)
+    (handed (g.F.Files.state c.args.files.now) (g.D.Door.state c.args.door.now) (g.E.Sink.state c.args.err.now) (g.K.Clock.state c.args.clock.now))
+    (handed (g.F.Files.state c.read_stock.new.files) (g.D.Door.state c.args.door.now) (g.E.Sink.state c.tell.new.err) (g.K.Clock.state c.args.clock.now))
+    c.in-Err.ensures.read.faults refl refl)
+
+pub returns-in-Ok-new-clause-own_files : goal.returns-in-Ok-new-clause-own_files
+returns-in-Ok-new-clause-own_files g c =
+    λ t. inr (
+      _,
+      c.in-Ok.ensures.own t,
+      c.serve_stock.ensures.ended.listened (g.F.Files.state c.args.files.now) (g.F.Files.state c.read_stock.new.files),
+    )
+
+pub returns-in-Ok-new-clause-some_files : goal.returns-in-Ok-new-clause-some_files
+returns-in-Ok-new-clause-some_files g c =
+    let some = c.in-Ok.ensures.some in (
+      some.0,
+      inr (
+        _,
+        some.1,
+        c.serve_stock.ensures.ended.listened (g.F.Files.state c.args.files.now) (g.F.Files.state c.read_stock.new.files),
+      ),
+    )
+
+pub returns-in-Ok-new-clause-unlistened : goal.returns-in-Ok-new-clause-unlistened
+returns-in-Ok-new-clause-unlistened g c =
+    let listened = c.serve_stock.ensures.ended.listened (g.F.Files.state c.args.files.now) (g.F.Files.state c.read_stock.new.files) in
+    let asked = listened.asked in λ none. absurd (cc)
+
+pub returns-in-Ok-new-clause-unasked : goal.returns-in-Ok-new-clause-unasked
+returns-in-Ok-new-clause-unasked g c =
+    let listened = c.serve_stock.ensures.ended.listened (g.F.Files.state c.args.files.now) (g.F.Files.state c.read_stock.new.files) in
+    let asked = listened.asked in
+    λ took. elim took [ inl none ↦ absurd (cc) | inr none ↦ c.serve_stock.ensures.unasked none ]
