@@ -42,9 +42,9 @@ fn long_lists_are_copied(rt: HostRuntime) -> Result<(), Fail> {
     let mut bytes = Vec::new(alloc);
     let mut numbers = Vec::new(alloc);
     let mut words = Vec::new(alloc);
-    for number in 0..10_000i64 {
+    for number in 0..10_000u16 {
         bytes.push(b'a')?;
-        numbers.push(number - 5_000)?;
+        numbers.push(i64::from(number) - 5_000)?;
         words.push(text.copy()?)?;
     }
     let bytes = Bytes::from_vec(bytes);

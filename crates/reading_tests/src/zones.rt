@@ -181,8 +181,8 @@ fn changed_often(alloc: Global) -> Result<Vec<u8>, Fail> {
     let mut bytes = Vec::new(alloc);
     bytes.extend_from_slice(OLD_BLOCK)?;
     bytes.extend_from_slice(LONG_HEAD)?;
-    for change in 0..236i64 {
-        let second = change * 15_768_000 - 2_177_452_800;
+    for change in 0..236u8 {
+        let second = i64::from(change) * 15_768_000 - 2_177_452_800;
         bytes.extend_from_slice(&second.to_be_bytes())?;
     }
     for change in 0..236u32 {

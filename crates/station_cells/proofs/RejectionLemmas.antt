@@ -1,36 +1,21 @@
 -- What follows where nothing is wrong with tracks, and what curves that agree find on them.
-use Rattle.std.proofs.Common.{◌≡◌, ℕ, ◌+◌, ◌^◌, ◌<◌, ◌≤◌, ◌==◌, ℤ, pos, Bool, true, false, List, [], ◌∷◌, ◌++◌, map, length, length-append, Option, Some, None, is_some, option_map, Result, Ok, Err, All, refl, sym, ap, ◌∙◌, arith}
-use Rattle.std.specs.Prelude.{unsigned_abs, IfOk, IfSome, flat_map, option_to_list}
+use Rattle.std.proofs.Common.{◌≡◌, ℕ, ◌≤◌, ◌==◌, ℤ, Bool, true, false, List, Option, Some, None, is_some, refl, ap, ◌∙◌, arith}
 use Rattle.std.specs.Option.{ForSome, option_or}
 use Rattle.std.proofs.lemmas.Bool.Decides.{Decides-eqb}
-use Rattle.std.proofs.lemmas.Int.{ints}
-use Rattle.std.proofs.lemmas.List.{length-map}
-use Rattle.cert_text.specs.declared.certificate.Certificate.{Certificate}
-use Rattle.cert_text.specs.declared.fault.CertFault.{CertFault}
-use Rattle.cert_text.specs.declared.fault.CertFault.TheVariants.{NoMemory, NotACertificate}
 use Rattle.cert_text.specs.declared.track_name.TrackName.{TrackName}
 use Rattle.cert_text.specs.declared.track_name.TrackName.TheVariants.{Turn, Slack, Mark}
-use Rattle.cert_text.specs.Certificates.{IsCertificate, IsMark}
-use Rattle.cert_text.specs.Lines.{cell_line_of, last_line, head_lines_of, track_lines_of, lines_if_there, lines_of, ended, joined, certificate_text}
-use Rattle.cert_text.specs.Readings.{certificate_of, wants_memory}
 use Rattle.curve_law.specs.declared.cell.Cell.{Cell}
-use Rattle.curve_law.specs.declared.event.Event.{Event}
 use Rattle.curve_law.specs.declared.tracks.Tracks.{Tracks}
 use Rattle.curve_law.specs.declared.verdict.Verdict.{Verdict}
 use Rattle.curve_law.specs.declared.verdict.Verdict.TheVariants.{Accepted, WrongLength, NotQuiet, WrongStep, WrongLevel}
 use Rattle.curve_law.specs.Cells.{all_minutes}
 use Rattle.curve_law.specs.Meaning.{Meaning}
-use Rattle.curve_law.specs.Track.{plain_list}
 use Rattle.curve_law.specs.Verdicts.{verdict}
 use Rattle.curve_law.proofs.AgreeLemmas.{verdict-agrees}
 use Rattle.event_list.specs.declared.span.Span.{Span}
-use Rattle.event_list.specs.Events.{Followed, IsAccepted, AreAccepted, AgreeIfFollowed, AllAgree, AreShort, minutes_in, events_over, station_events, merged_of}
-use Rattle.event_list.specs.Order.{ordered}
-use Rattle.event_list.specs.Shifts.{IsMovable, widened_of, moved_within, shifted_of}
-use Rattle.event_list.proofs.EventLemmas.{events_of as events_in, events-parts, shifted-events}
+use Rattle.event_list.specs.Events.{Followed, IsAccepted, AreAccepted, AgreeIfFollowed, AllAgree, AreShort, minutes_in}
 use Rattle.station_cells.specs.declared.rejection.Rejection.{Rejection}
 use Rattle.station_cells.specs.Rejections.{slack_fault, fault_from, track_fault, rejection_of}
-use Rattle.station_cells.specs.Rejections.{HasFewCells}
 use Rattle.station_cells.proofs.CellLemmas.{accepted_if}
 
 -- ---- nothing is wrong

@@ -1,11 +1,7 @@
 -- What is known of the levels of a site.
-use Rattle.std.proofs.Common.{◌≡◌, ℕ, zero, suc, [], ◌∷◌, ◌++◌, ◌+◌, ◌*◌, ◌/◌, ◌<◌, ◌≤◌, ℤ, pos, negsuc, ◌+ℤ◌, ◌-ℤ◌, ◌*ℤ◌, ◌≤ℤ◌, unsigned_abs, List, length, refl, ap, sym, arith}
-use Rattle.std.specs.Prelude.{All, map, IsTrue}
-use Rattle.std.specs.List.{range_with_len}
+use Rattle.std.proofs.Common.{◌≡◌, ◌∷◌, ◌≤◌, ℤ, ◌≤ℤ◌, unsigned_abs, length, refl, sym, arith}
+use Rattle.std.specs.Prelude.{IsTrue}
 use Rattle.std.proofs.lemmas.Int.{ints, fold-int_max_bounds, fold-int_min_bounds}
-use Rattle.std.proofs.lemmas.List.Elements.{All-append, All-cons}
-use Rattle.std.proofs.lemmas.List.FromFn.{map-range_with_len_more}
-use Rattle.std.proofs.Math.Nat.{div-mul-le_self, mul-le-mul_right}
 use Rattle.event_list.specs.Shifts.{greatest_add, least_add, slack_adds}
 use Rattle.harmonics_text.specs.declared.book.Book.{Book}
 use Rattle.station_curve.specs.Curves.{Predicts}

@@ -1,8 +1,7 @@
 -- What is found on a certificate that is read, and what follows where nothing is wrong.
-use Rattle.std.proofs.Common.{◌≡◌, ℕ, ◌+◌, ◌^◌, ◌<◌, ◌≤◌, ◌==◌, ℤ, pos, Bool, true, false, List, [], ◌∷◌, ◌++◌, map, length, length-append, Option, Some, None, is_some, option_map, Result, Ok, Err, All, refl, sym, ap, ◌∙◌, arith}
+use Rattle.std.proofs.Common.{◌≡◌, ℕ, ◌+◌, ◌^◌, ◌<◌, ◌≤◌, ℤ, pos, Bool, true, false, List, [], ◌∷◌, ◌++◌, map, length, length-append, Option, Some, None, is_some, option_map, Result, Ok, Err, All, refl, sym, ap, ◌∙◌, arith}
 use Rattle.std.specs.Prelude.{unsigned_abs, IfOk, IfSome, flat_map, option_to_list}
-use Rattle.std.specs.Option.{ForSome, option_or}
-use Rattle.std.proofs.lemmas.Bool.Decides.{Decides-eqb}
+use Rattle.std.specs.Option.{ForSome}
 use Rattle.std.proofs.lemmas.Int.{ints}
 use Rattle.std.proofs.lemmas.List.{length-map}
 use Rattle.cert_text.specs.declared.certificate.Certificate.{Certificate}
@@ -15,17 +14,11 @@ use Rattle.cert_text.specs.Lines.{cell_line_of, last_line, head_lines_of, track_
 use Rattle.cert_text.specs.Readings.{certificate_of, wants_memory}
 use Rattle.curve_law.specs.declared.cell.Cell.{Cell}
 use Rattle.curve_law.specs.declared.event.Event.{Event}
-use Rattle.curve_law.specs.declared.tracks.Tracks.{Tracks}
-use Rattle.curve_law.specs.declared.verdict.Verdict.{Verdict}
-use Rattle.curve_law.specs.declared.verdict.Verdict.TheVariants.{Accepted, WrongLength, NotQuiet, WrongStep, WrongLevel}
-use Rattle.curve_law.specs.Cells.{all_minutes}
 use Rattle.curve_law.specs.Meaning.{Meaning}
 use Rattle.curve_law.specs.Track.{plain_list}
-use Rattle.curve_law.specs.Verdicts.{verdict}
-use Rattle.curve_law.proofs.AgreeLemmas.{verdict-agrees}
 use Rattle.decimal_text.specs.Expected.{Excused}
 use Rattle.event_list.specs.declared.span.Span.{Span}
-use Rattle.event_list.specs.Events.{Followed, IsAccepted, AreAccepted, AgreeIfFollowed, AllAgree, AreShort, minutes_in, events_over, station_events, merged_of}
+use Rattle.event_list.specs.Events.{AreAccepted, AreShort, minutes_in, events_over, station_events, merged_of}
 use Rattle.event_list.specs.Order.{ordered}
 use Rattle.event_list.specs.Shifts.{IsMovable, widened_of, moved_within, shifted_of}
 use Rattle.event_list.proofs.EventLemmas.{events_of as events_in, events-parts, shifted-events}
@@ -45,7 +38,7 @@ use Rattle.tide_answer.specs.Answers.{checked, judged, version_of}
 use Rattle.tide_answer.specs.Asking.{asked_in}
 use Rattle.tide_fault.specs.Faults.{refusal_of_cert, wants_memory_of_refusal}
 use Rattle.station_span.specs.Following.{asks_slack, slack_times, slack_plus, if_asked, followed_by, events_of}
-use Rattle.station_cells.specs.Rejections.{slack_fault, fault_from, track_fault, rejection_of}
+use Rattle.station_cells.specs.Rejections.{rejection_of}
 use Rattle.station_span.specs.Sites.{Site, site_in}
 use Rattle.station_cells.specs.Rejections.{HasFewCells}
 use Rattle.tide_answer.specs.Workings.Certifying.{accepted, rejected, judged_in, tide_rejection}

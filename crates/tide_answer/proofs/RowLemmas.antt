@@ -1,30 +1,22 @@
 -- What is known of the rows of a list of levels.
-use Rattle.std.proofs.Common.{◌≡◌, ℕ, zero, suc, [], ◌∷◌, ◌++◌, ◌+◌, ◌*◌, ◌/◌, ◌<◌, ◌≤◌, ℤ, pos, negsuc, ◌+ℤ◌, ◌-ℤ◌, ◌*ℤ◌, ◌≤ℤ◌, unsigned_abs, List, length, refl, ap, sym, arith}
-use Rattle.std.specs.Prelude.{All, map, IsTrue}
+use Rattle.std.proofs.Common.{◌≡◌, ℕ, zero, suc, [], ◌∷◌, ◌++◌, ◌+◌, ◌*◌, ◌/◌, ◌<◌, ◌≤◌, ℤ, pos, negsuc, ◌+ℤ◌, ◌-ℤ◌, ◌*ℤ◌, ◌≤ℤ◌, unsigned_abs, List, refl, ap, sym, arith}
+use Rattle.std.specs.Prelude.{All, map}
 use Rattle.std.specs.List.{range_with_len}
-use Rattle.std.proofs.lemmas.Int.{ints, fold-int_max_bounds, fold-int_min_bounds}
+use Rattle.std.proofs.lemmas.Int.{ints}
 use Rattle.std.proofs.lemmas.List.Elements.{All-append, All-cons}
 use Rattle.std.proofs.lemmas.List.FromFn.{map-range_with_len_more}
 use Rattle.std.proofs.Math.Nat.{div-mul-le_self, mul-le-mul_right}
-use Rattle.event_list.specs.Shifts.{greatest_add, least_add, slack_adds}
 use Rattle.harmonics_text.specs.declared.book.Book.{Book}
 use Rattle.listing.specs.declared.row.Row.{Row}
 use Rattle.station_curve.specs.Curves.{Predicts}
-use Rattle.station_table.specs.declared.basis.Basis.{Basis}
-use Rattle.station_table.specs.Bases.{is_equal}
-use Rattle.year_blend.specs.Places.{AreYears, InDomain}
 use Rattle.zone_time.specs.Zones.{InZoneYears}
 use Rattle.station_span.specs.declared.asked.Asked.{Asked}
-use Rattle.station_span.specs.declared.reach.Reach.TheVariants.{Events, Levels}
 use Rattle.station_span.specs.declared.station.Found.{Found}
-use Rattle.station_span.specs.Levels.{level_at, is_rising_at}
 use Rattle.tide_answer.specs.Answers.{row_at, row_count, rows_of}
 use Rattle.station_span.specs.Sites.{Site}
-use Rattle.station_span.specs.Workings.Curves.{InTide}
 use Rattle.tide_answer.specs.Workings.Rows.{tide_row, tide_rows, AreRows, IsStep}
-use Rattle.station_span.specs.Workings.Levels.{source_of, tide_level, is_tide_rising, HasLevel, HasLevelsIn}
-use Rattle.station_span.specs.Workings.Spans.{IsFound}
-use Rattle.station_span.proofs.SpanLemmas.{file_minute}
+use Rattle.station_span.specs.Workings.Levels.{HasLevel, HasLevelsIn}
+use Rattle.station_span.proofs.LevelLemmas.{between, site_level, zone_minute}
 
 -- ---- rows
 

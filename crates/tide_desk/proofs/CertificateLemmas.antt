@@ -18,12 +18,12 @@ use Rattle.tide_answer.specs.Answers.{built, certified, checked, predicted, text
 use Rattle.tide_answer.specs.Asking.{asked_in}
 use Rattle.tide_answer.specs.Laws as books
 use Rattle.named_files.specs.declared.materials.Materials.{Materials}
-use Rattle.tide_desk.specs.Answers.{answer_of, answered_by}
-use Rattle.tide_desk.specs.Laws.{Asks, NameSameFiles, Subject, subject_in, subject_of, AsksListing, HoldSame, HoldsCertificate, AcceptsWithListing, AcceptsWhatCertifyAnswers, AcceptsOnlyTrueCertificates}
+use Rattle.tide_desk.specs.Answers.{answer_of, answered_by, given_with, minute_for}
+use Rattle.tide_desk.specs.Laws.{Asks, Subject, subject_in, subject_of, AsksListing, HaveSameBook, HoldsCertificate, AcceptsWithListing, AcceptsWhatCertifyAnswers, AcceptsOnlyTrueCertificates}
 use Rattle.tide_edge.specs.FileStates.{Folder}
-use Rattle.named_files.specs.Readings.{book_named, table_named, zone_named, certificate_named, minute_for, given_with}
+use Rattle.named_files.specs.Readings.{book_named, table_named, zone_named, certificate_named}
 use Rattle.tide_desk.proofs.AskedLemmas.{NamesSpan, asked_in_range, askable, goes_over_span, predict_names_none, went_over_span}
-use Rattle.tide_desk.proofs.FileLemmas.{ReadsFiles, WasRead, book_alike, certificate_held, certificate_there, is_answered, named_book, named_table, table_alike, was_answered, words_answer}
+use Rattle.tide_desk.proofs.FileLemmas.{ReadsFiles, WasRead, certificate_held, certificate_there, is_answered, named_book, named_table, was_answered, words_answer}
 
 -- ---- what the commands are
 
@@ -128,16 +128,35 @@ was_certified folder minute words question certificate asks ok =
       text = over.3;
     }
 
+-- what is there, and what is known of it
+there_and : {A : Type 0} (named : Option A) (P : A → Type 0) → IsSomeAnd named P → (name : A) × (named ≡ Some name) × P name
+there_and (Some name) P is = (name, refl, is)
+there_and None P is = absurd is
+
+one_name : (named : Option (List ℕ)) (name other : List ℕ) → named ≡ Some name → named ≡ Some other → name ≡ other
+one_name named name other is also = cc
+
+-- the book of the check, under its own name
+record HasBook (folder : Folder) (check : Question) (book : Book) : Type 0 where
+  pub name : List ℕ
+  pub named : check.file ≡ Some name
+  pub is : book_named folder name ≡ Ok book
+
+has_book : (before after : Folder) (certify check : Question) (certificate : Answer) (was : IsCertified before certify certificate) → HaveSameBook before after certify.file check.file → HasBook after check was.read.book
+has_book before after certify check certificate was same =
+    let there = there_and check.file _ same in
+    let here = there_and certify.file _ there.2 in
+    let name = one_name certify.file here.0 was.file here.1 was.named in
+    record { name = there.0; named = there.1; is = here.2 ∙ ap (book_named before) name ∙ was.files.book }
+
 -- the files of the check, and the certificate among them
-checked_files : (before after : Folder) (certify check : Question) (certificate : Answer) (zone : Zone) (was : IsCertified before certify certificate) → length certificate.text ≤ 400000000 → NameSameFiles check certify → HoldsCertificate before after check certificate.text → zone_named after check.zone ≡ Ok zone → WasRead after check was.file (record { book = was.read.book; table = was.read.table; zone = zone; certificate = certificate.text })
-checked_files before after certify check certificate zone was few same holds shown =
-    let named : check.file ≡ Some was.file = same.file ∙ was.named in
-    record {
-      book = book_alike before after was.file (subst (HoldSame before after) named holds.file) ∙ was.files.book;
-      table = table_alike before after check.offsets holds.offsets ∙ ap (table_named before) same.offsets ∙ was.files.table;
-      zone = shown;
-      certificate = certificate_there after check.certificate certificate.text holds.certificate few;
-    }
+checked_files : (before after : Folder) (certify check : Question) (certificate : Answer) (zone : Zone) (was : IsCertified before certify certificate) (has : HasBook after check was.read.book) → length certificate.text ≤ 400000000 → HoldsCertificate before after certify check certificate.text → zone_named after check.zone ≡ Ok zone → WasRead after check has.name (record { book = was.read.book; table = was.read.table; zone = zone; certificate = certificate.text })
+checked_files before after certify check certificate zone was has few holds shown = record {
+  book = has.is;
+  table = holds.offsets ∙ was.files.table;
+  zone = shown;
+  certificate = certificate_there after check.certificate certificate.text holds.certificate few;
+}
 
 checks : (folder : Folder) (minute : ℤ) (words : List (List ℕ)) (check : Question) (file : List ℕ) (read : Materials) (answer : Answer) → Asks words Check check → check.file ≡ Some file → WasRead folder check file read → checked read.book read.table read.certificate read.zone ≡ Ok answer → answer_of folder minute words ≡ Ok answer
 checks folder minute words check file read answer asks named was ok =
@@ -152,21 +171,21 @@ checks folder minute words check file read answer asks named was ok =
     })
 
 pub certified_accepted : books.AcceptsWhatIsCertified → books.CertifiesInShort → AcceptsWhatCertifyAnswers
-certified_accepted accepts shortens before after minute later words more certify check certificate zone asks ok asks_check same holds shown =
+certified_accepted accepts shortens before after minute later words more certify check certificate zone asks ok asks_check holds shown =
     let was = was_certified before minute words certify certificate asks ok in
     let book = named_book before was.file was.read.book was.files.book in
     let table = named_table before certify.offsets was.read.table was.files.table in
     let can = askable certify was.name was.asked (asked_in_range words certify asks.asked) was.names in
     let short = shortens was.read.book was.read.table was.name was.asked certificate book table can was.text in
-    let files = checked_files before after certify check certificate zone was (omega (arith, short)) same holds shown in
+    let has = has_book before after certify check certificate was holds.file in
+    let files = checked_files before after certify check certificate zone was has (omega (arith, short)) holds shown in
     let read : Materials = record { book = was.read.book; table = was.read.table; zone = zone; certificate = certificate.text } in
     let accepted = accepts was.read.book was.read.table was.name was.asked zone certificate book table can was.text in
-    let named : check.file ≡ Some was.file = same.file ∙ was.named in
     let subject : IsSubject (subject_of certify) was.name was.asked =
     record { station = was.names.station; begin = was.names.begin; end = was.names.end; mark = was.names.mark } in (
       accepted.0,
-      checks after later more check was.file read accepted.0 asks_check named files accepted.1,
-      with_listing after check (subject_of certify) was.file was.name was.asked read accepted.0 named files subject accepted.2,
+      checks after later more check has.name read accepted.0 asks_check has.named files accepted.1,
+      with_listing after check (subject_of certify) has.name was.name was.asked read accepted.0 has.named files subject accepted.2,
     )
 
 -- ---- what check accepts is true

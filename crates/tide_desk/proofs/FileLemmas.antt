@@ -22,7 +22,7 @@ use Rattle.tide_edge.specs.declared.read_all_fault.ReadAllFault.TheVariants as r
 use Rattle.named_files.specs.declared.materials.Materials.{Materials}
 use Rattle.tide_desk.specs.Answers.{answer_from, answer_of, answered_by, answered_over, asked_of, minute_for, given_with}
 use Rattle.named_files.specs.NoAnswers.{refused_over}
-use Rattle.tide_desk.specs.Laws.{Holds, HoldSame}
+use Rattle.tide_desk.specs.Laws.{Holds}
 use Rattle.named_files.specs.Readings.{limit_of, bytes_from, bytes_of, book_from, book_named, table_from, table_named, zone_named, certificate_named, files_in}
 use Rattle.tide_edge.specs.FileStates.{Folder}
 use Rattle.tide_desk.proofs.TableLemmas.{table_sound}
@@ -81,17 +81,6 @@ pub certificate_held : (folder : Folder) (named : Option (List ℕ)) (text : Lis
 unfolding certificate_named
 certificate_held folder None text ok some = absurd (some cc)
 certificate_held folder (Some name) text ok some = (bytes_held slots.Certificate (folder name) text ok).0
-
--- ---- what two folders hold alike reads alike
-
-pub book_alike : (before after : Folder) (name : List ℕ) → HoldSame before after (Some name) → book_named after name ≡ book_named before name
-unfolding book_named
-book_alike before after name same = rw same refl
-
-pub table_alike : (before after : Folder) (named : Option (List ℕ)) → HoldSame before after named → table_named after named ≡ table_named before named
-unfolding table_named
-table_alike before after None same = refl
-table_alike before after (Some name) same = rw same refl
 
 -- ---- all files of a question
 

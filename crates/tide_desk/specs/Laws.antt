@@ -1,5 +1,5 @@
 -- What certificates come to over files and words: what `certify` answers `check` accepts, and what `check` accepts is true (this project).
-use Rattle.std.specs.Prelude.{◌≡◌, ℕ, ℤ, false, List, ◌++◌, codes, Option, Some, None, IfSome, IsSomeAnd, Ok}
+use Rattle.std.specs.Prelude.{◌≡◌, ℕ, ℤ, false, List, ◌++◌, codes, Option, Some, None, IsSomeAnd, Ok}
 use Rattle.cert_text.specs.declared.certificate.Certificate.{Certificate}
 use Rattle.harmonics_text.specs.declared.book.Book.{Book}
 use Rattle.question.specs.declared.command.Command.{Command}
@@ -56,18 +56,20 @@ pub record AsksListing (check : Question) (subject : Subject) (question : Questi
 
 -- ---- what is held
 
--- under a name, where there is one, both folders hold the same
-abbrev pub HoldSame : Folder → Folder → Option (List ℕ) → Type 0
-HoldSame before after named = IfSome named (λ name. after name ≡ before name)
+-- both name a file of constants, and their books are the same, each under its own name
+abbrev pub HaveSameBook : Folder → Folder → Option (List ℕ) → Option (List ℕ) → Type 0
+HaveSameBook before after named other =
+    IsSomeAnd other (λ there. IsSomeAnd named (λ here. book_named after there ≡ book_named before here))
 
 -- under a name there is this text
 abbrev pub Holds : Folder → Option (List ℕ) → List ℕ → Type 0
 Holds folder named text = IsSomeAnd named (λ name. folder name ≡ Some text)
 
--- the file of constants and the table of a check are as they were, and the text is its certificate
-pub record HoldsCertificate (before after : Folder) (check : Question) (text : List ℕ) : Type 0 where
-  pub file : HoldSame before after check.file
-  pub offsets : HoldSame before after check.offsets
+-- under its own names a check has the book and the table that the run which certified had under its names, where no table is one
+-- without a row; and the text is its certificate
+pub record HoldsCertificate (before after : Folder) (certify check : Question) (text : List ℕ) : Type 0 where
+  pub file : HaveSameBook before after certify.file check.file
+  pub offsets : table_named after check.offsets ≡ table_named before certify.offsets
   pub certificate : Holds after check.certificate text
 
 -- ---- what is answered
@@ -82,12 +84,12 @@ pub record AcceptsWithListing (folder : Folder) (check : Question) (subject : Su
   pub to_question : (minute : ℤ) (question : Question) →
       AsksListing check subject question → question.certificate ≡ None → answered_by (λ slot. folder) minute question question.file ≡ Ok listing
 
--- what `certify` answers is accepted, with the listing of its question, by each later check that has the same files and
--- the answer's text as its certificate
+-- what `certify` answers is accepted, with the listing of its question, by each later check, in whatever folder, that has the same
+-- book and table and the answer's text as its certificate
 abbrev pub AcceptsWhatCertifyAnswers : Type 0
 AcceptsWhatCertifyAnswers = (before after : Folder) (minute later : ℤ) (words more : List (List ℕ)) (certify check : Question) (certificate : Answer) (zone : Zone) →
     Asks words Certify certify → answer_of before minute words ≡ Ok certificate →
-    Asks more Check check → NameSameFiles check certify → HoldsCertificate before after check certificate.text →
+    Asks more Check check → HoldsCertificate before after certify check certificate.text →
     zone_named after check.zone ≡ Ok zone →
     (answer : Answer) × (answer_of after later more ≡ Ok answer) × AcceptsWithListing after check (subject_of certify) answer
 

@@ -1,4 +1,5 @@
 pub mod Answers
+pub mod InMemory
 pub mod Laws
 pub mod Outcomes
 pub mod Workings

@@ -6,31 +6,31 @@ use crate::door::Door;
 use crate::doorway::Doorway;
 use crate::failed::Failed;
 use crate::host_fault::{count_fault, outcome};
-use std::io::{self, Read, Write};
-use std::net::{Ipv4Addr, Net, OpenListener, OpenStream, Shutdown, TcpListener};
-use std::time::Duration;
+use crate::host_line::HostLine;
+use std::io::{self, ErrorKind};
+use std::net::{Ipv4Addr, Net, OpenListener, TcpListener};
+use std::rt;
 
-/// How many seconds a peer may be silent while its request is read, or take nothing of its reply.
-const PATIENCE: u64 = 30;
-
-/// How many seconds a peer may be silent after its reply was given.
-const FAREWELL: u64 = 1;
+// Linux's numbers of those errors of a connection that `ErrorKind` has no name for, or none of their own: ENONET, EPROTO,
+// ENOPROTOOPT, EOPNOTSUPP and EHOSTDOWN.
+const GONE: [i32; 5] = [64, 71, 92, 95, 112];
 
 /// A port of the machine, at 127.0.0.1 alone. It doesn't tell what comes and what is sent.
 ///
-/// It waits for the next connection for as long as it takes, so `next` never answers that no more will come. A peer that
-/// is silent for 30 seconds fails `read` or `write`.
+/// It waits for the next connection for as long as it takes, so `next` never answers that no more will come. A peer has 60
+/// seconds for its whole request and 60 seconds to take its whole reply, after which `read` or `write` fails, and `close`
+/// waits 2 seconds at most for the end of what it sends.
 #[derive(Drop)]
-pub struct HostDoor<R: Net + Drop> {
+pub struct HostDoor<R: Net + rt::Clock + Drop> {
     system: R,
     listener: Option<R::Listener>,
-    stream: Option<R::Stream>,
+    line: Option<HostLine<R::Stream>>,
     doorway: Doorway,
     faults: u64,
     line_faults: u64,
 }
 
-impl<R: Net + Drop> HostDoor<R> {
+impl<R: Net + rt::Clock + Drop> HostDoor<R> {
     ghost use Rattle.tide_edge.specs.Doors.{unasked};
 
     /// A door that wasn't asked to listen yet.
@@ -42,7 +42,7 @@ impl<R: Net + Drop> HostDoor<R> {
         HostDoor {
             system,
             listener: None,
-            stream: None,
+            line: None,
             doorway: Doorway::unasked(),
             faults: 0,
             line_faults: 0,
@@ -50,7 +50,7 @@ impl<R: Net + Drop> HostDoor<R> {
     }
 }
 
-impl<R: Net + Drop> Door for HostDoor<R> {
+impl<R: Net + rt::Clock + Drop> Door for HostDoor<R> {
     ghost state = { λ h. record {
       tells = false;
       keeps_pieces = false;
@@ -76,10 +76,9 @@ impl<R: Net + Drop> Door for HostDoor<R> {
 
     fn next(&mut self) -> Result<bool, Failed> {
         if let Some(listener) = &self.listener
-            && let Ok((stream, _)) = listener.accept()
+            && let Ok(stream) = take_next(listener)
         {
-            let _ = set_patience(&stream, PATIENCE);
-            self.stream = Some(stream);
+            self.line = Some(HostLine::new(stream, &self.system));
             self.doorway.open();
             return Ok(true);
         }
@@ -87,15 +86,15 @@ impl<R: Net + Drop> Door for HostDoor<R> {
     }
 
     fn read(&mut self, room: &mut [u8]) -> Result<usize, Failed> {
-        match &mut self.stream {
-            Some(stream) => outcome(&mut self.line_faults, stream.read(room)),
+        match &mut self.line {
+            Some(line) => outcome(&mut self.line_faults, line.read(&self.system, room)),
             None => Err(count_fault(&mut self.line_faults)),
         }
     }
 
     fn write(&mut self, piece: &[u8]) -> Result<usize, Failed> {
-        if let Some(stream) = &mut self.stream
-            && let Ok(count) = stream.write(piece)
+        if let Some(line) = &mut self.line
+            && let Ok(count) = line.write(&self.system, piece)
             && count > 0
         {
             return Ok(count);
@@ -104,35 +103,40 @@ impl<R: Net + Drop> Door for HostDoor<R> {
     }
 
     fn close(&mut self) {
-        if let Some(stream) = &mut self.stream {
-            let _ = part_from(stream);
+        if let Some(line) = &mut self.line {
+            line.part(&self.system);
         }
-        self.stream = None;
+        self.line = None;
         self.doorway.close();
     }
 }
 
-fn set_patience<S: OpenStream>(stream: &S, seconds: u64) -> io::Result<()> {
-    let patience = Some(Duration::from_secs(seconds));
-    stream.set_read_timeout(patience)?;
-    stream.set_write_timeout(patience)
-}
-
-// Leaves a peer that may still be sending with time to take its reply, since a system that closes a connection with
-// bytes unread may drop the reply on its way (RFC 9112, section 9.6).
-fn part_from<S: OpenStream + Read>(stream: &mut S) -> io::Result<()> {
-    let mut room = [0; 4096];
-    stream.set_nonblocking(true)?;
-    if stream.read(&mut room)? == 0 {
-        return Ok(());
-    }
-    stream.set_nonblocking(false)?;
-    stream.shutdown(Shutdown::Write)?;
-    set_patience(stream, FAREWELL)?;
-    for _ in 0..4096 {
-        if stream.read(&mut room)? == 0 {
-            break;
+// Takes the next connection, past those that are gone before they were taken.
+fn take_next<L: OpenListener>(listener: &L) -> io::Result<L::Stream> {
+    for _ in 0..u32::MAX {
+        match listener.accept() {
+            Ok((stream, _)) => return Ok(stream),
+            Err(fault) if is_of_connection(&fault) => {}
+            Err(fault) => return Err(fault),
         }
     }
-    Ok(())
+    Err(io::Error::from(ErrorKind::ConnectionAborted))
+}
+
+// Whether an error of taking a connection is that connection's own, as accept(2) tells them.
+fn is_of_connection(fault: &io::Error) -> bool {
+    let is_named = matches!(
+        fault.kind(),
+        ErrorKind::ConnectionAborted
+            | ErrorKind::ConnectionReset
+            | ErrorKind::HostUnreachable
+            | ErrorKind::Interrupted
+            | ErrorKind::NetworkDown
+            | ErrorKind::NetworkUnreachable
+            | ErrorKind::TimedOut
+    );
+    is_named
+        || fault
+            .raw_os_error()
+            .is_some_and(|number| GONE.contains(&number))
 }

@@ -13,7 +13,8 @@ use std::{fs, rt};
 
 /// The files of the machine, by their paths. It doesn't tell what they hold.
 ///
-/// A path that can't be opened fails in `open`, and what can't be read, as a folder, fails in `read`.
+/// A path that can't be opened fails in `open`, and what can't be read, as a folder, fails in `read`. A file is closed
+/// when its end was read.
 #[derive(Drop)]
 pub struct HostFiles<R: rt::Files + Drop> {
     system: R,
@@ -62,7 +63,12 @@ impl<R: rt::Files + Drop> Files for HostFiles<R> {
             return Ok(self.reads.read(0));
         };
         match file.read(room) {
-            Ok(count) => Ok(self.reads.read(count)),
+            Ok(count) => {
+                if count == 0 {
+                    self.opened = None;
+                }
+                Ok(self.reads.read(count))
+            }
             Err(_) => Err(count_fault(&mut self.faults)),
         }
     }

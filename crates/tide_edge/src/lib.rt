@@ -17,6 +17,7 @@ mod host_clock;
 mod host_door;
 mod host_fault;
 mod host_files;
+mod host_line;
 mod host_sink;
 mod laws;
 mod memory_door;

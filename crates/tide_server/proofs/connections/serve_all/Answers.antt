@@ -1,5 +1,6 @@
-use Rattle.std.proofs.Common.{◌≡◌, ◌∙◌, true, ap, arith, refl, rules}
+use Rattle.std.proofs.Common.{◌≡◌, Ok, true, ap, arith, refl, rules}
 use Rattle.std.proofs.lemmas.Result.{err_from_is_err_and}
+use Rattle.tide_edge.specs.Doors.{after_next, closed}
 use Rattle.tide_server.specs.Serving.{exchange}
 use Rattle.tide_server.proofs.StepLemmas.{failed, kept_by, kept_on, more_served, next_serving, none_kept, none_served}
 use Rattle.tide_server.proofs.connections.serve_all.Goals as goal
@@ -50,7 +51,9 @@ loop-taken-preserved g c =
     let before = exchange (g.D.Door.state c.args.door.now) (g.K.Clock.state c.args.clock.now) in
     let now = exchange (g.D.Door.state c.loop-taken.door) (g.K.Clock.state c.loop-taken.clock) in
     let after = exchange (g.D.Door.state c.serve_next.new.door) (g.K.Clock.state c.serve_next.new.clock) in
-    let doorway = rw c.loop-taken.invariant.doorway at (ap (λ d. d.doorway) step.door) in record {
+    let next : (g.D.Door.state c.serve_next.new.door).doorway ≡ closed (after_next (Ok true) (g.D.Door.state c.loop-taken.door).doorway) =
+    ap (λ d. d.doorway) step.door in
+    let doorway = rw c.loop-taken.invariant.doorway at next in record {
       doorway =
           next_serving c.args.stock.now.port c.loop-taken._taken (g.D.Door.state c.serve_next.new.door).doorway
           c.loop-taken-test.true doorway;

@@ -1,0 +1,115 @@
+//! A connection of the machine.
+
+ghost use Rattle.std.specs.Prelude.{◌<◌, ◌≤◌, length, IfOk};
+
+use std::io::{self, ErrorKind, Read, Write};
+use std::net::{OpenStream, Shutdown};
+use std::rt;
+use std::time::{Duration, Instant};
+
+/// How many seconds a peer has for its whole request, from when its connection was taken.
+const REQUEST_SECONDS: u64 = 60;
+
+/// How many seconds a peer has to take its whole reply, from when the first of it was written.
+const REPLY_SECONDS: u64 = 60;
+
+/// How many seconds a peer has after its reply to end what it sends.
+const FAREWELL_SECONDS: u64 = 2;
+
+/// How many milliseconds a socket is told to wait at least. Told none, it would wait for ever.
+const SHORTEST_WAIT_MILLISECONDS: u64 = 1;
+
+/// The next moment that ends waiting. It is never past where the clock couldn't be read: no time is left then.
+#[derive(Clone, Copy)]
+struct Deadline {
+    end: Option<Instant>,
+}
+
+impl Deadline {
+    fn in_seconds(clock: &impl rt::Clock, seconds: u64) -> Deadline {
+        let now = Instant::now(clock).ok();
+        Deadline {
+            end: now.and_then(|now| now.checked_add(Duration::from_secs(seconds))),
+        }
+    }
+
+    // What is left of it.
+    fn left(self, clock: &impl rt::Clock) -> io::Result<Duration> {
+        let now = Instant::now(clock)?;
+        let shortest = Duration::from_millis(SHORTEST_WAIT_MILLISECONDS);
+        match self.end {
+            Some(end) if now < end => Ok(end.duration_since(now).max(shortest)),
+            _ => Err(io::Error::from(ErrorKind::TimedOut)),
+        }
+    }
+}
+
+/// A connection that was taken. It waits for its peer until a deadline, not for each silence anew, by a clock that never
+/// goes back, and tries again within it what a signal interrupted.
+#[derive(Drop)]
+pub(crate) struct HostLine<S: OpenStream + Read + Write + Drop> {
+    stream: S,
+    deadline: Deadline,
+    replies: bool,
+}
+
+impl<S: OpenStream + Read + Write + Drop> HostLine<S> {
+    /// A connection that was just taken.
+    pub(crate) fn new(stream: S, clock: &impl rt::Clock) -> HostLine<S> {
+        HostLine {
+            stream,
+            deadline: Deadline::in_seconds(clock, REQUEST_SECONDS),
+            replies: false,
+        }
+    }
+
+    /// Reads the next bytes, and answers how many came: 0 at their end.
+    pub(crate) fn read(&mut self, clock: &impl rt::Clock, room: &mut [u8]) -> io::Result<usize>
+        ensures { IfOk result (λ count. count ≤ length room.old) }
+    {
+        for _ in 0..u32::MAX {
+            self.stream
+                .set_read_timeout(Some(self.deadline.left(clock)?))?;
+            match self.stream.read(room) {
+                Err(fault) if fault.kind() == ErrorKind::Interrupted => {}
+                answer => return answer,
+            }
+        }
+        Err(io::Error::from(ErrorKind::Interrupted))
+    }
+
+    /// Writes the first bytes of `piece`, and answers how many were taken. The reply's time begins with its first call.
+    pub(crate) fn write(&mut self, clock: &impl rt::Clock, piece: &[u8]) -> io::Result<usize>
+        ensures { IfOk result (λ count. count ≤ length piece.now) }
+    {
+        if !self.replies {
+            self.replies = true;
+            self.deadline = Deadline::in_seconds(clock, REPLY_SECONDS);
+        }
+        for _ in 0..u32::MAX {
+            self.stream
+                .set_write_timeout(Some(self.deadline.left(clock)?))?;
+            match self.stream.write(piece) {
+                Err(fault) if fault.kind() == ErrorKind::Interrupted => {}
+                answer => return answer,
+            }
+        }
+        Err(io::Error::from(ErrorKind::Interrupted))
+    }
+
+    /// Says that the reply has ended, and takes what the peer still sends until its end, since a system that closes a
+    /// connection with bytes unread may drop the reply on its way (RFC 9112, section 9.6).
+    pub(crate) fn part(&mut self, clock: &impl rt::Clock) {
+        if self.stream.shutdown(Shutdown::Write).is_err() {
+            return;
+        }
+        self.deadline = Deadline::in_seconds(clock, FAREWELL_SECONDS);
+        let mut room = [0; 4096];
+        for _ in 0..u32::MAX {
+            match self.read(clock, &mut room) {
+                Ok(count) if count > 0 => {}
+                _ => return,
+            }
+        }
+    }
+}

@@ -1,0 +1,26 @@
+const LINE = /^(Ref|Sub) (\S+) (.*)$/;
+
+function withReference(text, references) {
+  const cuts = [...text.matchAll(/ \(/g)].map(({ index }) => index);
+  const cut = cuts.find(place => references.has(text.slice(place + 2, -1))) ?? cuts.at(-1) ?? text.length;
+  return { name: text.slice(0, cut), reference: text.slice(cut + 2, -1) };
+}
+
+/** The stations of the program's list. A name may hold ` (` itself, so a reference is known by its name. */
+export function readStations(text) {
+  const lines = text.split('\n').map(line => LINE.exec(line)).filter(Boolean);
+  const references = new Set(lines.filter(([, kind]) => kind === 'Ref').map(line => line[3]));
+  return lines.map(([, kind, units, rest]) => ({
+    units,
+    isCurrent: units.startsWith('knots'),
+    ...(kind === 'Ref' ? { name: rest, reference: null } : withReference(rest, references)),
+  }));
+}
+
+const folded = text => text.normalize('NFD').replace(/\p{M}/gu, '').toLowerCase();
+
+/** The stations whose names have each of the words, whatever their accents and capitals. */
+export function findStations(stations, words) {
+  const parts = folded(words).split(/\s+/).filter(Boolean);
+  return stations.filter(({ name }) => parts.every(part => folded(name).includes(part)));
+}

@@ -1,0 +1,72 @@
+const MINUTE = 60_000;
+const DAY = 1440 * MINUTE;
+const formats = new Map();
+
+function formatOf(zone) {
+  if (!formats.has(zone)) {
+    formats.set(zone, new Intl.DateTimeFormat('en-US', {
+      timeZone: zone, calendar: 'gregory', numberingSystem: 'latn', hourCycle: 'h23',
+      year: 'numeric', month: '2-digit', day: '2-digit', hour: '2-digit', minute: '2-digit',
+    }));
+  }
+  return formats.get(zone);
+}
+
+export const browserZone = () => Intl.DateTimeFormat().resolvedOptions().timeZone;
+
+export const zoneNames = () =>
+  [...new Set([...Intl.supportedValuesOf('timeZone'), browserZone(), 'UTC'])].sort();
+
+export function isZone(name) {
+  try {
+    return Boolean(name && formatOf(name));
+  } catch {
+    return false;
+  }
+}
+
+function offsetText(minutes) {
+  const size = Math.abs(minutes), two = number => String(number).padStart(2, '0');
+  return `${minutes < 0 ? '-' : '+'}${two(Math.floor(size / 60))}:${two(size % 60)}`;
+}
+
+/** What a zone's clock shows at a moment: its date, its time, and how far it is ahead of UTC. */
+export function clockAt(moment, zone) {
+  const parts = Object.fromEntries(formatOf(zone).formatToParts(moment).map(part => [part.type, part.value]));
+  const date = `${parts.year.padStart(4, '0')}-${parts.month}-${parts.day}`;
+  const time = `${parts.hour}:${parts.minute}`;
+  const ahead = Date.parse(`${date}T${time}Z`) - Math.floor(moment / MINUTE) * MINUTE;
+  return { date, time, ahead, offset: offsetText(ahead / MINUTE) };
+}
+
+/** The first moment of a date by a zone's clock; where that day has no midnight, the moment that would have been it. */
+export function startOfDay(date, zone) {
+  const midnight = Date.parse(`${date}T00:00Z`);
+  const around = [midnight - DAY, midnight + DAY].map(moment => midnight - clockAt(moment, zone).ahead);
+  const starts = around.filter(moment => {
+    const clock = clockAt(moment, zone);
+    return clock.date === date && clock.time === '00:00';
+  });
+  return starts.length > 0 ? Math.min(...starts) : around[0];
+}
+
+/** Whether a text is a date of the calendar with a whole month around it that the program's moments can name. */
+export const isDate = text => /^\d{4}-\d\d-\d\d$/.test(text ?? '') && dateOf(Date.parse(`${text}T00:00Z`)) === text
+  && text >= '0002' && text < '9999';
+
+const dateOf = moment => (Number.isNaN(moment) ? '' : new Date(moment).toISOString().slice(0, 10));
+
+export const daysLater = (date, days) => dateOf(Date.parse(`${date}T00:00Z`) + days * DAY);
+
+export function monthsLater(date, months) {
+  const first = new Date(`${date.slice(0, 7)}-01T00:00Z`);
+  first.setUTCMonth(first.getUTCMonth() + months);
+  return dateOf(first.getTime());
+}
+
+export function dateText(date, parts = { weekday: 'short', day: 'numeric', month: 'short' }) {
+  return new Intl.DateTimeFormat('en-GB', { timeZone: 'UTC', ...parts }).format(Date.parse(`${date}T00:00Z`));
+}
+
+/** A moment as the program's `begin` and `end` have it. */
+export const momentText = moment => `${new Date(moment).toISOString().slice(0, 16)}Z`;
