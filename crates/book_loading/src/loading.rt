@@ -26,9 +26,10 @@ pub enum LoadFault {
 }
 
 /// Loads the book of the file of that name, if it has at most `limit` bytes, which are at most
-/// 400,000,000. The file is opened once and read in pieces of at most 65,536 bytes, and none of them
+/// 400,000,000. The file is read in pieces of at most 65,536 bytes, and none of them
 /// is kept. It is read on after a line that breaks a rule, so that a fault of reading comes first.
-/// Its end is found once, and at most a piece past the limit is read, whatever is answered.
+/// It is opened at most once, its end is found at most once, and at most a piece past the limit is read,
+/// whatever is answered.
 ///
 /// # Errors
 /// [`LoadFault::Failed`] exactly where the count of faults of `files` is one more, and over steady

@@ -1,7 +1,7 @@
 //! What a question names, read from files, and what is told where there is no answer.
 //!
-//! [`read_files`] reads the files of a question in their order, of each its reading before its form: each is opened once
-//! and read to its end, or to a piece past its limit. [`NoAnswer`] is why words have no answer, and [`tell`] writes its
+//! [`read_files`] reads the files of a question in their order, of each its reading before its form: each is opened at
+//! most once and read to its end, or to a piece past its limit. [`NoAnswer`] is why words have no answer, and [`tell`] writes its
 //! line.
 #![tactic(auto)]
 

@@ -11,8 +11,8 @@ use crate::read_all_fault::ReadAllFault;
 use decimal_text::{Bytes, Text};
 use std::alloc::Global;
 
-/// Reads the file of that name from its begin to its end, if it has at most `limit` bytes. It is opened once, its end is
-/// found once, and at most a piece of 65,536 bytes past the limit is read of it, whatever is answered.
+/// Reads the file of that name from its begin to its end, if it has at most `limit` bytes. It is opened at most
+/// once, its end is found at most once, and at most a piece of 65,536 bytes past the limit is read of it, whatever is answered.
 ///
 /// # Errors
 /// [`ReadAllFault::Failed`] exactly where the count of faults of `files` is one more, and over steady files only where

@@ -29,7 +29,7 @@ use tide_fault::Status;
 /// other. It tells on `err` where it listens, and why it ends where something has failed; a failure
 /// there changes nothing. A failure of a connection's lines ends that connection alone. The clock is
 /// asked once for each connection that has a byte, and the reply is of that minute. Of a door that
-/// keeps pieces no connection is read further than its reply needs.
+/// keeps pieces the connection taken last is read no further than its reply needs.
 pub fn serve<F: Files, D: Door, E: Sink, K: Clock>(
     alloc: Global,
     words: &Words,
