@@ -11,9 +11,12 @@ use std::io::{self, ErrorKind};
 use std::net::{Ipv4Addr, Net, OpenListener, TcpListener};
 use std::rt;
 
-// Linux's numbers of those errors of a connection that `ErrorKind` has no name for, or none of their own: ENONET, EPROTO,
-// ENOPROTOOPT, EOPNOTSUPP and EHOSTDOWN.
-const GONE: [i32; 5] = [64, 71, 92, 95, 112];
+/// How many connections may be gone in a row before they are taken.
+const GONE_IN_A_ROW: u32 = u32::MAX;
+
+/// Linux's numbers of those errors of a connection that `ErrorKind` has no name for, or none of their own: ENONET, EPROTO,
+/// ENOPROTOOPT, EOPNOTSUPP and EHOSTDOWN.
+const CONNECTION_ERRORS: [i32; 5] = [64, 71, 92, 95, 112];
 
 /// A port of the machine, at 127.0.0.1 alone. It doesn't tell what comes and what is sent.
 ///
@@ -111,9 +114,9 @@ impl<R: Net + rt::Clock + Drop> Door for HostDoor<R> {
     }
 }
 
-// Takes the next connection, past those that are gone before they were taken.
+// Takes the next connection, past those that are gone before they are taken.
 fn take_next<L: OpenListener>(listener: &L) -> io::Result<L::Stream> {
-    for _ in 0..u32::MAX {
+    for _ in 0..GONE_IN_A_ROW {
         match listener.accept() {
             Ok((stream, _)) => return Ok(stream),
             Err(fault) if is_of_connection(&fault) => {}
@@ -138,5 +141,5 @@ fn is_of_connection(fault: &io::Error) -> bool {
     is_named
         || fault
             .raw_os_error()
-            .is_some_and(|number| GONE.contains(&number))
+            .is_some_and(|number| CONNECTION_ERRORS.contains(&number))
 }

@@ -19,7 +19,10 @@ const FAREWELL_SECONDS: u64 = 2;
 /// How many milliseconds a socket is told to wait at least. Told none, it would wait for ever.
 const SHORTEST_WAIT_MILLISECONDS: u64 = 1;
 
-/// The next moment that ends waiting. It is never past where the clock couldn't be read: no time is left then.
+/// How often a connection is called at most within a deadline: more often than there is time for.
+const TRIES: u32 = u32::MAX;
+
+/// The moment when waiting ends. There is none where the clock couldn't be read, and no time is left then.
 #[derive(Clone, Copy)]
 struct Deadline {
     end: Option<Instant>,
@@ -33,7 +36,7 @@ impl Deadline {
         }
     }
 
-    // What is left of it.
+    // The time that is left until then, rounded up to what a socket is told.
     fn left(self, clock: &impl rt::Clock) -> io::Result<Duration> {
         let now = Instant::now(clock)?;
         let shortest = Duration::from_millis(SHORTEST_WAIT_MILLISECONDS);
@@ -67,7 +70,7 @@ impl<S: OpenStream + Read + Write + Drop> HostLine<S> {
     pub(crate) fn read(&mut self, clock: &impl rt::Clock, room: &mut [u8]) -> io::Result<usize>
         ensures { IfOk result (λ count. count ≤ length room.old) }
     {
-        for _ in 0..u32::MAX {
+        for _ in 0..TRIES {
             self.stream
                 .set_read_timeout(Some(self.deadline.left(clock)?))?;
             match self.stream.read(room) {
@@ -86,7 +89,7 @@ impl<S: OpenStream + Read + Write + Drop> HostLine<S> {
             self.replies = true;
             self.deadline = Deadline::in_seconds(clock, REPLY_SECONDS);
         }
-        for _ in 0..u32::MAX {
+        for _ in 0..TRIES {
             self.stream
                 .set_write_timeout(Some(self.deadline.left(clock)?))?;
             match self.stream.write(piece) {
@@ -105,7 +108,7 @@ impl<S: OpenStream + Read + Write + Drop> HostLine<S> {
         }
         self.deadline = Deadline::in_seconds(clock, FAREWELL_SECONDS);
         let mut room = [0; 4096];
-        for _ in 0..u32::MAX {
+        for _ in 0..TRIES {
             match self.read(clock, &mut room) {
                 Ok(count) if count > 0 => {}
                 _ => return,
