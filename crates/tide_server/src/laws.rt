@@ -63,8 +63,9 @@ pub fn queries_name_no_file()
 /// done, the door holds a reply for each request that was taken, in their order, each the reply to the
 /// bytes of its request at the clock's minute, unless a line has failed.
 pub fn serve_in_memory()
-    ensures { (firm : Type 0) (words : List (List ℕ)) (before after : InMemory)
+    ensures { (words : List (List ℕ)) (before after : InMemory)
         → before.door.doorway.port ≡ None → ¬ (after.door.doorway.port ≡ None)
-        → EndsAs firm (stock_of (folder_of before.files.files) words) Status.Done (handed_in before) (handed_in after)
+        → EndsAs (IsTrue (handed_in before).files.store.is_steady) (stock_of (folder_of before.files.files) words) Status.Done
+        (handed_in before) (handed_in after)
         → (stock : Stock) × (stock_of (folder_of before.files.files) words ≡ Ok stock) × HasAnswered stock before after }
 {}

@@ -34,7 +34,7 @@ returns-in_err-serve_next-clause-served g c =
 pub returns-in_err-serve_next-clause-kept : goal.returns-in_err-serve_next-clause-kept
 returns-in_err-serve_next-clause-kept g c =
     let p = err_from_is_err_and c.from_residual.result c.from_residual.ensures.1 in
-    rw p.1
+    rw (p.1, p.2)
     (kept_by
     c.args.stock.now
     c.in_err-serve_next.field-0.0
