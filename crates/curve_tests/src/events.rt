@@ -193,8 +193,9 @@ fn events_come_one_at_a_time(rt: HostRuntime) -> Result<(), Fail> {
 // How many cells the searches have given after each event.
 #[test]
 fn cells_are_counted_as_they_are_given(rt: HostRuntime) {
+    let turn = Line::new(-2, false, 1);
     let mut merge = Merge::new(
-        Search::new(Line::new(-2, false, 1), 0, 3),
+        Search::new(turn, 0, 3),
         Some(Search::new(Ripple::new(), 0, 3)),
         None,
     );
