@@ -1,12 +1,12 @@
 -- What a run leaves of objects in memory.
-use Rattle.std.proofs.Common.{◌≡◌, ◌⊎◌, ◌∙◌, ℕ, List, [], ◌++◌, Result, ap, inr, refl, sym}
+use Rattle.std.proofs.Common.{◌≡◌, ◌⊎◌, ◌∙◌, ℕ, List, [], ◌++◌, Result, ap, inl, inr, refl}
 use Rattle.tide_answer.specs.declared.text.Answer.{Answer}
 use Rattle.tide_edge.specs.Memory.{HeldSink, sink_state}
 use Rattle.tide_edge.specs.SinkStates.{SinkState, Wrote, put}
 use Rattle.tide_fault.specs.declared.status.Status.{Status}
 use Rattle.tide_fault.specs.declared.status.Status.TheVariants.{Done, Rejected}
 use Rattle.named_files.specs.declared.no_answer.NoAnswer.{NoAnswer}
-use Rattle.tide_desk.specs.InMemory.{MemoryHoldsTheAnswer}
+use Rattle.tide_desk.specs.InMemory.{MemoryHoldsTheAnswer, answer_in}
 use Rattle.tide_desk.specs.Outcomes.{is_write_fault, output_with, text_with}
 
 taken_whole : (before after : HeldSink) (text : List ℕ) → before.taken ≡ [] → sink_state after ≡ put text (sink_state before) → after.taken ≡ text
@@ -24,4 +24,4 @@ taken_by expected status before after empty wrote whole =
 pub holds_answer : MemoryHoldsTheAnswer
 holds_answer words status before after empty promised not_read =
     let ends = promised refl (λ asks. refl) (inr not_read) in
-    (ends.says, taken_by _ status before.out after.out empty ends.output)
+    (ends.says, taken_by (answer_in before words) status before.out after.out empty ends.output)

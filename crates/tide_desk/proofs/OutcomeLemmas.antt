@@ -1,5 +1,5 @@
 -- How a run ends where a fault is told.
-use Rattle.std.proofs.Common.{◌≡◌, ◌⊎◌, ℕ, Bool, true, false, cond, List, [], Result, inl, inr, refl, ◌∙◌}
+use Rattle.std.proofs.Common.{◌≡◌, ◌⊎◌, ℕ, Bool, true, false, cond, if◌then◌else◌, List, [], Result, Ok, inl, inr, refl, sym, ◌∙◌}
 use Rattle.decimal_text.specs.Expected.{Excused}
 use Rattle.question.specs.declared.fault.AskFault.TheVariants as ask
 use Rattle.harmonics_text.specs.declared.fault.BookFault.TheVariants as form
@@ -8,11 +8,11 @@ use Rattle.tide_fault.specs.declared.fault.Fault.TheVariants.{Ask, TooLong, Book
 use Rattle.tide_fault.specs.declared.refusal.Refusal.{Refusal}
 use Rattle.tide_fault.specs.declared.refusal.Refusal.TheVariants as refusals
 use Rattle.tide_fault.specs.declared.status.Status.{Status}
-use Rattle.tide_fault.specs.declared.status.Status.TheVariants.{ReadFault, NoMemory}
+use Rattle.tide_fault.specs.declared.status.Status.TheVariants.{Done, Rejected, ReadFault, NoMemory}
 use Rattle.tide_answer.specs.declared.text.Answer.{Answer}
 use Rattle.tide_fault.specs.Faults.{wants_memory as fault_wants_memory, wants_memory_of_refusal, status_of_refusal, line_of as line_of_fault, ask_line, form_line, table_line, refusal_line as line_of_refusal}
 use Rattle.tide_edge.specs.Excuses.{Excuses, memory, given}
-use Rattle.tide_edge.specs.SinkStates.{SinkState, Wrote}
+use Rattle.tide_edge.specs.SinkStates.{SinkState, Wrote, put}
 use Rattle.named_files.specs.declared.no_answer.NoAnswer.{NoAnswer}
 use Rattle.named_files.specs.declared.no_answer.NoAnswer.TheVariants.{Unread, Told}
 use Rattle.named_files.specs.declared.no_answer.NoAnswer.TheVariants as none_of
@@ -96,3 +96,12 @@ reads_itself (none_of.Refused refusal rows) = refl_of_refusal refusal
 pub told_as_read : {X Y : Type 0} (none : NoAnswer) (status : Status) → ((status ≡ status_of none) × X) ⊎ ((status ≡ NoMemory) × (is_unread none ≡ false) × Y) → is_read_fault status ≡ is_unread none
 told_as_read none status told =
     elim told [ inl t ↦ rw t.0 (reads_itself none) | inr t ↦ rw (t.0, t.1) refl ]
+
+-- where the text was written whole, and nothing beside it
+pub ends_whole : (expected : Result Answer NoAnswer) (answer : Answer) (rejected : Bool) (status : Status) (before after : Outputs)
+    → expected ≡ Ok answer → rejected ≡ answer.rejected → status ≡ (if rejected then Rejected else Done)
+    → Wrote before.out after.out false answer.text → after.err ≡ put [] before.err → EndsAs expected status before after
+ends_whole expected answer true status before after is judged ends wrote quiet =
+    rw (is, ends) (record { says = sym judged; output = wrote; failed = false; line = quiet })
+ends_whole expected answer false status before after is judged ends wrote quiet =
+    rw (is, ends) (record { says = sym judged; output = wrote; failed = false; line = quiet })

@@ -1,6 +1,6 @@
 -- How a reply stands for its answer.
 use Rattle.std.proofs.Common.{◌≡◌, ℕ, Bool, true, false, if◌then◌else◌, IsTrue, List, [], Option, Some, None, Result, Ok, Err, refl}
-use Rattle.std.specs.Prelude.{is_some}
+use Rattle.std.specs.Prelude.{◌&&◌, is_some}
 use Rattle.std.specs.Option.{ForSome, IsSomeAnd, option_map_or}
 use Rattle.decimal_text.specs.Expected.{◌>>=◌, Excused}
 use Rattle.harmonics_text.specs.declared.book.Book.{Book}
@@ -60,6 +60,11 @@ unfolding prepared answered
 prepared_says book table question given can = by_command question.command book table question given can
 
 -- ---- What a reply is made of
+
+-- the first of two that both hold
+pub first_holds : (first second : Bool) → (first && second) ≡ true → IsTrue first
+first_holds true second both = refl
+first_holds false second both = absurd cc
 
 pub refused_alike : (memory : Bool) (answer : Result Answer Refusal) (ready : Result Ready Refusal) (refusal : Refusal) → Says answer ready → Excused memory ready refusal → Excused memory answer refusal
 refused_alike true answer ready refusal says excused = tt

@@ -2,8 +2,24 @@ use Rattle.std.proofs.Common.{inl, sym}
 use Rattle.tide_desk.specs.Answers.{AsksClock, asked_of}
 use Rattle.tide_desk.specs.Outcomes.{IsFirm, outputs, sources}
 use Rattle.tide_edge.proofs.WritingLemmas.{put_none}
-use Rattle.tide_desk.proofs.OutcomeLemmas.{ends_told, ends_own, own_excused, told_as_read}
+use Rattle.tide_desk.proofs.OutcomeLemmas.{ends_told, ends_own, ends_whole, own_excused, told_as_read}
 use Rattle.tide_desk.proofs.desk.run.Goals as goal
+
+pub returns-in-Ok-write-clause-own_files : goal.returns-in-Ok-write-clause-own_files
+returns-in-Ok-write-clause-own_files g c =
+    λ t k either. ends_whole _ c.in-Ok.reply c.in-Ok-write.rejected c.judged.result
+    (outputs (g.O.Sink.state c.args.out.now) (g.E.Sink.state c.args.err.now))
+    (outputs (g.O.Sink.state c.write.new.out) (g.E.Sink.state c.args.err.now))
+    (c.in-Ok.ensures.own t k) c.in-Ok-write.ensures.judged c.judged.ensures c.in-Ok-write.ensures.wrote (sym (put_none (g.E.Sink.state c.args.err.now)))
+
+pub returns-in-Ok-clause-own_files : goal.returns-in-Ok-clause-own_files
+returns-in-Ok-clause-own_files g c =
+    λ t k either. rw (c.refuse.ensures.same, c.in-Ok.ensures.own t k) (record {
+      says = tt;
+      output = c.in-Err-write.ensures.wrote;
+      failed = c.refuse.ensures.line.0;
+      line = c.refuse.ensures.line.1;
+    })
 
 pub returns-in-Ok-clause-some_files : goal.returns-in-Ok-clause-some_files
 returns-in-Ok-clause-some_files g c =
