@@ -1,7 +1,6 @@
 -- What the program tells of itself (this project; the option words are those of the GNU coding standards).
-use Rattle.std.specs.Prelude.{◌≡◌, ℕ, Bool, true, false, ◌||◌, if◌then◌else◌, List, [], ◌∷◌, codes, slice_get, Option, Some, None, Result, Ok}
+use Rattle.std.specs.Prelude.{◌≡◌, ℕ, Bool, true, false, ◌||◌, if◌then◌else◌, List, [], ◌∷◌, codes, Option, Some, None, Result, Ok}
 use Rattle.std.specs.List.{list_any}
-use Rattle.std.specs.Option.{option_map_or}
 use Rattle.std.specs.Str.{bytes_eq}
 use Rattle.tide_answer.specs.declared.text.Answer.{Answer}
 use Rattle.named_files.specs.declared.no_answer.NoAnswer.{NoAnswer}
@@ -23,11 +22,15 @@ asks_for_help word = is_option (codes "-h") (codes "--help") word
 abbrev pub asks_for_version : List ℕ → Bool
 asks_for_version word = is_option (codes "-V") (codes "--version") word
 
+abbrev pub first_asks_for_version : List (List ℕ) → Bool
+first_asks_for_version [] = false
+first_asks_for_version (word ∷ words) = asks_for_version word
+
 -- the page that the words ask for: any of them can ask for help, and the first for the version
 abbrev pub page_of : List (List ℕ) → Option Page
 page_of words =
     if list_any asks_for_help words then Some Help
-    else if option_map_or asks_for_version (slice_get words 0) false then Some Version
+    else if first_asks_for_version words then Some Version
     else None
 
 -- whether the first word asks to serve

@@ -1,7 +1,8 @@
 //! What the program tells of itself.
 
 ghost use Rattle.std.specs.Prelude.{◌≡◌};
-ghost use Rattle.tide.specs.Pages.{asks_for_help, asks_for_version, asks_to_serve, page_of, page_text};
+ghost use Rattle.std.specs.List.{list_any};
+ghost use Rattle.tide.specs.Pages.{asks_for_help, asks_for_version, asks_to_serve, first_asks_for_version, page_of, page_text};
 
 use decimal_text::{Text, Words};
 
@@ -76,12 +77,27 @@ impl Page {
 pub fn page_asked(words: &Words) -> Option<Page>
     ensures { result ≡ page_of words.now }
 {
-    if words.as_slice().iter().any(|word| asks_for_help(word)) {
-        return Some(Page::Help);
+    if any_asks_for_help(words.as_slice()) {
+        Some(Page::Help)
+    } else if first_asks_for_version(words) {
+        Some(Page::Version)
+    } else {
+        None
     }
+}
+
+fn any_asks_for_help(words: &[Text]) -> bool
+    ensures { result ≡ list_any asks_for_help words.now }
+{
+    words.iter().any(|word| asks_for_help(word))
+}
+
+fn first_asks_for_version(words: &Words) -> bool
+    ensures { result ≡ first_asks_for_version words.now }
+{
     match words.as_slice().first() {
-        Some(word) if asks_for_version(word) => Some(Page::Version),
-        _ => None,
+        Some(word) => asks_for_version(word),
+        None => false,
     }
 }
 
