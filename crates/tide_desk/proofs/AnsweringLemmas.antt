@@ -9,7 +9,7 @@ use Rattle.question.specs.declared.question.Question.{Question}
 use Rattle.tide_answer.specs.declared.text.Answer.{Answer}
 use Rattle.tide_answer.specs.Answers.{answered_alone}
 use Rattle.tide_edge.specs.Clocks.{ClockState, clock_after}
-use Rattle.tide_edge.specs.Excuses.{Source, memory, outside, given, Excuses, Meets}
+use Rattle.tide_edge.specs.Excuses.{Meets}
 use Rattle.tide_edge.specs.Faults.{Rose, counted}
 use Rattle.tide_edge.specs.FileStates.{FilesState}
 use Rattle.tide_edge.specs.Whole.{Allowance, ReadWithin, no_file}
@@ -19,7 +19,7 @@ use Rattle.named_files.specs.declared.no_answer.NoAnswer.{NoAnswer}
 use Rattle.named_files.specs.NoAnswers.{source_of, told, wants_memory}
 use Rattle.named_files.specs.Readings.{Folders, files_allowed, files_in}
 use Rattle.named_files.proofs.ReadingLemmas.{meets_inside}
-use Rattle.tide_desk.specs.Answers.{AsksClock, HasFiles, NamesFile, allowed_by, answered_by, answered_over, asks_clock, minute_for, question_allowed, refused_from}
+use Rattle.tide_desk.specs.Answers.{AsksClock, HasFiles, NamesFile, allowed_by, answered_by, answered_over, asks_clock, minute_for, refused_from}
 use Rattle.tide_desk.specs.Outcomes.{Sources, WentOn, sources}
 
 -- ---- What was read, and what was asked of the clock

@@ -1,17 +1,16 @@
 -- What answers a connection.
-use Rattle.std.proofs.Common.{◌≡◌, ◌⊎◌, ◌≢◌, ℕ, Bool, false, true, List, [], ◌∷◌, ◌++◌, take, append-nil, Option, Some, None, inl, inr, ap, sym, ◌∙◌, subst, refl}
+use Rattle.std.proofs.Common.{◌≡◌, ◌⊎◌, ◌≢◌, ℕ, Bool, false, true, List, [], ◌∷◌, ◌++◌, take, append-nil, Some, inl, inr, ap, sym, ◌∙◌, subst, refl}
 use Rattle.std.specs.Bool.{IsTrue}
 use Rattle.std.specs.List.{concat}
 use Rattle.std.specs.Prelude.{ℤ, if◌then◌else◌}
-use Rattle.tide_edge.specs.Clocks.{ClockState, clock_after, next_minute}
+use Rattle.tide_edge.specs.Clocks.{ClockState, next_minute}
 use Rattle.tide_edge.specs.Doors.{DoorState, Traffic, append_to_last}
-use Rattle.tide_edge.specs.Faults.{counted, faults_after}
+use Rattle.tide_edge.specs.Faults.{faults_after}
 use Rattle.tide_server.specs.declared.stock.Stock.{Stock}
 use Rattle.tide_server.specs.Heads.{head_end}
-use Rattle.tide_server.specs.Replies.{IsReply}
 use Rattle.tide_server.specs.Rows.{Row, IsRow, is_settled}
-use Rattle.tide_server.specs.Serving.{Answers, AnswersUnlessCut, AsksUnlessCut, IsEnough, IsUnavailable, exchange, has_byte}
-use Rattle.tide_server.specs.Workings.Connections.{HasRead, IsRead, IsReadAs, Replies, RowSent, SentBy, Stopped, Talk, Went, WentBy, read_to, sent, talked}
+use Rattle.tide_server.specs.Serving.{Answers, IsEnough, exchange, has_byte}
+use Rattle.tide_server.specs.Workings.Connections.{HasRead, IsRead, IsReadAs, Replies, RowSent, Stopped, Talk, Went, WentBy, read_to, sent, talked}
 use Rattle.tide_server.proofs.ConnectionLemmas.{append_none, not_enough}
 use Rattle.tide_server.proofs.RowLemmas.{one_row_at, settled_stays}
 

@@ -1,5 +1,5 @@
 -- What goes over a connection, piece by piece.
-use Rattle.std.proofs.Common.{◌≡◌, ℕ, ◌+◌, ◌<◌, ◌≤◌, Bool, false, true, List, [], ◌∷◌, ◌++◌, length, take, drop, append_assoc, append-nil, arith, ap, sym, ◌∙◌, subst, refl, Result, Ok, Err, Some, inl, inr}
+use Rattle.std.proofs.Common.{◌≡◌, ℕ, ◌+◌, ◌<◌, ◌≤◌, Bool, false, true, List, [], ◌∷◌, ◌++◌, length, take, drop, append_assoc, append-nil, arith, ap, sym, ◌∙◌, subst, refl, Ok, Err, Some, inl, inr}
 use Rattle.std.specs.Bool.{IsTrue}
 use Rattle.std.specs.List.{concat}
 use Rattle.std.specs.Prelude.{nat_le, ◌==◌, ◌||◌, ◌↔◌, if◌then◌else◌}
@@ -8,12 +8,12 @@ use Rattle.std.proofs.lemmas.List.{take-append-drop}
 use Rattle.std.proofs.Math.Seq.{drop-nil, take-add}
 use Rattle.tide_edge.specs.declared.failed.Failed.{Failed}
 use Rattle.tide_edge.specs.Doors.{DoorState, Traffic, append_to_last, door_after_read, door_after_write, first_or_empty, left_after}
-use Rattle.tide_edge.specs.Faults.{counted, faults_after}
+use Rattle.tide_edge.specs.Faults.{counted}
 use Rattle.tide_server.specs.declared.limits.TheConstants.{LONGEST}
 use Rattle.tide_server.specs.Heads.{head_end, head_length}
 use Rattle.tide_server.specs.Rows.{Row, IsRow, is_settled}
-use Rattle.tide_server.specs.Serving.{IsEnough, IsReadAsNeeded}
-use Rattle.tide_server.specs.Workings.Connections.{HasRead, IsRead, IsReadAs, SentBy, read_to, sent}
+use Rattle.tide_server.specs.Serving.{IsEnough}
+use Rattle.tide_server.specs.Workings.Connections.{HasRead, IsRead, IsReadAs, read_to, sent}
 use Rattle.tide_server.proofs.PieceLemmas.{all_left, bytes_left, left_on}
 use Rattle.tide_server.proofs.RowLemmas.{long_settled, one_row_at}
 

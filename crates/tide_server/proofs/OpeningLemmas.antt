@@ -1,7 +1,6 @@
 -- What a server serves from, and why it serves nobody.
-use Rattle.std.proofs.Common.{◌≡◌, ℕ, Bool, true, false, List, [], Option, Some, None, Result, Ok, Err, ap, inl, inr, sym, subst, append-nil, refl, arith, ◌∙◌, ◌+◌, ◌≤◌}
-use Rattle.std.specs.Bool.{IsTrue}
-use Rattle.std.specs.Prelude.{codes, if◌then◌else◌, ◌++◌}
+use Rattle.std.proofs.Common.{◌≡◌, ℕ, Bool, true, false, List, [], Option, Some, None, Result, Ok, Err, ap, inl, inr, sym, subst, refl, ◌∙◌}
+use Rattle.std.specs.Prelude.{codes}
 use Rattle.question.specs.declared.fault.AskFault.TheVariants.{MissingKey}
 use Rattle.question.specs.declared.key.Key.TheVariants as keys
 use Rattle.question.specs.declared.question.Question.{Question}

@@ -1,11 +1,10 @@
 -- How a server that has something to serve from ends.
-use Rattle.std.proofs.Common.{◌≡◌, ℕ, Bool, true, false, List, Some, Result, Ok, Err, ap, inl, inr, sym, ◌∙◌, subst, refl}
+use Rattle.std.proofs.Common.{◌≡◌, ℕ, Bool, true, false, Some, Ok, Err, inl, inr, sym, subst, refl}
 use Rattle.std.specs.Bool.{IsTrue}
-use Rattle.std.specs.Prelude.{codes, is_err}
+use Rattle.std.specs.Prelude.{codes}
 use Rattle.tide_edge.specs.declared.failed.Failed.{Failed}
 use Rattle.tide_edge.specs.Clocks.{ClockState}
-use Rattle.tide_edge.specs.Doors.{DoorState, asked, door_after_listen}
-use Rattle.tide_edge.specs.Faults.{faults_after}
+use Rattle.tide_edge.specs.Doors.{DoorState, door_after_listen}
 use Rattle.tide_edge.specs.FileStates.{FilesState}
 use Rattle.tide_edge.specs.SinkStates.{SinkState, Wrote}
 use Rattle.tide_fault.specs.declared.status.Status.{Status}
@@ -13,7 +12,7 @@ use Rattle.tide_fault.specs.declared.status.Status.TheVariants.{Done, ReadFault}
 use Rattle.tide_server.specs.declared.outage.Outage.{Outage}
 use Rattle.tide_server.specs.declared.outage.Outage.TheVariants as outages
 use Rattle.tide_server.specs.declared.stock.Stock.{Stock}
-use Rattle.tide_server.specs.Openings.{EndedBy, HasListened, notice_of}
+use Rattle.tide_server.specs.Openings.{EndedBy, notice_of}
 use Rattle.tide_server.specs.Serving.{Exchange, IsOver, Served, exchange}
 use Rattle.tide_server.specs.Workings.Ends.{Ended, unread, with_files}
 use Rattle.tide_server.specs.Workings.Steps.{IsKept, is_clock, is_door}

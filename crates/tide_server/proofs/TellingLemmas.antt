@@ -1,5 +1,5 @@
 -- A fault of reading is told as one, and no other is.
-use Rattle.std.proofs.Common.{◌≡◌, ◌⊎◌, false, inl, inr, refl}
+use Rattle.std.proofs.Common.{◌≡◌, false, inl, inr, refl}
 use Rattle.question.specs.declared.fault.AskFault.TheVariants as ask
 use Rattle.harmonics_text.specs.declared.fault.BookFault.TheVariants as form
 use Rattle.station_table.specs.declared.fault.OffsetFault.TheVariants as table

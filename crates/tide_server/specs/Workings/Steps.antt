@@ -2,7 +2,7 @@
 use Rattle.std.specs.Prelude.{◌≡◌, ℕ, Bool, true, false, IsTrue, List, [], ◌∷◌, ◌++◌, length, map, count_by, Some, Result, Ok, Err}
 use Rattle.std.specs.List.{concat}
 use Rattle.tide_edge.specs.Clocks.{clock_after, next_minute}
-use Rattle.tide_edge.specs.Doors.{Doorway, DoorState, after_next, closed, door_after_close, door_after_next}
+use Rattle.tide_edge.specs.Doors.{Doorway, DoorState, after_next, door_after_close, door_after_next}
 use Rattle.tide_edge.specs.Faults.{counted, faults_after}
 use Rattle.tide_server.specs.declared.outage.Outage.{Outage}
 use Rattle.tide_server.specs.declared.outage.Outage.TheVariants as outages

@@ -3,7 +3,6 @@ use Rattle.std.specs.Bool.{IsTrue}
 use Rattle.std.specs.Prelude.{pos}
 use Rattle.std.proofs.lemmas.Int.{to_z-of_z}
 use Rattle.std.proofs.lemmas.Result.{err_from_is_err_and}
-use Rattle.named_files.specs.NoAnswers.{is_unread}
 use Rattle.named_files.specs.Readings.{book_named, files_allowed, files_in}
 use Rattle.named_files.proofs.ReadingLemmas.{excuses_weaker, failed_at, meets_at, meets_inside}
 use Rattle.tide_desk.specs.Answers.{answered_over, asks_clock}

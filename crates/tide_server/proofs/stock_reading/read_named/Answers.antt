@@ -1,11 +1,7 @@
-use Rattle.std.proofs.Common.{None, refl, false, sym}
+use Rattle.std.proofs.Common.{None, refl}
 use Rattle.std.specs.Bool.{IsTrue}
-use Rattle.tide_edge.proofs.ReadingLemmas.{read_more, read_then}
-use Rattle.tide_edge.specs.Whole.{one_file}
-use Rattle.tide_fault.specs.declared.slot.Slot.TheVariants.{File, Offsets}
-use Rattle.named_files.specs.NoAnswers.{is_unread}
-use Rattle.named_files.specs.Readings.{allowed_for, book_named, limit_of, table_named}
-use Rattle.named_files.proofs.ReadingLemmas.{by_slot, failed_at, meets_at}
+use Rattle.named_files.specs.Readings.{book_named, table_named}
+use Rattle.named_files.proofs.ReadingLemmas.{by_slot, meets_at}
 use Rattle.tide_server.specs.Openings.{stock_named}
 use Rattle.tide_server.proofs.stock_reading.read_named.Goals as goal
 
