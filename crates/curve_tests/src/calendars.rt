@@ -125,36 +125,3 @@ fn dates_are_shown(rt: HostRuntime) -> Result<(), Fail> {
     worked_calendars();
     Ok(())
 }
-
-// 400 bytes.
-const NAME: &str =
-    "0123456789abcdefghijklmnopqrstuvwxyz0123456789abcdefghijklmnopqrstuvwxyz01234567\
-    0123456789abcdefghijklmnopqrstuvwxyz0123456789abcdefghijklmnopqrstuvwxyz01234567\
-    0123456789abcdefghijklmnopqrstuvwxyz0123456789abcdefghijklmnopqrstuvwxyz01234567\
-    0123456789abcdefghijklmnopqrstuvwxyz0123456789abcdefghijklmnopqrstuvwxyz01234567\
-    0123456789abcdefghijklmnopqrstuvwxyz0123456789abcdefghijklmnopqrstuvwxyz01234567";
-
-// A low and a high water after the other in the year 2000, 1,412 of them.
-#[test]
-fn a_year_is_shown_below_a_long_name(rt: HostRuntime) -> Result<(), Fail> {
-    let alloc = rt.alloc();
-    let name = Text::from_str(alloc, NAME)?;
-    let mut items = Vec::new(alloc);
-    for pair in 0..706_i64 {
-        items.push((15_778_080 + pair * 746, Kind::Low, -1_000_000))?;
-        items.push((15_778_453 + pair * 746, Kind::High, 1_000_000))?;
-    }
-    let events = tide_of(alloc, items.as_slice())?;
-    let zone = zone_of(alloc, Some(0));
-    let text = calendar_text(
-        alloc,
-        &name,
-        Units::Feet,
-        &events,
-        &zone,
-        15_778_080,
-        16_305_120,
-    )?;
-    assert_eq!(rt; text.as_slice().len(), 35_491);
-    Ok(())
-}
