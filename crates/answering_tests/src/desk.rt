@@ -11,7 +11,8 @@ use rows::*;
 use std::alloc::{AllocError, Global};
 use std::process::Abort;
 use std::test::Fail;
-use tide_desk::{Status, run};
+use tide_answer::Status;
+use tide_desk::run;
 use tide_edge::{FixedClock, MemoryFiles, MemorySink, NamedFile};
 
 // What a run left: its status, what was written to `out` and to `err`.
