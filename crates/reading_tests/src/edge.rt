@@ -164,10 +164,10 @@ fn the_clock_of_the_machine_is_past_2026(rt: HostRuntime) {
 
 /// Takes one connection, and sends back what comes first over it.
 fn echo<D: Door>(door: &mut D) -> Result<bool, Failed>
-    requires listens { IsTrue (D.doorway door.old).listens }
-    requires none_open { (D.doorway door.old).is_open ≡ false }
-    ensures listens { IsTrue (D.doorway door.new).listens }
-    ensures none_open { (D.doorway door.new).is_open ≡ false }
+    requires listens { IsTrue (D.state door.old).doorway.listens }
+    requires none_open { (D.state door.old).doorway.is_open ≡ false }
+    ensures listens { IsTrue (D.state door.new).doorway.listens }
+    ensures none_open { (D.state door.new).doorway.is_open ≡ false }
 {
     if !door.next()? {
         return Ok(false);
