@@ -108,6 +108,10 @@ const ANSWERED: &[(&str, &str)] = &[
     ),
     ("stations|file=pier.txt", "Ref feet Pier\n"),
     ("sample|seed=1", "#"),
+    (
+        "trial|seed=0",
+        "seed 0\nstations 40\nminutes 4285440\nevents 10902\ncells 325629\n",
+    ),
     ("--help", "Predicts tides"),
     ("-h", "Predicts tides"),
     ("predict|file=none.txt|-h", "Predicts tides"),
