@@ -6,7 +6,7 @@ use Rattle.harmonics_text.specs.declared.fault.BookFault.TheVariants as form
 use Rattle.harmonics_text.specs.Reading.{At, book_of}
 use Rattle.tide_edge.specs.declared.read_all_fault.ReadAllFault.{ReadAllFault}
 use Rattle.tide_edge.specs.declared.read_all_fault.ReadAllFault.TheVariants as reading
-use Rattle.tide_edge.specs.Excuses.{Source, memory, outside, given}
+use Rattle.decimal_text.specs.Expected.{Source, memory, outside, given}
 use Rattle.tide_edge.specs.Whole.{whole}
 use Rattle.book_loading.specs.declared.loading.LoadFault.{LoadFault}
 use Rattle.book_loading.specs.declared.loading.LoadFault.TheVariants.{Failed, TooLong, Book}

@@ -5,9 +5,10 @@ ghost use Rattle.decimal_text.specs.Expected.{Gives};
 ghost use Rattle.harmonics_text.specs.Books.{IsBook};
 ghost use Rattle.book_loading.specs.Loading.{loaded, source_of, wants_memory};
 ghost use Rattle.book_loading.specs.Workings.Feeding.{bytes_fed};
-ghost use Rattle.tide_edge.specs.Excuses.{Meets, is_outside_fault};
+ghost use Rattle.decimal_text.specs.Expected.{Meets, is_outside_fault};
 ghost use Rattle.tide_edge.specs.Whole.{ReadWithin, one_file, whole, source_of as source_of_reading};
 ghost use Rattle.tide_edge.specs.Workings.Reading.{IsReadOn};
+ghost use Rattle.decimal_text.specs.declared.limits.TheConstants.{MOST_BYTES};
 
 use decimal_text::Text;
 use harmonics_text::{Book, BookFault, BookReader};
@@ -42,7 +43,7 @@ pub fn load_book<F: Files>(
     name: &Text,
     limit: u64,
 ) -> Result<Book, LoadFault>
-    requires { limit ≤ 400000000 }
+    requires { limit ≤ MOST_BYTES }
     ensures own { IsTrue (F.state files.old).store.tells
         → Meets source_of (IsTrue (F.state files.old).store.is_steady) (loaded limit ((F.state files.old).store.folder name.now)) result }
     ensures some { (file : Option (List ℕ)) × Gives wants_memory (loaded limit file) result }
@@ -66,7 +67,7 @@ fn load_rest<F: Files>(
 ) -> Result<Book, LoadFault>
     requires room { length room.old ≡ PIECE }
     requires unfed { reader.bytes ≡ [] }
-    requires most { limit ≤ 400000000 }
+    requires most { limit ≤ MOST_BYTES }
     ensures own { IsTrue (F.state files.old).store.tells
         → Meets source_of (IsTrue (F.state files.old).store.is_steady) (loaded limit (Some (F.state files.old).rest)) result }
     ensures some { (file : Option (List ℕ)) × Gives wants_memory (loaded limit file) result }
@@ -87,7 +88,7 @@ fn feed_rest<F: Files>(
 ) -> Result<BookReader, ReadAllFault>
     requires room { length room.old ≡ PIECE }
     requires unfed { reader.bytes ≡ [] }
-    requires most { limit ≤ 400000000 }
+    requires most { limit ≤ MOST_BYTES }
     ensures whole { IsTrue (F.state files.old).store.tells
         → Meets source_of_reading (IsTrue (F.state files.old).store.is_steady) (whole limit (Some (F.state files.old).rest)) (bytes_fed result) }
     ensures within { IfOk result (λ reader. length reader.bytes ≤ limit) }

@@ -1,5 +1,5 @@
 use super::*;
-use decimal_text::{Bytes, Text};
+use decimal_text::{Bytes, MOST_BYTES, Text};
 use harmonics_text::{BookFault, Why};
 use std::alloc::{AllocError, Global};
 use std::test::Fail;
@@ -39,7 +39,7 @@ fn a_book_is_loaded_in_pieces(rt: HostRuntime) -> Result<(), Fail> {
     let alloc = rt.alloc();
     // a file, a limit, the call that fails, and how many stations came
     for (name, limit, failing, expected) in [
-        ("pier", 400_000_000, 0, Ok(1)),
+        ("pier", MOST_BYTES as u64, 0, Ok(1)),
         ("pier", 10, 0, Err(LoadFault::TooLong)),
         ("quay", 10, 0, Err(LoadFault::Failed)),
         ("long", 140_000, 0, Ok(1)),

@@ -8,7 +8,6 @@ ghost use Rattle.event_text.specs.Lines.{IsListed};
 ghost use Rattle.zone_time.specs.Dates.{IsDay, date_text};
 ghost use Rattle.zone_time.specs.Zones.{IsZone, InZoneYears};
 
-use crate::days::MINUTES_OF_DAY;
 use crate::page::Page;
 use crate::pages::pages_shown;
 use arrayvec::ArrayString;
@@ -17,7 +16,7 @@ use decimal_text::{Bytes, Text};
 use event_text::{word, write_level};
 use harmonics_text::Units;
 use std::alloc::{AllocError, Global};
-use zone_time::{Zone, write_clock, write_date};
+use zone_time::{MINUTES_OF_DAY, Zone, write_clock, write_date};
 
 /// The station's name, and a line such as
 /// `2000-01-10  06:00 -1.00 Low Tide  11:59 1.00 High Tide` for each date in the zone's local time,

@@ -8,9 +8,7 @@ ghost use Rattle.zone_time.specs.Dates.{IsDay};
 ghost use Rattle.zone_time.specs.Zones.{IsZone, InZoneYears};
 
 use curve_law::Event;
-use zone_time::Zone;
-
-pub const MINUTES_OF_DAY: i64 = 1440;
+use zone_time::{MINUTES_OF_DAY, Zone};
 
 /// A stretch of days, by their numbers, where 1970-01-01 is 0. Both ends are included.
 #[derive(Clone, Copy)]

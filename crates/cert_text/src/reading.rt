@@ -6,6 +6,7 @@ ghost use Rattle.cert_text.specs.Certificates.{IsCertificate};
 ghost use Rattle.cert_text.specs.Spelling.{Reads};
 ghost use Rattle.cert_text.specs.Readings.{certificate_of, wants_memory};
 ghost use Rattle.cert_text.specs.Workings.Drafts.{placed};
+ghost use Rattle.decimal_text.specs.declared.limits.TheConstants.{MOST_BYTES};
 
 use crate::certificate::Certificate;
 use crate::draft::Draft;
@@ -30,7 +31,7 @@ fn at_line(line: u32, fault: LineFault) -> CertFault
 /// a last piece without LF is no line of one, and where the bytes end too early the line is one past
 /// the last. [`CertFault::NoMemory`] may come in its place.
 pub fn read_certificate(alloc: Global, bytes: &[u8]) -> Result<Certificate, CertFault>
-    requires { length bytes.now ≤ 400000000 }
+    requires { length bytes.now ≤ MOST_BYTES }
     ensures exact { Gives wants_memory (certificate_of bytes.now) result }
     ensures reads { Reads bytes.now result }
     ensures sound { IfOk result IsCertificate }

@@ -10,6 +10,7 @@ mod bytes;
 mod digit;
 mod fault;
 mod laws;
+mod limits;
 mod numbers;
 mod reading;
 mod rounding;
@@ -26,6 +27,7 @@ pub use fault::DecimalFault;
 pub use laws::{
     reads_its_fraction, worked_digits, worked_readings, worked_roundings, worked_writings,
 };
+pub use limits::MOST_BYTES;
 pub use numbers::Numbers;
 pub use reading::read;
 pub use rounding::rounded;

@@ -21,7 +21,7 @@ use Rattle.harmonics_text.specs.Lines.{tokens}
 use Rattle.decimal_text.specs.Decimal.{after_point, made_of, decimal_of, scaled, scaled_or_bad, read_of}
 use Rattle.decimal_text.specs.Expected.{◌>>=◌}
 use Rattle.harmonics_text.specs.Rules.{in_scale, number_of, values_from, pair_from, pair_of}
-use Rattle.harmonics_text.specs.Workings.Drafts.{Fails, Gives, pushed, after_values, at_place, with_pair, after_pair, after_record, after_text}
+use Rattle.harmonics_text.specs.Workings.Drafts.{Fails, Follows, pushed, after_values, at_place, with_pair, after_pair, after_record, after_text}
 use Rattle.harmonics_text.proofs.Steps.{unnamed}
 
 pub pushed_is : (s : Scale) (values : List ℤ) (token : List ℕ) (n : ℤ) (new : List ℤ) → number_of s token ≡ Ok n → new ≡ values ++ n ∷ [] → pushed s values token ≡ Ok new
@@ -87,7 +87,7 @@ pair_added b c text name p amplitude epoch name_is e a_is e_is = rw (← name_is
 
 -- a pair that is not the station's last
 pub pair_within : (d : Draft) (b : Book) (r : Record) (c new : Constants) (text : List ℕ) (result : Result (Unit {0}) LineFault) → d ≡ drafts.Stations b r → r ≡ records.Constants c → length c.amplitude + 1 < length b.constituents → IfOk result (λ _. length new.amplitude ≡ length c.amplitude + 1)
-    → Gives (λ _. with_pair b new) result (after_pair b c text) → Gives (λ _. drafts.Stations b (records.Constants new)) result (after_text d text)
+    → Follows (λ _. with_pair b new) result (after_pair b c text) → Follows (λ _. drafts.Stations b (records.Constants new)) result (after_text d text)
 unfolding after_text after_record
 pair_within d b r c new text (Ok x) d_is r_is lt one is =
     let more : ltb (length new.amplitude) (length b.constituents) ≡ true = lt-ltb _ _ (omega (arith, one)) in

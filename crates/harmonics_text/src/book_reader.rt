@@ -6,6 +6,7 @@ ghost use Rattle.harmonics_text.specs.Books.{IsBook};
 ghost use Rattle.harmonics_text.specs.Reading.{GivesBook, book_of};
 ghost use Rattle.harmonics_text.specs.Pieces.{GivesFault, fault_so_far, pending_length};
 ghost use Rattle.harmonics_text.specs.Workings.Readers.{IsProgress, ReadsOn};
+ghost use Rattle.decimal_text.specs.declared.limits.TheConstants.{MOST_BYTES};
 
 use crate::book::Book;
 use crate::fault::BookFault;
@@ -57,7 +58,7 @@ impl BookReader {
     /// `At` names the first line that is bad, as soon as its last byte has come, or more bytes of it
     /// than a line may have. A fault stays: each later call answers it again.
     pub fn feed(&mut self, piece: &[u8]) -> Result<(), BookFault>
-        requires { length self.old.bytes + length piece.now ≤ 400000000 }
+        requires { length self.old.bytes + length piece.now ≤ MOST_BYTES }
         ensures fed { self.new.bytes ≡ self.old.bytes ++ piece.now }
         ensures fault { self.new.fault ≡ result_err result }
         ensures exact { GivesFault result (fault_so_far self.new.bytes) }

@@ -2,7 +2,7 @@
 
 ghost use Rattle.std.specs.Prelude.{◌≡◌, ◌+◌, ◌<◌, ◌≤◌, length, IfOk};
 ghost use Rattle.harmonics_text.specs.Rules.{end_of, same_count_of};
-ghost use Rattle.harmonics_text.specs.Workings.Drafts.{Gives, IsDraft, with_constituents, with_angles, with_factors, new_book, after_constituent, after_years, after_angles, after_years_again, after_factors, after_nothing, with_pair, after_pair, after_record, after_text, after_line, book_in};
+ghost use Rattle.harmonics_text.specs.Workings.Drafts.{Follows, IsDraft, with_constituents, with_angles, with_factors, new_book, after_constituent, after_years, after_angles, after_years_again, after_factors, after_nothing, with_pair, after_pair, after_record, after_text, after_line, book_in};
 
 use crate::book::Book;
 use crate::column::Column;
@@ -41,7 +41,7 @@ impl Draft {
     #[tactic(auto, unfolding(crate::specs::Workings::Drafts::after_line))]
     pub fn add_line(&mut self, alloc: Global, line: &[u8]) -> Result<(), LineFault>
         requires { IsDraft self.old }
-        ensures { Gives (λ _. self.new) result (after_line self.old line.now) }
+        ensures { Follows (λ _. self.new) result (after_line self.old line.now) }
     {
         if is_comment(line) {
             return Ok(());
@@ -59,7 +59,7 @@ impl Draft {
     /// Adds a line that is kept. A pair that is not the station's last is added in place.
     fn add_text(&mut self, alloc: Global, text: &[u8]) -> Result<(), LineFault>
         requires { IsDraft self.old }
-        ensures { Gives (λ _. self.new) result (after_text self.old text.now) }
+        ensures { Follows (λ _. self.new) result (after_text self.old text.now) }
     {
         if let Draft::Stations(book, begun) = self {
             if let Record::Constants(station) = begun {
@@ -76,7 +76,7 @@ impl Draft {
     #[tactic(auto, unfolding(crate::specs::Workings::Drafts::after_text, crate::specs::Workings::Drafts::after_count))]
     fn after_text(self, alloc: Global, text: &[u8]) -> Result<Draft, LineFault>
         requires { IsDraft self }
-        ensures { Gives (λ d. d) result (after_text self text.now) }
+        ensures { Follows (λ d. d) result (after_text self text.now) }
     {
         match self {
             Draft::Count => {
@@ -140,7 +140,7 @@ fn after_constituent(
     mut earlier: Constituents,
     text: &[u8],
 ) -> Result<Draft, LineFault>
-    ensures { Gives (λ d. d) result (after_constituent left earlier text.now) }
+    ensures { Follows (λ d. d) result (after_constituent left earlier text.now) }
 {
     let next = constituent(alloc, &earlier, text)?;
     earlier.push(next)?;
@@ -158,7 +158,7 @@ fn after_years(
     first_year: i32,
     text: &[u8],
 ) -> Result<Draft, LineFault>
-    ensures { Gives (λ d. d) result (after_years constituents first_year text.now) }
+    ensures { Follows (λ d. d) result (after_years constituents first_year text.now) }
 {
     let years = count(text)?;
     let heading = Heading {
@@ -183,7 +183,7 @@ fn with_angles(heading: Heading, table: Table) -> Draft
 fn after_angles(heading: Heading, table: Table, text: &[u8]) -> Result<Draft, LineFault>
     requires here { table.place < length heading.constituents }
     requires few { length heading.constituents ≤ 500 }
-    ensures { Gives (λ d. d) result (after_angles heading table text.now) }
+    ensures { Follows (λ d. d) result (after_angles heading table text.now) }
 {
     let table = with_line(table, &heading, Scale::Angle, text)?;
     Ok(with_angles(heading, table))
@@ -207,7 +207,7 @@ fn after_years_again(
     angles: Numbers,
     text: &[u8],
 ) -> Result<Draft, LineFault>
-    ensures { Gives (λ d. d) result (after_years_again heading angles text.now) }
+    ensures { Follows (λ d. d) result (after_years_again heading angles text.now) }
 {
     check_years(heading.years, text)?;
     Ok(Draft::Factors(heading, angles, start_table(alloc)))
@@ -232,7 +232,7 @@ fn after_factors(
 ) -> Result<Draft, LineFault>
     requires here { table.place < length heading.constituents }
     requires few { length heading.constituents ≤ 500 }
-    ensures { Gives (λ d. d) result (after_factors heading angles table text.now) }
+    ensures { Follows (λ d. d) result (after_factors heading angles table text.now) }
 {
     let table = with_line(table, &heading, Scale::Factor, text)?;
     Ok(with_factors(heading, angles, table))
@@ -254,7 +254,7 @@ fn new_book(alloc: Global, heading: Heading, angles: Numbers, factors: Numbers) 
 
 #[tactic(auto, unfolding(crate::specs::Workings::Drafts::after_nothing, crate::specs::Rules::station_name_of))]
 fn after_nothing(alloc: Global, book: Book, text: &[u8]) -> Result<Draft, LineFault>
-    ensures { Gives (λ d. d) result (after_nothing book text.now) }
+    ensures { Follows (λ d. d) result (after_nothing book text.now) }
 {
     if book.stations.as_slice().len() >= 20_000 {
         return Err(LineFault::Bad(Why::TooManyStations));
@@ -266,7 +266,7 @@ fn after_nothing(alloc: Global, book: Book, text: &[u8]) -> Result<Draft, LineFa
 #[tactic(auto, unfolding(crate::specs::Workings::Drafts::after_record))]
 fn after_record(alloc: Global, book: Book, begun: Record, text: &[u8]) -> Result<Draft, LineFault>
     requires { IsDraft (Draft.Stations book begun) }
-    ensures { Gives (λ d. d) result (after_record book begun text.now) }
+    ensures { Follows (λ d. d) result (after_record book begun text.now) }
 {
     match begun {
         Record::Nothing => after_nothing(alloc, book, text),
@@ -295,7 +295,7 @@ fn after_record(alloc: Global, book: Book, begun: Record, text: &[u8]) -> Result
 #[tactic(auto, unfolding(crate::specs::Workings::Drafts::after_pair))]
 fn add_pair(book: &Book, station: &mut Constants, text: &[u8]) -> Result<(), LineFault>
     requires { length station.old.amplitude < length book.now.constituents }
-    ensures exact { Gives (λ _. with_pair book.now station.new) result (after_pair book.now station.old text.now) }
+    ensures exact { Follows (λ _. with_pair book.now station.new) result (after_pair book.now station.old text.now) }
     ensures one { IfOk result (λ _. length station.new.amplitude ≡ length station.old.amplitude + 1) }
 {
     let name = &book.constituents.as_slice()[station.amplitude.len()].name;
@@ -318,7 +318,7 @@ fn with_pair(mut book: Book, station: Constants) -> Result<Draft, AllocError>
 
 fn after_pair(book: Book, mut station: Constants, text: &[u8]) -> Result<Draft, LineFault>
     requires { length station.amplitude < length book.constituents }
-    ensures { Gives (λ d. d) result (after_pair book station text.now) }
+    ensures { Follows (λ d. d) result (after_pair book station text.now) }
 {
     add_pair(&book, &mut station, text)?;
     Ok(with_pair(book, station)?)

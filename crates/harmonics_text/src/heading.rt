@@ -2,7 +2,7 @@
 
 ghost use Rattle.std.specs.Prelude.{◌≡◌};
 ghost use Rattle.harmonics_text.specs.Rules.{is_absent, is_end, has_name, new_name_of, constituent_of};
-ghost use Rattle.harmonics_text.specs.Workings.Drafts.{Gives};
+ghost use Rattle.harmonics_text.specs.Workings.Drafts.{Follows};
 
 use crate::book::Constituent;
 use crate::fault::{LineFault, Why};
@@ -48,7 +48,7 @@ fn has_name(constituents: &[Constituent], name: &Text) -> bool
 /// The name of a constituent after those before it.
 #[tactic(auto, unfolding(crate::specs::Rules::new_name_of))]
 fn new_name(alloc: Global, earlier: &Constituents, token: &[u8]) -> Result<Text, LineFault>
-    ensures { Gives (λ t. t) result (new_name_of earlier.now token.now) }
+    ensures { Follows (λ t. t) result (new_name_of earlier.now token.now) }
 {
     if is_absent(token) || is_end(token) {
         return Err(LineFault::Bad(Why::BadName));
@@ -67,7 +67,7 @@ pub fn constituent(
     earlier: &Constituents,
     text: &[u8],
 ) -> Result<Constituent, LineFault>
-    ensures { Gives (λ c. c) result (constituent_of earlier.now text.now) }
+    ensures { Follows (λ c. c) result (constituent_of earlier.now text.now) }
 {
     let Some((first, rest)) = next_token(text) else {
         return Err(LineFault::Bad(Why::BadName));

@@ -3,7 +3,7 @@
 ghost use Rattle.std.specs.Prelude.{◌≡◌, ◌≤◌, IfSome, position, encode_utf8_all};
 ghost use Rattle.std.specs.List.{list_all};
 ghost use Rattle.harmonics_text.specs.Rules.{is_colon, two_digits_of, minutes_of, clock_of, meridian_of, is_zone_byte, zone_of, local_time_of};
-ghost use Rattle.harmonics_text.specs.Workings.Drafts.{Gives};
+ghost use Rattle.harmonics_text.specs.Workings.Drafts.{Follows};
 
 use crate::fault::{LineFault, Why};
 use crate::lines::next_token;
@@ -91,7 +91,7 @@ fn is_zone(token: &[u8]) -> bool
 /// The name of a zone, without the colon before it.
 #[tactic(auto, unfolding(crate::specs::Rules::zone_of))]
 fn zone_name(alloc: Global, token: &[u8]) -> Result<Text, LineFault>
-    ensures { Gives (λ t. t) result (zone_of token.now) }
+    ensures { Follows (λ t. t) result (zone_of token.now) }
 {
     if token.len() > 100 || !is_zone(token) {
         return Err(LineFault::Bad(Why::BadMeridian));
@@ -106,7 +106,7 @@ fn zone_name(alloc: Global, token: &[u8]) -> Result<Text, LineFault>
 /// The meridian and the zone of a line.
 #[tactic(auto, unfolding(crate::specs::Rules::local_time_of, crate::specs::Rules::local_time_from))]
 pub fn local_time_of_line(alloc: Global, text: &[u8]) -> Result<LocalTime, LineFault>
-    ensures { Gives (λ p. p) result (local_time_of text.now) }
+    ensures { Follows (λ p. p) result (local_time_of text.now) }
 {
     let Some((first, rest)) = next_token(text) else {
         return Err(LineFault::Bad(Why::BadMeridian));

@@ -5,7 +5,7 @@ ghost use Rattle.std.specs.Option.{option_copied};
 ghost use Rattle.harmonics_text.specs.Latin.{without_byte, without_bytes, utf8_byte_or_two};
 ghost use Rattle.std.specs.List.{list_all};
 ghost use Rattle.harmonics_text.specs.Rules.{is_name_byte, name_of, is_name};
-ghost use Rattle.harmonics_text.specs.Workings.Drafts.{Gives};
+ghost use Rattle.harmonics_text.specs.Workings.Drafts.{Follows};
 
 use crate::fault::{LineFault, Why};
 use decimal_text::Text;
@@ -38,7 +38,7 @@ fn is_printable(latin: &[u8]) -> bool
 /// The name of at most so many bytes.
 #[tactic(auto, unfolding(crate::specs::Rules::name_of))]
 pub fn name_of(alloc: Global, latin: &[u8], most: usize) -> Result<Text, LineFault>
-    ensures { Gives (λ t. t) result (name_of most latin.now) }
+    ensures { Follows (λ t. t) result (name_of most latin.now) }
 {
     if latin.is_empty() || latin.len() > most || !is_printable(latin) {
         return Err(LineFault::Bad(Why::BadName));

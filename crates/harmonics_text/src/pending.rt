@@ -2,7 +2,7 @@
 
 ghost use Rattle.std.specs.Prelude.{◌≡◌, ◌++◌, ◌≤◌, ◌↔◌, [], length, if◌then◌else◌, IfOk, IsTrue, Ok};
 ghost use Rattle.harmonics_text.specs.Lines.{is_comment, is_filled};
-ghost use Rattle.harmonics_text.specs.Workings.Drafts.{Gives};
+ghost use Rattle.harmonics_text.specs.Workings.Drafts.{Follows};
 ghost use Rattle.harmonics_text.specs.Workings.Readers.{held};
 
 use crate::fault::{LineFault, Why};
@@ -67,7 +67,7 @@ impl Pending {
 
     /// Adds bytes.
     pub fn add(&mut self, more: &[u8]) -> Result<(), LineFault>
-        ensures { Gives (λ _. self.new) result (held (self.old ++ more.now)) }
+        ensures { Follows (λ _. self.new) result (held (self.old ++ more.now)) }
     {
         if is_comment_with(self.kept.as_slice(), more) {
             self.kept.clear();
@@ -83,7 +83,7 @@ impl Pending {
 
     /// Adds the last bytes of the line, where there are any before them.
     pub fn end(&mut self, last: &[u8]) -> Result<(), LineFault>
-        ensures { Gives (λ _. self.new) result (if is_filled self.old then held (self.old ++ last.now) else Ok []) }
+        ensures { Follows (λ _. self.new) result (if is_filled self.old then held (self.old ++ last.now) else Ok []) }
     {
         if self.kept.is_empty() {
             Ok(())

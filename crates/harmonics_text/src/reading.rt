@@ -3,6 +3,7 @@
 ghost use Rattle.std.specs.Prelude.{◌≡◌, ◌≤◌, length, IfOk};
 ghost use Rattle.harmonics_text.specs.Books.{IsBook};
 ghost use Rattle.harmonics_text.specs.Reading.{GivesBook, book_of};
+ghost use Rattle.decimal_text.specs.declared.limits.TheConstants.{MOST_BYTES};
 
 use crate::book::Book;
 use crate::book_reader::BookReader;
@@ -19,7 +20,7 @@ use std::alloc::Global;
 /// The bytes, at most 400,000,000, are gone over once, line by line. `At` names the first line that
 /// breaks a rule, with the first reason; only want of memory may come in its place.
 pub fn read_book(alloc: Global, bytes: &[u8]) -> Result<Book, BookFault>
-    requires { length bytes.now ≤ 400000000 }
+    requires { length bytes.now ≤ MOST_BYTES }
     ensures exact { GivesBook result (book_of bytes.now) }
     ensures sound { IfOk result IsBook }
 {

@@ -2,7 +2,7 @@
 
 ghost use Rattle.std.specs.Prelude.{◌≡◌, ◌<◌, ◌≤◌, length};
 ghost use Rattle.harmonics_text.specs.Rules.{named};
-ghost use Rattle.harmonics_text.specs.Workings.Drafts.{Gives, at_place, pushed, new_table, after_values, after_name, after_table_line};
+ghost use Rattle.harmonics_text.specs.Workings.Drafts.{Follows, at_place, pushed, new_table, after_values, after_name, after_table_line};
 
 use crate::column::Column;
 use crate::fault::{LineFault, Why};
@@ -38,7 +38,7 @@ pub fn start_table(alloc: Global) -> Table
 /// Adds the number of a token.
 #[tactic(auto, unfolding(crate::specs::Workings::Drafts::pushed))]
 fn push_number(values: &mut Column, scale: Scale, token: &[u8]) -> Result<(), LineFault>
-    ensures { Gives (λ _. values.new) result (pushed scale values.old token.now) }
+    ensures { Follows (λ _. values.new) result (pushed scale values.old token.now) }
 {
     values.push(number(token, scale)?)?;
     Ok(())
@@ -56,7 +56,7 @@ fn next_place(left: u32, place: usize) -> usize
 #[tactic(auto, unfolding(crate::specs::Workings::Drafts::after_values))]
 fn with_values(table: Table, scale: Scale, text: &[u8]) -> Result<Table, LineFault>
     requires { table.place < 500 }
-    ensures { Gives (λ t. t) result (after_values scale table text.now) }
+    ensures { Follows (λ t. t) result (after_values scale table text.now) }
 {
     let mut left = table.left;
     let mut values = table.values;
@@ -101,7 +101,7 @@ pub fn with_line(
 ) -> Result<Table, LineFault>
     requires here { table.place < length heading.now.constituents }
     requires few { length heading.now.constituents ≤ 500 }
-    ensures { Gives (λ t. t) result (after_table_line scale heading.now table text.now) }
+    ensures { Follows (λ t. t) result (after_table_line scale heading.now table text.now) }
 {
     if table.left > 0 {
         return with_values(table, scale, text);

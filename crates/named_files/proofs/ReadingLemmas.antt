@@ -17,7 +17,7 @@ use Rattle.tide_fault.specs.Faults.{wants_memory as fault_wants_memory, wants_me
 use Rattle.book_loading.specs.Loading.{loaded, bytes_from as load_bytes_from, book_from as load_book_from, source_of as source_of_loading, wants_memory as load_wants_memory}
 use Rattle.tide_edge.specs.declared.read_all_fault.ReadAllFault.{ReadAllFault}
 use Rattle.tide_edge.specs.declared.read_all_fault.ReadAllFault.TheVariants as reading
-use Rattle.tide_edge.specs.Excuses.{Source, memory, outside, given, Excuses, Meets}
+use Rattle.decimal_text.specs.Expected.{Source, memory, outside, given, Excuses, Meets}
 use Rattle.tide_edge.specs.FileStates.{Folder}
 use Rattle.tide_edge.specs.Whole.{whole, source_of as source_of_reading}
 use Rattle.named_files.specs.declared.no_answer.NoAnswer.{NoAnswer}

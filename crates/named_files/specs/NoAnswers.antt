@@ -7,7 +7,7 @@ use Rattle.tide_fault.specs.declared.refusal.Refusal.{Refusal}
 use Rattle.tide_fault.specs.declared.status.Status.{Status}
 use Rattle.tide_fault.specs.declared.status.Status.TheVariants as status
 use Rattle.tide_fault.specs.Faults.{status_of as status_of_fault, status_of_refusal, line_of as line_of_fault, wants_memory as fault_wants_memory, wants_memory_of_refusal, IsTold as IsToldFault, IsToldRefusal}
-use Rattle.tide_edge.specs.Excuses.{Source, memory, outside, given}
+use Rattle.decimal_text.specs.Expected.{Source, memory, outside, given}
 use Rattle.named_files.specs.declared.no_answer.NoAnswer.{NoAnswer}
 use Rattle.named_files.specs.declared.no_answer.NoAnswer.TheVariants.{Unread, Told, Refused}
 

@@ -28,6 +28,7 @@ use Rattle.zone_time.specs.Zones.{zone_of}
 use Rattle.named_files.specs.declared.materials.Materials.{Materials}
 use Rattle.named_files.specs.declared.no_answer.NoAnswer.{NoAnswer}
 use Rattle.named_files.specs.declared.no_answer.NoAnswer.TheVariants.{Unread, Told}
+use Rattle.decimal_text.specs.declared.limits.TheConstants.{MOST_BYTES}
 
 -- ---- The bytes of a file
 
@@ -36,7 +37,7 @@ abbrev pub limit_of : Slot → ℕ
 limit_of slots.File = 67108864
 limit_of slots.Offsets = 67108864
 limit_of slots.Zone = 1048576
-limit_of slots.Certificate = 400000000
+limit_of slots.Certificate = MOST_BYTES
 
 abbrev pub fault_of_reading : Slot → ReadAllFault → NoAnswer
 fault_of_reading slot reading.Failed = Unread

@@ -12,12 +12,13 @@ ghost use Rattle.tide_edge.specs.Whole.{ReadWithin, one_file};
 ghost use Rattle.named_files.specs.NoAnswers.{IsTold, reading_failed, source_of, wants_memory};
 ghost use Rattle.named_files.specs.Readings.{Folders, allowed_for, files_allowed, zone_file, limit_of, fault_of_reading, bytes_of, book_named, table_from, table_named, zone_from, zone_named, certificate_named, files_in};
 ghost use Rattle.named_files.specs.Workings.Materials.{AreMaterials};
-ghost use Rattle.tide_edge.specs.Excuses.{Meets};
+ghost use Rattle.decimal_text.specs.Expected.{Meets};
+ghost use Rattle.decimal_text.specs.declared.limits.TheConstants.{MOST_BYTES};
 
 use crate::materials::Materials;
 use crate::no_answer::NoAnswer;
 use book_loading::{LoadFault, load_book};
-use decimal_text::{Bytes, Text};
+use decimal_text::{Bytes, MOST_BYTES, Text};
 use harmonics_text::Book;
 use question::{Question, ZoneWord};
 use station_table::{OffsetTable, read_offsets};
@@ -93,7 +94,7 @@ pub fn read_table<F: Files>(
 }
 
 fn table_in(alloc: Global, bytes: &Bytes) -> Result<OffsetTable, NoAnswer>
-    requires { length bytes.now ≤ 400000000 }
+    requires { length bytes.now ≤ MOST_BYTES }
     ensures exact { Gives wants_memory (table_from (table_of bytes.now)) result }
     ensures sound { IfOk result IsTable }
     ensures told { IfErr result IsTold }
@@ -151,7 +152,7 @@ fn read_certificate<F: Files>(
     ensures own { IsTrue (F.state files.old).store.tells
         → Meets source_of (IsTrue (F.state files.old).store.is_steady) (certificate_named (F.state files.old).store.folder name.now) result }
     ensures some { (folder : Folder) × Meets source_of (Unit {0}) (certificate_named folder name.now) result }
-    ensures within { IfOk result (λ bytes. length bytes ≤ 400000000) }
+    ensures within { IfOk result (λ bytes. length bytes ≤ MOST_BYTES) }
     ensures told { IfErr result IsTold }
     ensures read { ReadWithin (allowed_for Slot.Certificate name.now) (reading_failed result) (F.state files.old) (F.state files.new) }
 {
@@ -188,7 +189,7 @@ fn limit_of(slot: Slot) -> u64
     match slot {
         Slot::File | Slot::Offsets => 67_108_864,
         Slot::Zone => 1_048_576,
-        Slot::Certificate => 400_000_000,
+        Slot::Certificate => MOST_BYTES as u64,
     }
 }
 

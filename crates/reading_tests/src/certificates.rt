@@ -8,6 +8,7 @@ use cert_text::{
     texts_come_in_parts, title_line, track_of, worked_readings, worked_texts, write_certificate,
 };
 use curve_law::{Cell, Kind};
+use decimal_text::MOST_BYTES;
 use std::alloc::Global;
 use std::test::Fail;
 
@@ -19,7 +20,7 @@ const NARROWS: &str =
 
 /// The line of a text's fault: 0 where it is a certificate's.
 fn fault(alloc: Global, bytes: &[u8]) -> u32 {
-    if bytes.len() > 400_000_000 {
+    if bytes.len() > MOST_BYTES {
         return 9998;
     }
     match read_certificate(alloc, bytes) {

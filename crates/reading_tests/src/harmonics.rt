@@ -1,9 +1,10 @@
 //! Files of harmonic constants, and what is wrong with others.
 
 ghost use Rattle.std.specs.Prelude.{◌<◌, ◌≤◌, length};
+ghost use Rattle.decimal_text.specs.declared.limits.TheConstants.{MOST_BYTES};
 
 use crate::texts::{PIER, changed};
-use decimal_text::Text;
+use decimal_text::{MOST_BYTES, Text};
 use harmonics_text::{
     Book, BookFault, BookReader, Constituent, Constituents, Stations, Units, Why, read_book,
     worked_files, worked_lines,
@@ -13,7 +14,7 @@ use std::test::Fail;
 
 /// The line and the number of a file's fault: two zeros where it has a book.
 fn fault(alloc: Global, bytes: &[u8]) -> (u32, u32) {
-    if bytes.len() > 400_000_000 {
+    if bytes.len() > MOST_BYTES {
         return (0, 98);
     }
     match read_book(alloc, bytes) {
@@ -139,7 +140,7 @@ fn changes_of_a_line(rt: HostRuntime) -> Result<(), Fail> {
 
 /// The book of a file that comes in pieces of so many bytes.
 fn read_in_pieces(alloc: Global, bytes: &[u8], count: usize) -> Result<Book, BookFault>
-    requires few { length bytes.now ≤ 400000000 }
+    requires few { length bytes.now ≤ MOST_BYTES }
     requires some { 0 < count }
 {
     let mut reader = BookReader::new(alloc)?;
@@ -154,7 +155,7 @@ fn read_in_pieces(alloc: Global, bytes: &[u8], count: usize) -> Result<Book, Boo
 
 /// What a file comes to that is fed in pieces of so many bytes: its book in words, or its fault.
 pub fn told_in_pieces(alloc: Global, bytes: &[u8], count: usize) -> Result<String, AllocError> {
-    if bytes.len() > 400_000_000 || count == 0 {
+    if bytes.len() > MOST_BYTES || count == 0 {
         return Ok(String::new(alloc));
     }
     format!(in alloc; "{:?}", read_in_pieces(alloc, bytes, count))

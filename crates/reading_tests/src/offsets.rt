@@ -1,7 +1,7 @@
 //! Tables of subordinate stations, and the basis of a name.
 
 use crate::texts::PIER;
-use decimal_text::Text;
+use decimal_text::{MOST_BYTES, Text};
 use harmonics_text::read_book;
 use station_table::{
     Basis, FindFault, Offset, OffsetFault, OffsetTable, OffsetWhy, Slack, find, read_offsets,
@@ -20,7 +20,7 @@ const GATES: &[u8] =
 
 /// The row and the number of a table's fault: two zeros where it has none.
 fn fault(alloc: Global, text: &[u8]) -> (u32, u32) {
-    if text.len() > 400_000_000 {
+    if text.len() > MOST_BYTES {
         return (0, 98);
     }
     match read_offsets(alloc, text) {

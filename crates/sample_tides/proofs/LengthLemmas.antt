@@ -9,6 +9,7 @@ use Rattle.decimal_text.specs.Writing.{last_digits, minus_of, fraction_of, write
 use Rattle.sample_tides.specs.Generator.{next, scaled_to}
 use Rattle.sample_tides.specs.Parts.{Draft, Part, append, line, moved, draw, ◌>>=◌, ◌>>◌, each}
 use Rattle.sample_tides.specs.File.{name_of, slowest_of, constituent, hundredths, value, values, table, meridian, level, datum, constants, station, heading, file}
+use Rattle.decimal_text.specs.declared.limits.TheConstants.{MOST_BYTES}
 
 -- a part appends at most so many bytes
 pub record Grows (most : ℕ) (part : Part) : Type 0 where
@@ -203,7 +204,7 @@ heading_grows seed small =
     (both 21 63 _ _ (short (codes "S2 30.0000000") (omega arith)) (both 21 42 _ _ (short (codes "N2 28.4397295") (omega arith))
     (both 21 21 _ _ (short (codes "K1 15.0410686") (omega arith)) (short (codes "O1 13.9430356") (omega arith)))))))
 
-file_grows : (seed : ℕ) → seed < 2 ^ 64 → Grows 400000000 (file seed)
+file_grows : (seed : ℕ) → seed < 2 ^ 64 → Grows MOST_BYTES (file seed)
 unfolding file
 file_grows seed small =
     let short : (text : List ℕ) → length text ≤ 20 → Grows 21 (line text) = λ text few. lined 20 text few in
@@ -216,5 +217,5 @@ file_grows seed small =
     (both 34121 399929863 _ _ (table_grows _ (value_grows 8000 4001 4 (lit< tt) (lit< tt) (omega arith)))
     (wider 628800 399929863 _ (omega arith) (repeated 1 200 3144 station station_grows))))))))
 
-pub file_short : (seed : ℕ) → seed < 2 ^ 64 → length (file seed (record { text = []; state = seed })).text ≤ 400000000
+pub file_short : (seed : ℕ) → seed < 2 ^ 64 → length (file seed (record { text = []; state = seed })).text ≤ MOST_BYTES
 file_short seed small = (file_grows seed small).fits (record { text = []; state = seed })

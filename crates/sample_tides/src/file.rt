@@ -3,6 +3,7 @@
 ghost use Rattle.std.specs.Prelude.{◌≡◌, ◌≤◌, ◌++◌, codes, decimal, length, IfOk, OnOk};
 ghost use Rattle.sample_tides.specs.File.{heading, file, sample_of};
 ghost use Rattle.sample_tides.specs.Parts.{line};
+ghost use Rattle.decimal_text.specs.declared.limits.TheConstants.{MOST_BYTES};
 
 use crate::constituents::{CONSTITUENTS, append_constituent};
 use crate::draft::Draft;
@@ -34,7 +35,7 @@ const FACTOR: Quantity = Quantity {
 #[tactic(auto, unfolding(crate::specs::File::sample_of))]
 pub fn sample(alloc: Global, seed: u64) -> Result<Bytes, AllocError>
     ensures exact { IfOk result (λ bytes. bytes ≡ sample_of seed) }
-    ensures short { IfOk result (λ bytes. length bytes ≤ 400000000) }
+    ensures short { IfOk result (λ bytes. length bytes ≤ MOST_BYTES) }
 {
     let mut draft = Draft::new(alloc, seed);
     append_file(&mut draft, seed)?;

@@ -7,6 +7,7 @@ ghost use Rattle.station_table.specs.Offsets.{IsOffsets, IsTable};
 ghost use Rattle.station_table.specs.Reasons.{wants_memory};
 ghost use Rattle.station_table.specs.Table.{at_row, offsets_of, table_of};
 ghost use Rattle.station_table.specs.Workings.Records.{HasGiven};
+ghost use Rattle.decimal_text.specs.declared.limits.TheConstants.{MOST_BYTES};
 
 use crate::fault::OffsetFault;
 use crate::header::{Header, NO_HEADER, header_of};
@@ -28,7 +29,7 @@ use std::alloc::Global;
 /// The bytes, at most 400,000,000, are gone over once. `At` names the first row that breaks a rule,
 /// with the first reason; only want of memory may come in its place.
 pub fn read_offsets(alloc: Global, bytes: &[u8]) -> Result<OffsetTable, OffsetFault>
-    requires { length bytes.now ≤ 400000000 }
+    requires { length bytes.now ≤ MOST_BYTES }
     ensures exact { Gives wants_memory (table_of bytes.now) result }
     ensures sound { IfOk result IsTable }
 {

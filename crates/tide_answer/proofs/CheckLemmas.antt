@@ -48,6 +48,7 @@ use Rattle.station_cells.proofs.RejectionLemmas.{all_accepted, rejection_alike, 
 use Rattle.tide_answer.proofs.CertificateLemmas.{looked_few}
 use Rattle.station_span.proofs.FollowLemmas.{found_alike, found_events, ready_known, ready_movable}
 use Rattle.station_span.proofs.FoundLemmas.{excused_then}
+use Rattle.decimal_text.specs.declared.limits.TheConstants.{MOST_BYTES}
 
 -- ---- a text has a line for each cell
 
@@ -69,7 +70,7 @@ there_long track None most few x e = absurd cc
 fewer : (o : Option (List Cell)) (most : ℕ) → most < 2 ^ 32 → ForSome o (λ cells. length cells ≤ most) → ForSome o (λ cells. length cells < 2 ^ 32)
 fewer o most small each x e = let one = each x e in omega arith
 
-pub few_read : (c : Certificate) (bytes : List ℕ) → certificate_text c ≡ bytes → length bytes ≤ 400000000 → HasFewCells c.tracks
+pub few_read : (c : Certificate) (bytes : List ℕ) → certificate_text c ≡ bytes → length bytes ≤ MOST_BYTES → HasFewCells c.tracks
 unfolding certificate_text
 few_read c bytes text few =
     let is : joined (lines_of c) ≡ bytes = text in
@@ -84,8 +85,8 @@ few_read c bytes text few =
     let cells : length (map cell_line_of c.tracks.turn) ≡ length c.tracks.turn = length-map c.tracks.turn cell_line_of in
     record {
       turn = omega arith;
-      slack = fewer c.tracks.slack 400000000 (omega arith) (there_long Slack c.tracks.slack 400000000 (omega arith));
-      mark = fewer c.tracks.mark 400000000 (omega arith) (there_long Mark c.tracks.mark 400000000 (omega arith));
+      slack = fewer c.tracks.slack MOST_BYTES (omega arith) (there_long Slack c.tracks.slack MOST_BYTES (omega arith));
+      mark = fewer c.tracks.mark MOST_BYTES (omega arith) (there_long Mark c.tracks.mark MOST_BYTES (omega arith));
     }
 
 -- ---- nothing is wrong

@@ -2,10 +2,11 @@
 use Rattle.std.specs.Prelude.{◌≤◌, negsuc, pos, ◌≤ℤ◌, length}
 use Rattle.tide_answer.specs.declared.given.Given.{Given}
 use Rattle.zone_time.specs.Zones.{IsZone}
+use Rattle.decimal_text.specs.declared.limits.TheConstants.{MOST_BYTES}
 
 -- a zone that shows each minute, a text that can be a certificate's, and a minute that a clock can show
 pub record IsGiven (given : Given) : Type 0 where
   pub zone : IsZone given.zone
-  pub certificate : length given.certificate ≤ 400000000
+  pub certificate : length given.certificate ≤ MOST_BYTES
   pub earliest : negsuc 9999999999 ≤ℤ given.now
   pub latest : given.now ≤ℤ pos 10000000000

@@ -14,6 +14,7 @@ ghost use Rattle.tide_answer.specs.Workings.Certifying.{accepted, rejected, judg
 ghost use Rattle.station_span.specs.Workings.Curves.{tide_events, IsReady};
 ghost use Rattle.station_span.specs.Workings.Spans.{IsNear};
 ghost use Rattle.zone_time.specs.Zones.{IsZone};
+ghost use Rattle.decimal_text.specs.declared.limits.TheConstants.{MOST_BYTES};
 
 use crate::judging::find_rejection;
 use crate::text::Answer;
@@ -44,7 +45,7 @@ pub fn check(
     requires book { IsBook book.now }
     requires table { IsTable table.now }
     requires zone { IsZone zone.now }
-    requires few { length bytes.now ≤ 400000000 }
+    requires few { length bytes.now ≤ MOST_BYTES }
     ensures exact { Gives wants_memory_of_refusal (checked book.now table.now bytes.now zone.now) result }
     ensures told { IfErr result (IsToldRefusal table.now) }
 {

@@ -18,10 +18,7 @@ use station_span::{Asked, Reach, check_level, find_events, find_station, is_risi
 use station_table::OffsetTable;
 use std::alloc::Global;
 use tide_fault::Refusal;
-use zone_time::Zone;
-
-/// The minutes of a day.
-const DAY: i64 = 1440;
+use zone_time::{MINUTES_OF_DAY, Zone};
 
 /// What a station's clock shows at a minute: the level, whether it rises, and the events of the day
 /// from there on, or the first refusal. The minute is from -10,000,000,000 to 10,000,000,000.
@@ -74,7 +71,7 @@ fn day_from(now: i64) -> Asked
 {
     Asked {
         begin: now,
-        end: now + DAY,
+        end: now + MINUTES_OF_DAY,
         mark: None,
     }
 }

@@ -8,6 +8,7 @@ ghost use Rattle.station_table.specs.Offsets.{IsTable};
 ghost use Rattle.tide_fault.specs.Faults.{wants_memory_of_refusal, IsToldRefusal};
 ghost use Rattle.tide_answer.specs.Trials.{book_from, nothing, station_count, station_tally, tally_on, trial_of, trial_span};
 ghost use Rattle.tide_answer.specs.Workings.Tallies.{IsUpTo};
+ghost use Rattle.decimal_text.specs.declared.limits.TheConstants.{MOST_BYTES};
 
 use crate::certify::certificate_of;
 use crate::judging::find_rejection;
@@ -45,7 +46,7 @@ pub fn try_sample(alloc: Global, seed: u64) -> Result<Bytes, Refusal>
 }
 
 fn book_in(alloc: Global, text: &[u8]) -> Result<Book, Refusal>
-    requires { length text.now ≤ 400000000 }
+    requires { length text.now ≤ MOST_BYTES }
     ensures exact { Gives wants_memory_of_refusal (book_from (book_of text.now)) result }
     ensures sound { IfOk result IsBook }
     ensures told { IfErr result (IsToldRefusal []) }

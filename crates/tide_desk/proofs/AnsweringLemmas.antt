@@ -9,7 +9,7 @@ use Rattle.question.specs.declared.question.Question.{Question}
 use Rattle.tide_answer.specs.declared.text.Answer.{Answer}
 use Rattle.tide_answer.specs.Answers.{answered_alone}
 use Rattle.tide_edge.specs.Clocks.{ClockState, clock_after}
-use Rattle.tide_edge.specs.Excuses.{Meets}
+use Rattle.decimal_text.specs.Expected.{Meets}
 use Rattle.tide_edge.specs.Faults.{Rose, counted}
 use Rattle.tide_edge.specs.FileStates.{FilesState}
 use Rattle.tide_edge.specs.Whole.{Allowance, ReadWithin, no_file}

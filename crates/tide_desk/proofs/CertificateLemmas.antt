@@ -24,6 +24,7 @@ use Rattle.tide_edge.specs.FileStates.{Folder}
 use Rattle.named_files.specs.Readings.{book_named, table_named, zone_named, certificate_named}
 use Rattle.tide_desk.proofs.AskedLemmas.{NamesSpan, asked_in_range, askable, goes_over_span, predict_names_none, went_over_span}
 use Rattle.tide_desk.proofs.FileLemmas.{ReadsFiles, WasRead, certificate_held, certificate_there, is_answered, named_book, named_table, was_answered, words_answer}
+use Rattle.decimal_text.specs.declared.limits.TheConstants.{MOST_BYTES}
 
 -- ---- what the commands are
 
@@ -150,7 +151,7 @@ has_book before after certify check certificate was same =
     record { name = there.0; named = there.1; is = here.2 ∙ ap (book_named before) name ∙ was.files.book }
 
 -- the files of the check, and the certificate among them
-checked_files : (before after : Folder) (certify check : Question) (certificate : Answer) (zone : Zone) (was : IsCertified before certify certificate) (has : HasBook after check was.read.book) → length certificate.text ≤ 400000000 → HoldsCertificate before after certify check certificate.text → zone_named after check.zone ≡ Ok zone → WasRead after check has.name (record { book = was.read.book; table = was.read.table; zone = zone; certificate = certificate.text })
+checked_files : (before after : Folder) (certify check : Question) (certificate : Answer) (zone : Zone) (was : IsCertified before certify certificate) (has : HasBook after check was.read.book) → length certificate.text ≤ MOST_BYTES → HoldsCertificate before after certify check certificate.text → zone_named after check.zone ≡ Ok zone → WasRead after check has.name (record { book = was.read.book; table = was.read.table; zone = zone; certificate = certificate.text })
 checked_files before after certify check certificate zone was has few holds shown = record {
   book = has.is;
   table = holds.offsets ∙ was.files.table;

@@ -26,6 +26,7 @@ use Rattle.tide_desk.specs.Laws.{Holds}
 use Rattle.named_files.specs.Readings.{limit_of, bytes_from, bytes_of, book_from, book_named, table_from, table_named, zone_named, certificate_named, files_in}
 use Rattle.tide_edge.specs.FileStates.{Folder}
 use Rattle.tide_desk.proofs.TableLemmas.{table_sound}
+use Rattle.decimal_text.specs.declared.limits.TheConstants.{MOST_BYTES}
 
 -- ---- the bytes under a name
 
@@ -71,7 +72,7 @@ named_table folder (Some name) table ok =
 
 -- ---- the certificate
 
-pub certificate_there : (folder : Folder) (named : Option (List ℕ)) (text : List ℕ) → Holds folder named text → length text ≤ 400000000 → certificate_named folder named ≡ Ok text
+pub certificate_there : (folder : Folder) (named : Option (List ℕ)) (text : List ℕ) → Holds folder named text → length text ≤ MOST_BYTES → certificate_named folder named ≡ Ok text
 unfolding certificate_named
 certificate_there folder None text held few = absurd held
 certificate_there folder (Some name) text held few = bytes_whole slots.Certificate (folder name) text held few

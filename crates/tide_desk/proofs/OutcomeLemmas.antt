@@ -11,7 +11,7 @@ use Rattle.tide_fault.specs.declared.status.Status.{Status}
 use Rattle.tide_fault.specs.declared.status.Status.TheVariants.{Done, Rejected, ReadFault, NoMemory}
 use Rattle.tide_answer.specs.declared.text.Answer.{Answer}
 use Rattle.tide_fault.specs.Faults.{wants_memory as fault_wants_memory, wants_memory_of_refusal, status_of_refusal, line_of as line_of_fault, ask_line, form_line, table_line, refusal_line as line_of_refusal}
-use Rattle.tide_edge.specs.Excuses.{Excuses, memory, given}
+use Rattle.decimal_text.specs.Expected.{Excuses, memory, given}
 use Rattle.tide_edge.specs.SinkStates.{Wrote, put}
 use Rattle.named_files.specs.declared.no_answer.NoAnswer.{NoAnswer}
 use Rattle.named_files.specs.declared.no_answer.NoAnswer.TheVariants.{Unread, Told}

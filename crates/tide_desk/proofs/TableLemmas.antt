@@ -29,6 +29,7 @@ use Rattle.station_table.specs.Table.{field_of, both_or_none, slack_of, counted,
 use Rattle.station_table.proofs.RecordLemmas.{shorter}
 use Rattle.station_table.proofs.TableLemmas.{row_went_well, rows_count}
 use Rattle.station_span.proofs.SiteLemmas.{then_ok}
+use Rattle.decimal_text.specs.declared.limits.TheConstants.{MOST_BYTES}
 
 -- ---- a test went well
 
@@ -204,7 +205,7 @@ unfolding records_from
 records_few cfg zero s xs = omega arith
 records_few cfg (suc n) s xs = next_few (records_from cfg n) n (next_record cfg s [] [] xs) (records_few cfg n)
 
-pub table_sound : (bytes : List ℕ) (table : List Offsets) → length bytes ≤ 400000000 → table_of bytes ≡ Ok table → IsTable table
+pub table_sound : (bytes : List ℕ) (table : List Offsets) → length bytes ≤ MOST_BYTES → table_of bytes ≡ Ok table → IsTable table
 unfolding table_of
 table_sound bytes table few ok =
     let text = strip_bom bytes in

@@ -10,7 +10,7 @@ ghost use Rattle.tide_answer.specs.Answers.{answered, answered_alone};
 ghost use Rattle.tide_desk.specs.Answers.{AsksClock, HasFiles, NamesFile, allowed_by, answer_from, answer_of, answered_over, asked_of, asks_clock, given_with, minute_for, refused_from};
 ghost use Rattle.tide_desk.specs.Outcomes.{IsFirm, WentOn, sources};
 ghost use Rattle.tide_edge.specs.Clocks.{IsClockMinute, clock_after, next_minute};
-ghost use Rattle.tide_edge.specs.Excuses.{Meets};
+ghost use Rattle.decimal_text.specs.Expected.{Meets};
 
 use crate::asking::read_words;
 use crate::reply::Reply;

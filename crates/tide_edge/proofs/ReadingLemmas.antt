@@ -3,7 +3,7 @@ use Rattle.std.proofs.Common.{◌≡◌, ℕ, ◌+◌, ◌-◌, ◌^◌, ◌≤�
 use Rattle.std.specs.Prelude.{◌==◌}
 use Rattle.tide_edge.specs.declared.failed.Failed.{Failed}
 use Rattle.tide_edge.specs.declared.read_all_fault.ReadAllFault.{ReadAllFault}
-use Rattle.tide_edge.specs.Excuses.{Meets}
+use Rattle.decimal_text.specs.Expected.{Meets}
 use Rattle.tide_edge.specs.Faults.{counted, faults_after}
 use Rattle.tide_edge.specs.FileStates.{FilesState, files_after_open}
 use Rattle.tide_edge.specs.Whole.{Allowance, ReadWithin, both, one_file, source_of, whole}

@@ -1,5 +1,4 @@
 pub mod Faults
-pub mod Excuses
 pub mod Calls
 pub mod Clocks
 pub mod Doors

@@ -1,6 +1,6 @@
 -- What reading a file to its end is to give, and what it takes of the files (this project).
 use Rattle.std.specs.Prelude.{◌≡◌, ◌≤◌, ◌+◌, ℕ, Bool, nat_le, if◌then◌else◌, List, length, Option, Some, None, Result, Ok, Err}
-use Rattle.tide_edge.specs.Excuses.{Source, memory, outside, given}
+use Rattle.decimal_text.specs.Expected.{Source, memory, outside, given}
 use Rattle.tide_edge.specs.Faults.{faults_after}
 use Rattle.tide_edge.specs.FileStates.{FilesState}
 use Rattle.tide_edge.specs.declared.read_all_fault.ReadAllFault.{ReadAllFault}

@@ -1,7 +1,7 @@
 //! Reading a whole file.
 
 ghost use Rattle.std.specs.Prelude.{◌≡◌, ◌≤◌, IsTrue, length, Some, IfOk};
-ghost use Rattle.tide_edge.specs.Excuses.{Meets, is_outside_fault};
+ghost use Rattle.decimal_text.specs.Expected.{Meets, is_outside_fault};
 ghost use Rattle.tide_edge.specs.Whole.{ReadWithin, one_file, source_of, whole};
 ghost use Rattle.tide_edge.specs.Workings.Reading.{IsReadOn};
 

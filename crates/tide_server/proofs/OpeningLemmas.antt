@@ -10,7 +10,7 @@ use Rattle.tide_fault.specs.declared.refusal.Refusal.TheVariants as refusals
 use Rattle.tide_fault.specs.declared.slot.Slot.TheVariants as slots
 use Rattle.tide_fault.specs.declared.status.Status.{Status}
 use Rattle.tide_fault.specs.declared.status.Status.TheVariants.{NoMemory}
-use Rattle.tide_edge.specs.Excuses.{Excuses, Meets}
+use Rattle.decimal_text.specs.Expected.{Excuses, Meets}
 use Rattle.tide_edge.specs.Faults.{faults_after}
 use Rattle.tide_edge.specs.FileStates.{FilesState}
 use Rattle.tide_edge.specs.SinkStates.{SinkState, Wrote, WroteBoth, put}

@@ -17,7 +17,7 @@ use Rattle.tide_fault.specs.declared.status.Status.{Status}
 use Rattle.tide_fault.specs.declared.status.Status.TheVariants.{Done, ReadFault, NoMemory}
 use Rattle.tide_edge.specs.Clocks.{ClockState}
 use Rattle.tide_edge.specs.Doors.{Doorway, DoorState}
-use Rattle.tide_edge.specs.Excuses.{Excuses}
+use Rattle.decimal_text.specs.Expected.{Excuses}
 use Rattle.tide_edge.specs.Faults.{faults_after}
 use Rattle.tide_edge.specs.FileStates.{FilesState, Folder}
 use Rattle.tide_edge.specs.SinkStates.{SinkState, WroteBoth}

@@ -17,6 +17,3 @@ pub const MOST_BODY: usize = 4_194_304;
 
 /// How many bytes the longest request has.
 pub const LONGEST: usize = MOST_HEAD + MOST_BODY;
-
-/// How many bytes are read at a time.
-pub const PIECE: usize = 65_536;

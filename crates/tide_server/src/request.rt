@@ -1,9 +1,9 @@
 //! The request of the open connection.
 
-use crate::limits::{LONGEST, PIECE};
+use crate::limits::LONGEST;
 use std::alloc::{AllocError, Global};
 use std::marker::Model;
-use tide_edge::{Door, Failed};
+use tide_edge::{Door, Failed, PIECE};
 
 /// The bytes of a request that came so far, in memory that was taken for the longest one.
 #[derive(Debug, Drop)]
@@ -14,7 +14,8 @@ pub(crate) struct Request {
 
 impl Model for Request {
     ghost use Rattle.std.specs.Prelude.{◌≡◌, ◌+◌, ◌≤◌, ℕ, List, vec_len, vec_capacity};
-    ghost use Rattle.tide_server.specs.declared.limits.TheConstants.{LONGEST, PIECE};
+    ghost use Rattle.tide_edge.specs.declared.piece.TheConstants.{PIECE};
+    ghost use Rattle.tide_server.specs.declared.limits.TheConstants.{LONGEST};
 
     ghost Value = { List ℕ };
 

@@ -5,7 +5,7 @@ ghost use Rattle.decimal_text.specs.Expected.{Gives};
 ghost use Rattle.question.specs.Questions.{wants_memory as ask_wants_memory};
 ghost use Rattle.question.specs.Words.{pairs_of};
 ghost use Rattle.tide_fault.specs.Faults.{wants_memory, IsTold as IsToldFault};
-ghost use Rattle.tide_edge.specs.Excuses.{Meets};
+ghost use Rattle.decimal_text.specs.Expected.{Meets};
 ghost use Rattle.tide_edge.specs.Whole.{ReadWithin, both, one_file};
 ghost use Rattle.named_files.specs.NoAnswers.{IsTold, reading_failed, source_of};
 ghost use Rattle.named_files.specs.Readings.{Folders, allowed_for, limit_of};

@@ -5,7 +5,7 @@ ghost use Rattle.harmonics_text.specs.Books.{IsBook};
 ghost use Rattle.tide_answer.specs.Givens.{IsGiven};
 
 use super::asked;
-use decimal_text::Bytes;
+use decimal_text::{Bytes, MOST_BYTES};
 use harmonics_text::{Book, BookFault, read_book};
 use question::Command;
 use station_table::OffsetTable;
@@ -52,7 +52,7 @@ fn harbour(alloc: Global) -> Result<Book, BookFault>
 fn given(alloc: Global, certificate: &[u8]) -> Result<Given, AllocError>
     ensures { IfOk result IsGiven }
 {
-    if certificate.len() > 400_000_000 {
+    if certificate.len() > MOST_BYTES {
         return Err(AllocError);
     }
     Ok(Given {

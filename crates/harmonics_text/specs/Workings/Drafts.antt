@@ -92,9 +92,9 @@ abbrev pub Fails : {Y : Type 0} → LineFault → Result Y Why → Type 0
 Fails NoMemory rule = Unit {0}
 Fails (Bad why) rule = rule ≡ Err why
 
-abbrev pub Gives : {X Y : Type 0} → (X → Y) → Result X LineFault → Result Y Why → Type 0
-Gives view (Ok x) rule = rule ≡ Ok (view x)
-Gives view (Err e) rule = Fails e rule
+abbrev pub Follows : {X Y : Type 0} → (X → Y) → Result X LineFault → Result Y Why → Type 0
+Follows view (Ok x) rule = rule ≡ Ok (view x)
+Follows view (Err e) rule = Fails e rule
 
 -- a line's fault as a file's
 abbrev pub placed : ℕ → LineFault → BookFault

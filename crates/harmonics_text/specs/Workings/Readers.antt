@@ -16,6 +16,7 @@ use Rattle.harmonics_text.specs.Lines.{is_lf, is_comment, is_too_long, is_filled
 use Rattle.harmonics_text.specs.Reading.{At}
 use Rattle.harmonics_text.specs.Pieces.{ended_lines, pending_line}
 use Rattle.harmonics_text.specs.Workings.Drafts.{IsDraft, after_line, book_in}
+use Rattle.decimal_text.specs.declared.limits.TheConstants.{MOST_BYTES}
 
 abbrev pub has_lf : List ℕ → Bool
 has_lf bytes = list_any is_lf bytes
@@ -78,7 +79,7 @@ Reads progress bytes = GivesAt progress (with_bytes drafts.Count 1 bytes)
 
 pub record IsReader (progress : Result Progress BookFault) (bytes : List ℕ) : Type 0 where
   pub reads : Reads progress bytes
-  pub few : length bytes ≤ 400000000
+  pub few : length bytes ≤ MOST_BYTES
 
 -- what is kept after a piece more; a fault stays
 abbrev pub ReadsOn : Result Progress BookFault → List ℕ → Result Progress BookFault → Type 0

@@ -4,9 +4,10 @@ use Rattle.harmonics_text.specs.Books.{IsBook}
 use Rattle.station_table.specs.Offsets.{IsTable}
 use Rattle.zone_time.specs.Zones.{IsZone}
 use Rattle.named_files.specs.declared.materials.Materials.{Materials}
+use Rattle.decimal_text.specs.declared.limits.TheConstants.{MOST_BYTES}
 
 pub record AreMaterials (read : Materials) : Type 0 where
   pub book : IsBook read.book
   pub table : IsTable read.table
   pub zone : IsZone read.zone
-  pub certificate : length read.certificate ≤ 400000000
+  pub certificate : length read.certificate ≤ MOST_BYTES

@@ -2,7 +2,7 @@ use Rattle.book_loading.proofs.LoadingLemmas.{unopened, some_reading, loaded_ope
 use Rattle.book_loading.specs.Loading.{source_of}
 use Rattle.tide_edge.proofs.ReadingLemmas.{read_on_within, unopened_within}
 use Rattle.tide_edge.specs.declared.read_all_fault.ReadAllFault.TheVariants as reading
-use Rattle.tide_edge.specs.Excuses.{is_outside_fault}
+use Rattle.decimal_text.specs.Expected.{is_outside_fault}
 use Rattle.book_loading.proofs.loading.load_book.Goals as goal
 
 pub returns-in-Ok-clause-own : goal.returns-in-Ok-clause-own

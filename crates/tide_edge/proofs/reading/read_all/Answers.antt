@@ -1,5 +1,5 @@
 use Rattle.std.proofs.Common.{refl}
-use Rattle.tide_edge.specs.Excuses.{is_outside_fault}
+use Rattle.decimal_text.specs.Expected.{is_outside_fault}
 use Rattle.tide_edge.specs.Whole.{source_of}
 use Rattle.tide_edge.proofs.ReadingLemmas.{read_on_whole, read_on_within, unopened_within}
 use Rattle.tide_edge.proofs.reading.read_all.Goals as goal
