@@ -1,0 +1,13 @@
+//! The highest water of a span.
+
+use crate::peak_cells::PeakCells;
+
+/// The highest water of a span, with the cells that show it.
+#[derive(Debug, Drop)]
+pub struct Peak {
+    /// The first minute that has the greatest value, counted from 1970-01-01T00:00Z.
+    pub at: i64,
+    /// The greatest value.
+    pub value: i128,
+    pub cells: PeakCells,
+}

@@ -1,0 +1,37 @@
+//! A list of cells.
+
+ghost use Rattle.std.specs.Prelude.{◌≡◌};
+
+use crate::peak_cell::PeakCell;
+use std::marker::Model;
+
+/// Cells that lie one after the other. Contracts see it as the list of them.
+#[derive(Clone, Debug, Drop)]
+pub struct PeakCells {
+    items: Vec<PeakCell>,
+}
+
+impl Model for PeakCells {
+    ghost use Rattle.std.specs.Prelude.{List};
+    ghost use Rattle.highest_water.specs.declared.peak_cell.PeakCell.{PeakCell};
+
+    ghost Value = { List PeakCell };
+
+    ghost view = { λ l. l.items.items };
+}
+
+impl PeakCells {
+    /// The list of a vector's cells. It takes no memory.
+    pub fn from_vec(items: Vec<PeakCell>) -> PeakCells
+        ensures { result ≡ items.items }
+    {
+        PeakCells { items }
+    }
+
+    /// The cells, lent.
+    pub fn as_slice(&self) -> &[PeakCell]
+        ensures { result.now ≡ self.now }
+    {
+        self.items.as_slice()
+    }
+}
