@@ -2,7 +2,6 @@
 
 ghost use Rattle.std.specs.Prelude.{[], Some, IfErr};
 ghost use Rattle.decimal_text.specs.Expected.{Gives};
-ghost use Rattle.question.specs.Asked.{IsAsked};
 ghost use Rattle.question.specs.declared.command.Command.{Command};
 ghost use Rattle.tide_answer.specs.Answers.{answered_alone, text_from};
 ghost use Rattle.tide_fault.specs.Faults.{wants_memory_of_refusal, IsToldRefusal};
@@ -10,7 +9,7 @@ ghost use Rattle.tide_fault.specs.Faults.{wants_memory_of_refusal, IsToldRefusal
 use crate::sample::give_sample;
 use crate::text::Answer;
 use crate::trial::try_sample;
-use question::{Command, Question};
+use question::{Command, SoundQuestion};
 use std::alloc::Global;
 use tide_fault::Refusal;
 
@@ -20,11 +19,11 @@ use tide_fault::Refusal;
 /// Each [`Refusal`] exactly where `specs/Answers.antt` has it; [`Refusal::NoMemory`] says nothing
 /// of the question.
 #[tactic(auto, unfolding(crate::specs::Answers::answered_alone))]
-pub fn answer_alone(alloc: Global, question: &Question) -> Result<Answer, Refusal>
-    requires { IsAsked question.now }
+pub fn answer_alone(alloc: Global, question: &SoundQuestion<'_>) -> Result<Answer, Refusal>
     ensures exact { Gives wants_memory_of_refusal (answered_alone question.now) result }
     ensures told { IfErr result (IsToldRefusal []) }
 {
+    let question = question.get();
     match (question.command, question.seed) {
         (Command::Sample, Some(seed)) => Ok(give_sample(alloc, seed)?),
         (Command::Trial, Some(seed)) => give_trial(alloc, seed),

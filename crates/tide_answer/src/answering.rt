@@ -5,11 +5,9 @@ ghost use Rattle.decimal_text.specs.Expected.{Gives};
 ghost use Rattle.harmonics_text.specs.Books.{IsBook};
 ghost use Rattle.listing.specs.StationLists.{stations_text_of};
 ghost use Rattle.question.specs.Asked.{IsAsked};
-ghost use Rattle.station_table.specs.Offsets.{IsTable};
 ghost use Rattle.tide_answer.specs.Answers.{answered, text_by, text_alone, predicted, certified, heights, on_calendar, on_clock, asks_name, asks_span};
 ghost use Rattle.tide_fault.specs.Faults.{wants_memory_of_refusal, IsToldRefusal};
 ghost use Rattle.tide_answer.specs.Givens.{IsGiven};
-ghost use Rattle.zone_time.specs.Zones.{IsZone};
 
 use crate::alone::answer_alone;
 use crate::asking::{span_named, station_named};
@@ -22,13 +20,13 @@ use crate::given::Given;
 use crate::heights::list_heights;
 use crate::predict::predict;
 use crate::text::Answer;
-use harmonics_text::Book;
+use harmonics_text::{Book, SoundBook};
 use listing::stations_text;
-use question::{Command, Question};
+use question::{Command, Question, SoundQuestion};
 use station_table::OffsetTable;
 use std::alloc::Global;
 use tide_fault::Refusal;
-use zone_time::Zone;
+use zone_time::ZoneClock;
 
 /// The answer to a question over a book and a table, or the first refusal in their order: what isn't
 /// built, a certificate's form, the station, its unit, the span, the limits, the mark, a level, the
@@ -46,39 +44,37 @@ pub fn answer(
     given: &Given,
 ) -> Result<Answer, Refusal>
     requires book { IsBook book.now }
-    requires table { IsTable table.now }
     requires asked { IsAsked question.now }
     requires given { IsGiven given.now }
     ensures exact { Gives wants_memory_of_refusal (answered book.now table.now question.now given.entry.now) result }
     ensures told { IfErr result (IsToldRefusal table.now) }
 {
     check_built(question)?;
-    answer_command(alloc, book, table, question, given)
+    let book = SoundBook::new(book);
+    let question = SoundQuestion::new(question);
+    answer_command(alloc, &book, table, &question, given)
 }
 
 fn answer_command(
     alloc: Global,
-    book: &Book,
+    book: &SoundBook<'_>,
     table: &OffsetTable,
-    question: &Question,
+    question: &SoundQuestion<'_>,
     given: &Given,
 ) -> Result<Answer, Refusal>
-    requires book { IsBook book.now }
-    requires table { IsTable table.now }
-    requires asked { IsAsked question.now }
     requires given { IsGiven given.now }
     ensures exact { Gives wants_memory_of_refusal (text_by question.now.command book.now table.now question.now given.entry.now) result }
     ensures told { IfErr result (IsToldRefusal table.now) }
 {
-    let zone = &given.zone;
-    match question.command {
+    let zone = &given.zone.clock();
+    match question.get().command {
         Command::Predict => answer_predict(alloc, book, table, question, zone),
         Command::Certify => answer_certify(alloc, book, table, question),
         Command::Check => check(alloc, book, table, &given.certificate, zone),
         Command::Heights => answer_heights(alloc, book, table, question, zone),
         Command::Calendar => answer_calendar(alloc, book, table, question, zone),
         Command::Clock => answer_clock(alloc, book, table, question, given),
-        Command::Stations => answer_stations(alloc, book, table),
+        Command::Stations => answer_stations(alloc, book.get(), table),
         Command::Sample | Command::Trial => answer_alone(alloc, question),
         _ => Err(Refusal::NotBuilt),
     }
@@ -86,32 +82,26 @@ fn answer_command(
 
 fn answer_predict(
     alloc: Global,
-    book: &Book,
+    book: &SoundBook<'_>,
     table: &OffsetTable,
-    question: &Question,
-    zone: &Zone,
+    question: &SoundQuestion<'_>,
+    zone: &ZoneClock<'_>,
 ) -> Result<Answer, Refusal>
-    requires book { IsBook book.now }
-    requires table { IsTable table.now }
-    requires asked { IsAsked question.now }
-    requires zone { IsZone zone.now }
     ensures exact { Gives wants_memory_of_refusal (asks_span question.now (λ name asked. predicted book.now table.now name asked question.now.layout zone.now)) result }
     ensures told { IfErr result (IsToldRefusal table.now) }
 {
     let name = station_named(question)?;
     let asked = span_named(question)?;
-    predict(alloc, book, table, name, &asked, question.layout, zone)
+    let layout = question.get().layout;
+    predict(alloc, book, table, name, &asked, layout, zone)
 }
 
 fn answer_certify(
     alloc: Global,
-    book: &Book,
+    book: &SoundBook<'_>,
     table: &OffsetTable,
-    question: &Question,
+    question: &SoundQuestion<'_>,
 ) -> Result<Answer, Refusal>
-    requires book { IsBook book.now }
-    requires table { IsTable table.now }
-    requires asked { IsAsked question.now }
     ensures exact { Gives wants_memory_of_refusal (asks_span question.now (λ name asked. certified book.now table.now name asked)) result }
     ensures told { IfErr result (IsToldRefusal table.now) }
 {
@@ -122,43 +112,27 @@ fn answer_certify(
 
 fn answer_heights(
     alloc: Global,
-    book: &Book,
+    book: &SoundBook<'_>,
     table: &OffsetTable,
-    question: &Question,
-    zone: &Zone,
+    question: &SoundQuestion<'_>,
+    zone: &ZoneClock<'_>,
 ) -> Result<Answer, Refusal>
-    requires book { IsBook book.now }
-    requires table { IsTable table.now }
-    requires asked { IsAsked question.now }
-    requires zone { IsZone zone.now }
     ensures exact { Gives wants_memory_of_refusal (asks_span question.now (λ name asked. heights book.now table.now name asked question.now.step question.now.layout zone.now)) result }
     ensures told { IfErr result (IsToldRefusal table.now) }
 {
     let name = station_named(question)?;
     let asked = span_named(question)?;
-    list_heights(
-        alloc,
-        book,
-        table,
-        name,
-        &asked,
-        question.step,
-        question.layout,
-        zone,
-    )
+    let Question { step, layout, .. } = question.get();
+    list_heights(alloc, book, table, name, &asked, *step, *layout, zone)
 }
 
 fn answer_calendar(
     alloc: Global,
-    book: &Book,
+    book: &SoundBook<'_>,
     table: &OffsetTable,
-    question: &Question,
-    zone: &Zone,
+    question: &SoundQuestion<'_>,
+    zone: &ZoneClock<'_>,
 ) -> Result<Answer, Refusal>
-    requires book { IsBook book.now }
-    requires table { IsTable table.now }
-    requires asked { IsAsked question.now }
-    requires zone { IsZone zone.now }
     ensures exact { Gives wants_memory_of_refusal (asks_span question.now (λ name asked. on_calendar book.now table.now name asked zone.now)) result }
     ensures told { IfErr result (IsToldRefusal table.now) }
 {
@@ -169,19 +143,17 @@ fn answer_calendar(
 
 fn answer_clock(
     alloc: Global,
-    book: &Book,
+    book: &SoundBook<'_>,
     table: &OffsetTable,
-    question: &Question,
+    question: &SoundQuestion<'_>,
     given: &Given,
 ) -> Result<Answer, Refusal>
-    requires book { IsBook book.now }
-    requires table { IsTable table.now }
     requires given { IsGiven given.now }
     ensures exact { Gives wants_memory_of_refusal (asks_name question.now (λ name. on_clock book.now table.now name given.entry.now.now given.entry.now.zone)) result }
     ensures told { IfErr result (IsToldRefusal table.now) }
 {
     let name = station_named(question)?;
-    tell_now(alloc, book, table, name, given.now, &given.zone)
+    tell_now(alloc, book, table, name, given.now, &given.zone.clock())
 }
 
 fn answer_stations(alloc: Global, book: &Book, table: &OffsetTable) -> Result<Answer, Refusal>

@@ -1,24 +1,23 @@
 //! What a question names of a station.
 
 ghost use Rattle.std.specs.Prelude.{◌≡◌, [], Ok, Err, IfErr, IfOk};
-ghost use Rattle.question.specs.Asked.{IsAsked};
 ghost use Rattle.tide_answer.specs.Answers.{named_by};
 ghost use Rattle.tide_answer.specs.Asking.{asked_by, asked_from};
 ghost use Rattle.tide_fault.specs.Faults.{IsToldRefusal};
 ghost use Rattle.station_span.specs.Workings.Spans.{AreMoments, IsNear};
 
 use decimal_text::Text;
-use question::Question;
+use question::SoundQuestion;
 use station_span::Asked;
 use tide_fault::Refusal;
 
 /// The station's name. A question that needs one has it.
-pub fn station_named(question: &Question) -> Result<&Text, Refusal>
+pub fn station_named<'a>(question: &SoundQuestion<'a>) -> Result<&'a Text, Refusal>
     ensures found { IfOk result (λ name. named_by question.now.station ≡ Ok name.now) }
     ensures missing { IfErr result (λ refusal. named_by question.now.station ≡ Err refusal) }
     ensures told { IfErr result (IsToldRefusal []) }
 {
-    match &question.station {
+    match &question.get().station {
         Some(name) => Ok(name),
         None => Err(Refusal::NoStation),
     }
@@ -26,13 +25,13 @@ pub fn station_named(question: &Question) -> Result<&Text, Refusal>
 
 /// The span and the mark. A question that needs them has them.
 #[tactic(auto, unfolding(crate::specs::Asking::asked_by))]
-pub fn span_named(question: &Question) -> Result<Asked, Refusal>
-    requires { IsAsked question.now }
+pub fn span_named(question: &SoundQuestion<'_>) -> Result<Asked, Refusal>
     ensures exact { result ≡ named_by (asked_by question.now) }
     ensures near { IfOk result IsNear }
     ensures moments { IfOk result AreMoments }
     ensures told { IfErr result (IsToldRefusal []) }
 {
+    let question = question.get();
     match (question.begin, question.end) {
         (Some(begin), Some(end)) => Ok(Asked {
             begin,

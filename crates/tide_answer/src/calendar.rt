@@ -2,36 +2,30 @@
 
 ghost use Rattle.std.specs.Prelude.{IfErr};
 ghost use Rattle.decimal_text.specs.Expected.{Gives};
-ghost use Rattle.harmonics_text.specs.Books.{IsBook};
-ghost use Rattle.station_table.specs.Offsets.{IsTable};
 ghost use Rattle.tide_answer.specs.Answers.{on_calendar};
 ghost use Rattle.tide_fault.specs.Faults.{wants_memory_of_refusal, IsToldRefusal};
 ghost use Rattle.station_span.specs.Workings.Spans.{IsNear};
-ghost use Rattle.zone_time.specs.Zones.{IsZone};
 
 use crate::text::Answer;
 use calendar_sheet::calendar_text;
 use decimal_text::Text;
-use harmonics_text::Book;
+use harmonics_text::SoundBook;
 use station_span::{Asked, list_station};
 use station_table::OffsetTable;
 use std::alloc::Global;
 use tide_fault::Refusal;
-use zone_time::Zone;
+use zone_time::ZoneClock;
 
 /// The calendar of a station's events in a span, or the first refusal, as for a prediction.
 pub fn list_days(
     alloc: Global,
-    book: &Book,
+    book: &SoundBook<'_>,
     table: &OffsetTable,
     name: &Text,
     asked: &Asked,
-    zone: &Zone,
+    zone: &ZoneClock<'_>,
 ) -> Result<Answer, Refusal>
-    requires book { IsBook book.now }
-    requires table { IsTable table.now }
     requires near { IsNear asked.now }
-    requires zone { IsZone zone.now }
     ensures exact { Gives wants_memory_of_refusal (on_calendar book.now table.now name.now asked.now zone.now) result }
     ensures told { IfErr result (IsToldRefusal table.now) }
 {
@@ -41,7 +35,7 @@ pub fn list_days(
         name,
         listed.units,
         &listed.events,
-        zone,
+        zone.zone(),
         asked.begin,
         asked.end,
     )?;

@@ -4,8 +4,6 @@ ghost use Rattle.std.specs.Prelude.{◌≡◌, ◌<◌, ◌^◌, IfOk, IfErr};
 ghost use Rattle.cert_text.specs.Certificates.{IsStationName};
 ghost use Rattle.cert_text.specs.Lines.{certificate_text};
 ghost use Rattle.decimal_text.specs.Expected.{Gives};
-ghost use Rattle.harmonics_text.specs.Books.{IsBook};
-ghost use Rattle.station_table.specs.Offsets.{IsTable};
 ghost use Rattle.tide_answer.specs.Answers.{certified};
 ghost use Rattle.tide_fault.specs.Faults.{wants_memory_of_refusal, IsToldRefusal};
 ghost use Rattle.tide_answer.specs.Workings.Certifying.{certificate_in};
@@ -17,7 +15,7 @@ use crate::tracks::find_tracks;
 use cert_text::{Certificate, write_certificate};
 use curve_law::Tracks;
 use decimal_text::{Bytes, Text};
-use harmonics_text::Book;
+use harmonics_text::SoundBook;
 use station_cells::cell_count;
 use station_span::{Asked, Reach, find_station};
 use station_table::OffsetTable;
@@ -28,13 +26,11 @@ use tide_fault::Refusal;
 /// the station, its unit, the span, the limits, the mark.
 pub fn certify(
     alloc: Global,
-    book: &Book,
+    book: &SoundBook<'_>,
     table: &OffsetTable,
     name: &Text,
     asked: &Asked,
 ) -> Result<Answer, Refusal>
-    requires book { IsBook book.now }
-    requires table { IsTable table.now }
     requires near { IsNear asked.now }
     requires begin { IsMoment asked.now.begin }
     requires end { IsMoment asked.now.end }

@@ -3,9 +3,7 @@
 ghost use Rattle.std.specs.Prelude.{◌≡◌, ◌≤◌, ◌<◌, ◌^◌, ◌++◌, codes, length, None, All, IfOk, IfErr};
 ghost use Rattle.cert_text.specs.Certificates.{IsCertificate};
 ghost use Rattle.decimal_text.specs.Expected.{Gives};
-ghost use Rattle.harmonics_text.specs.Books.{IsBook};
 ghost use Rattle.listing.specs.Listings.{plain_events_of};
-ghost use Rattle.station_table.specs.Offsets.{IsTable};
 ghost use Rattle.tide_answer.specs.Answers.{checked};
 ghost use Rattle.tide_answer.specs.Asking.{asked_in};
 ghost use Rattle.tide_fault.specs.Faults.{wants_memory_of_refusal, IsToldRefusal};
@@ -13,7 +11,6 @@ ghost use Rattle.station_cells.specs.Rejections.{HasFewCells};
 ghost use Rattle.tide_answer.specs.Workings.Certifying.{accepted, rejected, judged_in, tide_rejection};
 ghost use Rattle.station_span.specs.Workings.Curves.{tide_events, IsReady};
 ghost use Rattle.station_span.specs.Workings.Spans.{IsNear};
-ghost use Rattle.zone_time.specs.Zones.{IsZone};
 ghost use Rattle.decimal_text.specs.declared.limits.TheConstants.{MOST_BYTES};
 
 use crate::judging::find_rejection;
@@ -22,14 +19,14 @@ use cert_text::{Certificate, certificates_have_one_text, read_certificate};
 use curve_law::Events;
 use decimal_text::Bytes;
 use event_list::{merged, shifted};
-use harmonics_text::Book;
+use harmonics_text::SoundBook;
 use listing::plain_events;
 use station_cells::{Rejection, rejection_line};
 use station_span::{Asked, Found, Reach, find_station, reached};
 use station_table::OffsetTable;
 use std::alloc::{AllocError, Global};
 use tide_fault::Refusal;
-use zone_time::Zone;
+use zone_time::ZoneClock;
 
 /// Whether a certificate is valid: `Accepted` and the events of its own question in the zone's local
 /// time, or the line of the first thing that is wrong with its tracks. Or the first refusal: the bytes,
@@ -37,14 +34,11 @@ use zone_time::Zone;
 #[tactic(auto, unfolding(crate::specs::Answers::checked))]
 pub fn check(
     alloc: Global,
-    book: &Book,
+    book: &SoundBook<'_>,
     table: &OffsetTable,
     bytes: &Bytes,
-    zone: &Zone,
+    zone: &ZoneClock<'_>,
 ) -> Result<Answer, Refusal>
-    requires book { IsBook book.now }
-    requires table { IsTable table.now }
-    requires zone { IsZone zone.now }
     requires few { length bytes.now ≤ MOST_BYTES }
     ensures exact { Gives wants_memory_of_refusal (checked book.now table.now bytes.now zone.now) result }
     ensures told { IfErr result (IsToldRefusal table.now) }
@@ -56,14 +50,11 @@ pub fn check(
 
 fn judge(
     alloc: Global,
-    book: &Book,
+    book: &SoundBook<'_>,
     table: &OffsetTable,
     cert: &Certificate,
-    zone: &Zone,
+    zone: &ZoneClock<'_>,
 ) -> Result<Answer, Refusal>
-    requires book { IsBook book.now }
-    requires table { IsTable table.now }
-    requires zone { IsZone zone.now }
     requires cert { IsCertificate cert.now }
     requires few { HasFewCells cert.now.tracks }
     ensures exact { Gives wants_memory_of_refusal (judged_in book.now table.now cert.now zone.now) result }
@@ -104,19 +95,18 @@ fn accept(
     found: &Found,
     asked: &Asked,
     cert: &Certificate,
-    zone: &Zone,
+    zone: &ZoneClock<'_>,
 ) -> Result<Answer, AllocError>
     requires ready { IsReady asked.now found.now }
     requires near { IsNear asked.now }
     requires same { asked.now ≡ asked_in cert.now }
     requires cert { IsCertificate cert.now }
-    requires zone { IsZone zone.now }
     requires valid { tide_rejection found.now cert.now ≡ None }
     ensures { IfOk result (λ answer. answer
         ≡ accepted cert.now.station found.now.units (tide_events found.now asked.now) zone.now) }
 {
     let events = events_of(alloc, found, asked, cert)?;
-    let list = plain_events(alloc, &cert.station, found.units, &events, zone)?;
+    let list = plain_events(alloc, &cert.station, found.units, &events, zone.zone())?;
     Ok(Answer {
         text: accepted_text(alloc, &list)?,
         rejected: false,

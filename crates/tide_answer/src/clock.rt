@@ -2,40 +2,34 @@
 
 ghost use Rattle.std.specs.Prelude.{◌≡◌, pos, negsuc, ◌≤ℤ◌, IfErr};
 ghost use Rattle.decimal_text.specs.Expected.{Gives};
-ghost use Rattle.harmonics_text.specs.Books.{IsBook};
-ghost use Rattle.station_table.specs.Offsets.{IsTable};
 ghost use Rattle.tide_answer.specs.Answers.{on_clock};
 ghost use Rattle.tide_answer.specs.Asking.{asked_from};
 ghost use Rattle.tide_fault.specs.Faults.{wants_memory_of_refusal, IsToldRefusal};
 ghost use Rattle.station_span.specs.Workings.Spans.{IsNear};
-ghost use Rattle.zone_time.specs.Zones.{IsZone};
 
 use crate::text::Answer;
 use decimal_text::Text;
-use harmonics_text::Book;
+use harmonics_text::SoundBook;
 use listing::clock_text;
 use station_span::{Asked, Reach, check_level, find_events, find_station, is_rising, level_at};
 use station_table::OffsetTable;
 use std::alloc::Global;
 use tide_fault::Refusal;
-use zone_time::{MINUTES_OF_DAY, Zone};
+use zone_time::{MINUTES_OF_DAY, ZoneClock};
 
 /// What a station's clock shows at a minute: the level, whether it rises, and the events of the day
 /// from there on, or the first refusal. The minute is from -10,000,000,000 to 10,000,000,000.
 #[tactic(auto, unfolding(crate::specs::Answers::on_clock))]
 pub fn tell_now(
     alloc: Global,
-    book: &Book,
+    book: &SoundBook<'_>,
     table: &OffsetTable,
     name: &Text,
     now: i64,
-    zone: &Zone,
+    zone: &ZoneClock<'_>,
 ) -> Result<Answer, Refusal>
-    requires book { IsBook book.now }
-    requires table { IsTable table.now }
     requires earliest { negsuc 9999999999 ≤ℤ now }
     requires latest { now ≤ℤ pos 10000000000 }
-    requires zone { IsZone zone.now }
     ensures exact { Gives wants_memory_of_refusal (on_clock book.now table.now name.now now zone.now) result }
     ensures told { IfErr result (IsToldRefusal table.now) }
 {
@@ -53,7 +47,7 @@ pub fn tell_now(
         level,
         rising,
         &listed.events,
-        zone,
+        zone.zone(),
     )?;
     Ok(Answer {
         text,

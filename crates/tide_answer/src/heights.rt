@@ -2,25 +2,23 @@
 
 ghost use Rattle.std.specs.Prelude.{◌≡◌, ◌≤◌, ◌+ℤ◌, ◌*ℤ◌, ◌-ℤ◌, pos, negsuc, [], All, unsigned_abs, Ok, Err, IfOk, IfErr, OnOk};
 ghost use Rattle.decimal_text.specs.Expected.{Gives};
-ghost use Rattle.harmonics_text.specs.Books.{IsBook};
-ghost use Rattle.station_table.specs.Offsets.{IsTable};
 ghost use Rattle.tide_answer.specs.Answers.{heights, heights_text, row_count, row_limit, rows_in};
 ghost use Rattle.tide_fault.specs.Faults.{wants_memory_of_refusal, IsToldRefusal};
 ghost use Rattle.tide_answer.specs.Workings.Rows.{IsStep, tide_row, tide_rows};
 ghost use Rattle.station_span.specs.Workings.Levels.{HasLevel, HasLevelsIn};
 ghost use Rattle.station_span.specs.Workings.Spans.{IsNear};
-ghost use Rattle.zone_time.specs.Zones.{IsZone, InZoneYears};
+ghost use Rattle.zone_time.specs.Zones.{InZoneYears};
 
 use crate::text::Answer;
 use decimal_text::{Bytes, Text};
-use harmonics_text::{Book, Units};
+use harmonics_text::{SoundBook, Units};
 use listing::{Row, Rows, csv_heights, plain_heights};
 use question::Layout;
 use station_span::{Asked, Found, Reach, check_level, find_station, level_at};
 use station_table::OffsetTable;
 use std::alloc::{AllocError, Global};
 use tide_fault::Refusal;
-use zone_time::Zone;
+use zone_time::ZoneClock;
 
 /// The most rows of a list.
 const ROW_LIMIT: u64 = 100_000;
@@ -30,19 +28,16 @@ const ROW_LIMIT: u64 = 100_000;
 #[tactic(auto, unfolding(crate::specs::Answers::heights))]
 pub fn list_heights(
     alloc: Global,
-    book: &Book,
+    book: &SoundBook<'_>,
     table: &OffsetTable,
     name: &Text,
     asked: &Asked,
     step: i64,
     layout: Layout,
-    zone: &Zone,
+    zone: &ZoneClock<'_>,
 ) -> Result<Answer, Refusal>
-    requires book { IsBook book.now }
-    requires table { IsTable table.now }
     requires near { IsNear asked.now }
     requires step { IsStep step }
-    requires zone { IsZone zone.now }
     ensures exact { Gives wants_memory_of_refusal (heights book.now table.now name.now asked.now step layout zone.now) result }
     ensures told { IfErr result (IsToldRefusal table.now) }
 {
@@ -143,15 +138,14 @@ fn heights_text(
     name: &Text,
     units: Units,
     rows: &Rows,
-    zone: &Zone,
+    zone: &ZoneClock<'_>,
 ) -> Result<Bytes, AllocError>
-    requires zone { IsZone zone.now }
     requires listed { All (λ row. InZoneYears row.minute) rows.now }
     ensures { IfOk result (λ text. text ≡ heights_text layout name.now units rows.now zone.now) }
 {
     match layout {
-        Layout::Plain => plain_heights(alloc, name, units, rows, zone),
-        Layout::Csv => csv_heights(alloc, name, units, rows, zone),
+        Layout::Plain => plain_heights(alloc, name, units, rows, zone.zone()),
+        Layout::Csv => csv_heights(alloc, name, units, rows, zone.zone()),
     }
 }
 

@@ -2,40 +2,34 @@
 
 ghost use Rattle.std.specs.Prelude.{◌≡◌, All, IfErr, IfOk};
 ghost use Rattle.decimal_text.specs.Expected.{Gives};
-ghost use Rattle.harmonics_text.specs.Books.{IsBook};
 ghost use Rattle.event_text.specs.Lines.{IsListed};
-ghost use Rattle.station_table.specs.Offsets.{IsTable};
 ghost use Rattle.tide_answer.specs.Answers.{events_text, predicted};
 ghost use Rattle.tide_fault.specs.Faults.{wants_memory_of_refusal, IsToldRefusal};
 ghost use Rattle.station_span.specs.Workings.Spans.{IsNear};
-ghost use Rattle.zone_time.specs.Zones.{IsZone};
 
 use crate::text::Answer;
 use decimal_text::{Bytes, Text};
-use harmonics_text::Book;
+use harmonics_text::SoundBook;
 use listing::{csv_events, plain_events};
 use question::Layout;
 use station_span::{Asked, Listed, list_station};
 use station_table::OffsetTable;
 use std::alloc::{AllocError, Global};
 use tide_fault::Refusal;
-use zone_time::Zone;
+use zone_time::ZoneClock;
 
 /// The listing of a station's events in a span, or the first refusal: the station, its unit, the
 /// span, the limits, the mark.
 pub fn predict(
     alloc: Global,
-    book: &Book,
+    book: &SoundBook<'_>,
     table: &OffsetTable,
     name: &Text,
     asked: &Asked,
     layout: Layout,
-    zone: &Zone,
+    zone: &ZoneClock<'_>,
 ) -> Result<Answer, Refusal>
-    requires book { IsBook book.now }
-    requires table { IsTable table.now }
     requires near { IsNear asked.now }
-    requires zone { IsZone zone.now }
     ensures exact { Gives wants_memory_of_refusal (predicted book.now table.now name.now asked.now layout zone.now) result }
     ensures told { IfErr result (IsToldRefusal table.now) }
 {
@@ -53,14 +47,13 @@ fn list_events(
     layout: Layout,
     name: &Text,
     listed: &Listed,
-    zone: &Zone,
+    zone: &ZoneClock<'_>,
 ) -> Result<Bytes, AllocError>
-    requires zone { IsZone zone.now }
     requires listed { All (IsListed listed.now.units) listed.now.events }
     ensures { IfOk result (λ text. text ≡ events_text layout name.now listed.now.units listed.now.events zone.now) }
 {
     match layout {
-        Layout::Plain => plain_events(alloc, name, listed.units, &listed.events, zone),
-        Layout::Csv => csv_events(alloc, name, listed.units, &listed.events, zone),
+        Layout::Plain => plain_events(alloc, name, listed.units, &listed.events, zone.zone()),
+        Layout::Csv => csv_events(alloc, name, listed.units, &listed.events, zone.zone()),
     }
 }

@@ -5,7 +5,6 @@ ghost use Rattle.std.specs.Option.{ForSome};
 ghost use Rattle.decimal_text.specs.Expected.{Gives};
 ghost use Rattle.harmonics_text.specs.Books.{IsBook};
 ghost use Rattle.question.specs.Asked.{IsAsked};
-ghost use Rattle.station_table.specs.Offsets.{IsTable};
 ghost use Rattle.tide_fault.specs.Faults.{wants_memory_of_refusal, IsToldRefusal};
 ghost use Rattle.tide_answer.specs.Givens.{IsGiven};
 ghost use Rattle.tide_answer.specs.Streams.{can_stream, prepared, streams_by, Streams};
@@ -15,8 +14,8 @@ use crate::asking::{span_named, station_named};
 use crate::form::Form;
 use crate::given::Given;
 use crate::streaming::Stream;
-use harmonics_text::Book;
-use question::{Command, Layout, Question};
+use harmonics_text::{Book, SoundBook};
+use question::{Command, Layout, Question, SoundQuestion};
 use station_span::{Reach, find_station};
 use station_table::{Basis, OffsetTable};
 use std::alloc::Global;
@@ -42,7 +41,6 @@ impl Ready {
 
 /// Finds what the answer to a prediction or a certificate's question is written from, or the first
 /// refusal, as [`answer`](crate::answer) has it.
-#[tactic(auto, unfolding(crate::specs::Streams::prepared))]
 pub fn prepare(
     alloc: Global,
     book: &Book,
@@ -51,8 +49,25 @@ pub fn prepare(
     given: &Given,
 ) -> Result<Ready, Refusal>
     requires book { IsBook book.now }
-    requires table { IsTable table.now }
     requires asked { IsAsked question.now }
+    requires given { IsGiven given.now }
+    requires command { IsTrue (can_stream question.now.command) }
+    ensures exact { Gives wants_memory_of_refusal (prepared book.now table.now question.now given.entry.now) result }
+    ensures told { IfErr result (IsToldRefusal table.now) }
+{
+    let book = SoundBook::new(book);
+    let question = SoundQuestion::new(question);
+    find_ready(alloc, &book, table, &question, given)
+}
+
+#[tactic(auto, unfolding(crate::specs::Streams::prepared))]
+fn find_ready(
+    alloc: Global,
+    book: &SoundBook<'_>,
+    table: &OffsetTable,
+    question: &SoundQuestion<'_>,
+    given: &Given,
+) -> Result<Ready, Refusal>
     requires given { IsGiven given.now }
     requires command { IsTrue (can_stream question.now.command) }
     ensures exact { Gives wants_memory_of_refusal (prepared book.now table.now question.now given.entry.now) result }
@@ -61,6 +76,7 @@ pub fn prepare(
     let name = station_named(question)?;
     let asked = span_named(question)?;
     let found = find_station(alloc, book, table, Reach::Events, name, &asked)?;
+    let question = question.get();
     match streamed_zone(&found.basis, question.layout, &given.zone) {
         Some(zone) => {
             let form = form_of(question.command);

@@ -5,7 +5,6 @@ ghost use Rattle.std.specs.List.{flat_map};
 ghost use Rattle.event_text.specs.Lines.{IsListed, event_line_in};
 ghost use Rattle.listing.specs.Listings.{plain_events_of};
 ghost use Rattle.station_cells.specs.Sending.{Sends};
-ghost use Rattle.zone_time.specs.Zones.{IsZone};
 
 use arrayvec::ArrayString;
 use curve_law::Event;
@@ -16,17 +15,16 @@ use listing::event_line;
 use rate_bound::{MarkCurve, TurnCurve};
 use station_cells::{Page, Sent, send_name};
 use tide_edge::{Sink, WriteFailed};
-use zone_time::Zone;
+use zone_time::ZoneClock;
 
 /// Writes the line of each event that a merge has left.
 pub fn send_events<'a, S: Sink>(
     out: &mut S,
     sent: Sent,
     units: Units,
-    zone: &Zone,
+    zone: &ZoneClock<'_>,
     merge: &mut Merge<TurnCurve<'a>, MarkCurve<'a>>,
 ) -> Result<Sent, WriteFailed>
-    requires zone { IsZone zone.now }
     requires listed { All (IsListed units) merge.old.left }
     requires few { sent.bytes + 96 * length merge.old.left < 2 ^ 64 }
     ensures sends { Sends (S.state out.old) (S.state out.new) sent (flat_map (event_line_in zone.now units) merge.old.left) 0 result }
@@ -41,8 +39,7 @@ pub fn send_events<'a, S: Sink>(
     page.end(out, so_far)
 }
 
-fn line_of(units: Units, event: &Event, zone: &Zone) -> ArrayString<96>
-    requires zone { IsZone zone.now }
+fn line_of(units: Units, event: &Event, zone: &ZoneClock<'_>) -> ArrayString<96>
     requires listed { IsListed units event.now }
     ensures { result.bytes ≡ event_line_in zone.now units event.now }
 {
@@ -58,11 +55,10 @@ pub fn send_listing<'a, S: Sink>(
     out: &mut S,
     name: &Text,
     units: Units,
-    zone: &Zone,
+    zone: &ZoneClock<'_>,
     merge: &mut Merge<TurnCurve<'a>, MarkCurve<'a>>,
 ) -> Result<Sent, WriteFailed>
     requires name { length name.now ≤ 400 }
-    requires zone { IsZone zone.now }
     requires listed { All (IsListed units) merge.old.left }
     requires few { 96 * length merge.old.left < 2 ^ 63 }
     ensures sends { Sends (S.state out.old) (S.state out.new) (record { bytes = 0; cells = 0 }) (plain_events_of name.now units merge.old.left zone.now) 0 result }

@@ -78,7 +78,7 @@ fn write_listing<S: Sink>(
     ensures { Streams (S.state out.old) (S.state out.new) (stream_answer Form.Listing found.now name.now asked.now zone.now) result }
 {
     let mut merge = merge_of(found, asked);
-    send_listing(out, name, found.units, zone, &mut merge)?;
+    send_listing(out, name, found.units, &zone.clock(), &mut merge)?;
     Ok(merge.cells())
 }
 

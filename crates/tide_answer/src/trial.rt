@@ -15,7 +15,7 @@ use crate::judging::find_rejection;
 use crate::tally::{Tally, tally_text};
 use crate::tracks::find_tracks;
 use decimal_text::{Bytes, Text};
-use harmonics_text::{Book, BookFault, Station, read_book};
+use harmonics_text::{Book, BookFault, SoundBook, Station, read_book};
 use sample_tides::sample;
 use station_span::{Asked, Reach, find_events, find_station, reached};
 use station_table::OffsetTable;
@@ -41,7 +41,7 @@ pub fn try_sample(alloc: Global, seed: u64) -> Result<Bytes, Refusal>
 {
     let text = sample(alloc, seed)?;
     let book = book_in(alloc, text.as_slice())?;
-    let sum = tally_stations(alloc, &book, first_stations(&book))?;
+    let sum = tally_stations(alloc, &SoundBook::new(&book), first_stations(&book))?;
     Ok(tally_text(alloc, seed, sum)?)
 }
 
@@ -71,8 +71,11 @@ fn first_stations(book: &Book) -> &[Station]
 }
 
 // The sums over stations, of which nothing else is held from one to the next.
-fn tally_stations(alloc: Global, book: &Book, stations: &[Station]) -> Result<Tally, Refusal>
-    requires book { IsBook book.now }
+fn tally_stations(
+    alloc: Global,
+    book: &SoundBook<'_>,
+    stations: &[Station],
+) -> Result<Tally, Refusal>
     requires few { length stations.now ≤ 40 }
     ensures exact { Gives wants_memory_of_refusal (tally_on book.now nothing stations.now) result }
     ensures told { IfErr result (IsToldRefusal []) }
@@ -91,11 +94,10 @@ fn tally_stations(alloc: Global, book: &Book, stations: &[Station]) -> Result<Ta
 #[tactic(auto, unfolding(crate::specs::Trials::station_tally))]
 fn tally_station(
     alloc: Global,
-    book: &Book,
+    book: &SoundBook<'_>,
     table: &OffsetTable,
     name: &Text,
 ) -> Result<Tally, Refusal>
-    requires book { IsBook book.now }
     requires table { table.now ≡ [] }
     ensures exact { Gives wants_memory_of_refusal (station_tally book.now name.now) result }
     ensures told { IfErr result (IsToldRefusal []) }

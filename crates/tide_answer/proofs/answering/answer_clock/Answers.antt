@@ -12,4 +12,4 @@ returns-in_err-name-clause-exact c =
 pub returns-clause-exact : goal.returns-clause-exact
 returns-clause-exact c =
     let now : FitsSigned w64 c.args.given.now.now = search rules in
-    gives_named c.args.question.now _ c.in_ok-name.name.now _ c.in_ok-name.ensures.found (simp to_z-of_z at c.tell_now.ensures.exact)
+    gives_named c.args.question.now _ c.in_ok-name.name.now _ c.in_ok-name.ensures.found (simp to_z-of_z at (rw c.clock.ensures at c.tell_now.ensures.exact))

@@ -18,4 +18,4 @@ pub returns-clause-exact : goal.returns-clause-exact
 returns-clause-exact c =
     let step : FitsSigned w64 c.args.question.now.step = search rules in
     gives_asked c.args.question.now _ c.in_ok-name.name.now c.in_ok-asked.asked _ c.in_ok-name.ensures.found (sym c.in_ok-asked.ensures.exact)
-    (simp to_z-of_z at c.list_heights.ensures.exact)
+    (simp to_z-of_z at (rw c.get.ensures.exact at c.list_heights.ensures.exact))

@@ -16,4 +16,4 @@ returns-in_err-asked-clause-exact c =
 pub returns-clause-exact : goal.returns-clause-exact
 returns-clause-exact c =
     gives_asked c.args.question.now _ c.in_ok-name.name.now c.in_ok-asked.asked _ c.in_ok-name.ensures.found (sym c.in_ok-asked.ensures.exact)
-    c.predict.ensures.exact
+    (rw c.get.ensures.exact at c.predict.ensures.exact)

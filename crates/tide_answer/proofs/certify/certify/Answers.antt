@@ -1,10 +1,8 @@
 use Rattle.std.proofs.lemmas.Result.{err_from_is_err_and}
-use Rattle.cert_text.specs.Certificates.{IsStationName}
 use Rattle.tide_answer.specs.Answers.{certified}
 use Rattle.tide_answer.proofs.CertificateLemmas.{tracks_few, certificate_sound, certified_whole}
 use Rattle.station_span.proofs.FollowLemmas.{ready_of_found}
 use Rattle.station_span.proofs.FoundLemmas.{excused_then}
-use Rattle.station_span.proofs.NameLemmas.{site_name}
 use Rattle.tide_answer.proofs.certify.certify.Goals as goal
 
 pub returns-in_err-found-clause-exact : goal.returns-in_err-found-clause-exact
@@ -23,9 +21,8 @@ pub write_certificate-requires : goal.write_certificate-requires
 write_certificate-requires c =
     let exact = c.in_ok-found.ensures.exact in
     let ready = ready_of_found c.args.book.now c.args.asked.now exact.0 c.in_ok-found.found c.requires.near exact.2 in
-    let named : IsStationName c.args.name.now = site_name _ c.args.book.now c.args.table.now c.args.name.now c.args.asked.now exact.0 c.requires.book c.requires.table exact.1 in
     rw (c.certificate_of-cert.ensures, c.in_ok-copy.ensures)
-    (certificate_sound c.args.name.now c.args.asked.now c.in_ok-found.found c.in_ok-tracks.tracks named c.requires.begin c.requires.end ready c.in_ok-tracks.ensures)
+    (certificate_sound c.args.name.now c.args.asked.now c.in_ok-found.found c.in_ok-tracks.tracks c.in_ok-found.ensures.named c.requires.begin c.requires.end ready c.in_ok-tracks.ensures)
 
 pub returns-clause-exact : goal.returns-clause-exact
 returns-clause-exact c =

@@ -53,6 +53,6 @@ returns-clause-exact c =
     let shown : FitsSigned w64 c.level_at-level.result = search rules in
     let level = simp to_z-of_z at c.level_at-level.ensures in
     let rising = simp to_z-of_z at c.is_rising-rising.ensures in
-    let text = simp to_z-of_z at c.in_ok-text.ensures in
+    let text = rw c.zone.ensures.exact at (simp to_z-of_z at c.in_ok-text.ensures) in
     rw text
     (whole_clock c.args.book.now c.args.table.now c.args.name.now c.args.now c.args.zone.now site.0 c.in_ok-found.found c.in_ok-listed.listed _ _ near has tide level rising)

@@ -7,8 +7,8 @@ returns-in_err-listed-clause-exact c =
     let p = err_from_is_err_and c.from_residual.result c.from_residual.ensures.1 in
     rw (p.1, p.2) (predicted_refused _ c.args.book.now c.args.table.now c.args.name.now c.args.asked.now c.args.layout c.args.zone.now _ c.in_err-listed.ensures.exact)
 
-pub list_events-requires-clause-listed : goal.list_events-requires-clause-listed
-list_events-requires-clause-listed c = c.in_ok-listed.ensures.exact.2.lines
+pub list_events-requires : goal.list_events-requires
+list_events-requires c = record { listed = c.in_ok-listed.ensures.exact.2.lines }
 
 pub returns-clause-exact : goal.returns-clause-exact
 returns-clause-exact c =

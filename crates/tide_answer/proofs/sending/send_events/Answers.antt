@@ -19,9 +19,10 @@ loop-event-init g c =
       all = refl;
     }
 
-pub line_of-line-requires-clause-listed : goal.line_of-line-requires-clause-listed
-line_of-line-requires-clause-listed g c =
-    All-head (IsListed c.args.units) c.in-Some.event c.next.new.self.left (rw c.in-Some.ensures.next at c.loop-event.invariant.listed)
+pub line_of-line-requires : goal.line_of-line-requires
+line_of-line-requires g c = record {
+  listed = All-head (IsListed c.args.units) c.in-Some.event c.next.new.self.left (rw c.in-Some.ensures.next at c.loop-event.invariant.listed);
+}
 
 pub put-requires-clause-short : goal.put-requires-clause-short
 put-requires-clause-short g c = let fits = c.as_str.ensures.fits in omega (arith, fits)

@@ -18,10 +18,10 @@ pub returns-in_err-send_listing : goal.returns-in_err-send_listing
 returns-in_err-send_listing g c =
     let p = err_from_is_err_and c.from_residual.result c.from_residual.ensures.1 in
     let whole = plain_is_whole c.args.asked.now c.args.found.now _ c.requires.ready c.merge_of-merge.ensures.left c.requires.plain in
-    rw (p.1, p.2) (from_first (g.S.Sink.state c.args.out.now) (g.S.Sink.state c.send_listing.new.out) _ 0 _ (rw whole at c.in_err-send_listing.ensures.sends))
+    rw (p.1, p.2) (from_first (g.S.Sink.state c.args.out.now) (g.S.Sink.state c.send_listing.new.out) _ 0 _ (rw (whole, c.clock.ensures) at c.in_err-send_listing.ensures.sends))
 
 pub returns : goal.returns
 returns g c =
     let whole = plain_is_whole c.args.asked.now c.args.found.now _ c.requires.ready c.merge_of-merge.ensures.left c.requires.plain in
-    let sends = rw whole at c.in_ok-send_listing.ensures.sends in
+    let sends = rw (whole, c.clock.ensures) at c.in_ok-send_listing.ensures.sends in
     (c.cells.ensures.value ∙ c.in_ok-send_listing.ensures.cells ∙ c.merge_of-merge.ensures.all, sends.2)
