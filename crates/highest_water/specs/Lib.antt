@@ -1,1 +1,4 @@
-
+pub mod Peaks
+pub mod Covers
+pub mod Verdicts
+pub mod Workings

@@ -7,7 +7,9 @@
 mod peak;
 mod peak_cell;
 mod peak_cells;
+mod verdict;
 
 pub use peak::Peak;
 pub use peak_cell::PeakCell;
 pub use peak_cells::PeakCells;
+pub use verdict::PeakVerdict;

@@ -1,0 +1,5 @@
+pub mod AcceptedLemmas
+pub mod CoverLemmas
+pub mod HighestLemmas
+pub mod UnderLemmas
+pub mod VerdictLemmas
