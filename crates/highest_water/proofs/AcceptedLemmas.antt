@@ -11,9 +11,10 @@ use Rattle.highest_water.specs.declared.peak_cell.PeakCell.{PeakCell}
 use Rattle.highest_water.specs.declared.peak_cell.PeakCell.TheVariants.{Under, Single}
 use Rattle.highest_water.specs.declared.verdict.PeakVerdict.{PeakVerdict}
 use Rattle.highest_water.specs.declared.verdict.PeakVerdict.TheVariants.{WrongLength, Outside, NotUnder, WrongValue, Above, Accepted}
-use Rattle.highest_water.specs.Peaks.{IsHighest, is_higher}
-use Rattle.highest_water.specs.Covers.{minutes_of, all_minutes, is_under, peak_split, peak_cover}
+use Rattle.highest_water.specs.Peaks.{IsHighest, is_higher, highest_minute}
+use Rattle.highest_water.specs.Covers.{minutes_of, all_minutes, is_under, peak_split, peak_cover, peak_of}
 use Rattle.highest_water.specs.Verdicts.{cell_verdict, or_next, cells_verdict, is_inside, peak_verdict}
+use Rattle.highest_water.proofs.HighestLemmas.{minute-highest}
 use Rattle.highest_water.proofs.CoverLemmas.{split-one, split-step, cover-none, cover-last, cover-block}
 
 -- cells of a span, at least one and at most one a minute
@@ -185,3 +186,7 @@ cover-accepted c at value a n peak =
     let inside = inside-true at a n peak.from peak.before in
     let fit : AreFit c at value a (a +ℤ pos n) = record { has = peak.has; greatest = peak.greatest; first = λ m from before. peak.first m from } in
     rw (whole, inside) (cover-right-within n c at value a n (omega arith) fit 1)
+
+pub peak_of-accepted : (c : Meaning) (a : ℤ) (n : ℕ) → 1 ≤ n → peak_verdict c a n (peak_of c a n) ≡ Accepted
+unfolding peak_of
+peak_of-accepted c a n some = cover-accepted c (highest_minute c a n) (c.track.value (highest_minute c a n)) a n (minute-highest c a n some)

@@ -1,4 +1,5 @@
 pub mod AcceptedLemmas
+pub mod AgreeLemmas
 pub mod CoverLemmas
 pub mod HighestLemmas
 pub mod UnderLemmas

@@ -125,9 +125,13 @@ under-side c at value a n under =
     (two_ways _ _ _ _ sides.1)
 
 -- a cell that is under doesn't hold the minute
+pub under-beside : (c : Meaning) (at value a : ℤ) (n : ℕ) → is_under c at value a n ≡ true → a ≤ℤ at → (a +ℤ pos n) ≤ℤ at
+under-beside c at value a n under from =
+    elim (under-side c at value a n under) [ inl by ↦ by.0 | inr after ↦ absurd (omega (arith, ints, after.0)) ]
+
 pub under-other : (c : Meaning) (at value a : ℤ) (n : ℕ) → is_under c at value a n ≡ true → a ≤ℤ at → at <ℤ (a +ℤ pos n) → ⊥
 under-other c at value a n under from before =
-    elim (under-side c at value a n under) [ inl by ↦ omega (arith, ints, by.0) | inr after ↦ omega (arith, ints, after.0) ]
+    let beside = under-beside c at value a n under from in omega (arith, ints)
 
 -- and no minute in it is higher
 below-of : (c : Meaning) (at value a : ℤ) (n : ℕ) → ((j : ℕ) → j < n → c.track.value (a +ℤ pos j) ≤ℤ value × ((a +ℤ pos j) <ℤ at → c.track.value (a +ℤ pos j) <ℤ value)) → AreBelow c at value a (a +ℤ pos n)

@@ -4,11 +4,17 @@
 //! it: those in which the curve's rate leaves no room for a value as great, and single minutes.
 #![tactic(auto)]
 
+mod laws;
 mod peak;
 mod peak_cell;
 mod peak_cells;
 mod verdict;
 
+pub use laws::{
+    accepted_highest_waters_are_right, agreeing_curves_have_one_highest_water, blocks_are_halved,
+    covers_are_accepted, spans_are_cut_into_blocks, spans_have_one_highest_water,
+    under_cells_hold_nothing_higher,
+};
 pub use peak::Peak;
 pub use peak_cell::PeakCell;
 pub use peak_cells::PeakCells;
