@@ -1,4 +1,5 @@
-pub mod Peaks
 pub mod Covers
+pub mod Peaks
+pub mod Samples
 pub mod Verdicts
 pub mod Workings
