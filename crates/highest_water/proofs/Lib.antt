@@ -1,6 +1,7 @@
 pub mod AcceptedLemmas
 pub mod AgreeLemmas
 pub mod CoverLemmas
+pub mod FindingLemmas
 pub mod HighestLemmas
 pub mod LengthLemmas
 pub mod UnderLemmas
