@@ -1,7 +1,8 @@
-use Rattle.std.proofs.Common.{w64, FitsSigned, rules, arith, sym, ◌∙◌}
+use Rattle.std.proofs.Common.{◌≡◌, true, false, w64, FitsSigned, rules, arith, ◌∙◌}
 use Rattle.std.proofs.lemmas.Int.{ints, to_z-of_z}
 use mir.Syntax.{w128}
 use Rattle.curve_law.proofs.QuietLemmas.{rate-positive}
+use Rattle.highest_water.specs.Verdicts.{is_inside}
 use Rattle.highest_water.proofs.UnderLemmas.{is_under-length, is_under-inside, is_under-rate, is_under-unrated, rate-small, value-small}
 use Rattle.highest_water.proofs.under.is_under.Goals as goal
 
@@ -13,7 +14,8 @@ returns-then-holds g c =
     let begin : FitsSigned w64 c.args.begin.minute = search rules in
     let at : FitsSigned w64 c.args.highest.minute = search rules in
     let holds = simp to_z-of_z at c.holds.ensures in
-    is_under-inside (g.C.Curve.meaning c.args.curve.now) c.args.highest.minute c.args.highest.value c.args.begin.minute c.args.n (sym holds ∙ c.if-holds.true)
+    let inside : is_inside c.args.highest.minute c.args.begin.minute c.args.n ≡ true = cc in
+    is_under-inside (g.C.Curve.meaning c.args.curve.now) c.args.highest.minute c.args.highest.value c.args.begin.minute c.args.n inside
 
 pub twice_most-requires-clause-positive : goal.twice_most-requires-clause-positive
 twice_most-requires-clause-positive g c =
@@ -46,12 +48,13 @@ returns-in-Some g c =
     let value : FitsSigned w128 c.args.begin.value = search rules in
     let end_value : FitsSigned w128 c.args.end_value = c.ranges.end_value in
     let told = simp to_z-of_z at c.in-Some.ensures in
-    let outside = simp to_z-of_z at c.holds.ensures in
+    let holds = simp to_z-of_z at c.holds.ensures in
+    let outside : is_inside c.args.highest.minute c.args.begin.minute c.args.n ≡ false = cc in
     let most = simp to_z-of_z at c.twice_most.ensures.value in
     let highest : FitsSigned w128 c.args.highest.value = search rules in
     let fits : FitsSigned w128 c.twice_most.result = search rules in
     let low = simp to_z-of_z at c.is_low.ensures in
-    low ∙ is_under-rate (g.C.Curve.meaning c.args.curve.now) c.args.highest.minute c.args.highest.value c.args.begin.minute c.twice_most.result c.in-Some.rate c.args.n (omega arith) (omega arith) (sym outside ∙ c.if-holds.false) told (rw (← c.requires.value, ← c.requires.end_value) most)
+    low ∙ is_under-rate (g.C.Curve.meaning c.args.curve.now) c.args.highest.minute c.args.highest.value c.args.begin.minute c.twice_most.result c.in-Some.rate c.args.n (omega arith) (omega arith) outside told (rw (← c.requires.value, ← c.requires.end_value) most)
 
 pub returns-in-None : goal.returns-in-None
 returns-in-None g c =
