@@ -19,6 +19,7 @@ mod under;
 mod verdict;
 mod waiting;
 mod walk;
+mod worked;
 
 pub use checking::check_peak;
 pub use covering::peak_cover;
@@ -32,6 +33,7 @@ pub use peak::Peak;
 pub use peak_cell::PeakCell;
 pub use peak_cells::PeakCells;
 pub use verdict::PeakVerdict;
+pub use worked::{worked_cells_under, worked_covers, worked_minutes, worked_verdicts};
 
 #[cfg(test)]
 mod hills;
