@@ -23,8 +23,8 @@ same_or x y less more = grind (arith, ints)
 pub highest-one : (c : Meaning) (begin end at value other_at other : ℤ) → IsHighest c begin end at value → IsHighest c begin end other_at other → (at ≡ other_at) × (value ≡ other)
 highest-one c begin end at value other_at other peak another =
     let one = same_or at other_at
-        (one_minute c begin end at value other_at other peak another)
-        (one_minute c begin end other_at other at value another peak) in
+    (one_minute c begin end at value other_at other peak another)
+    (one_minute c begin end other_at other at value another peak) in
     (one, sym peak.has ∙ ap c.track.value one ∙ another.has)
 
 -- one minute more
@@ -46,8 +46,8 @@ later-highest c begin end at peak more =
       before = omega (arith, ints);
       has = refl;
       greatest = λ m from before. by_test (int_lt m end)
-        (λ earlier. let e = int_lt-true m end earlier in let g = peak.greatest m from e in omega (arith, ints))
-        (λ last. let l = int_lt-false m end last in let one : m ≡ end = omega (arith, ints) in rw one (omega (arith, ints)));
+          (λ earlier. let e = int_lt-true m end earlier in let g = peak.greatest m from e in omega (arith, ints))
+          (λ last. let l = int_lt-false m end last in let one : m ≡ end = omega (arith, ints) in rw one (omega (arith, ints)));
       first = λ m from before. let g = peak.greatest m from before in omega (arith, ints);
     }
 
@@ -59,8 +59,8 @@ earlier-highest c begin end at peak less =
       before = omega (arith, ints);
       has = refl;
       greatest = λ m from before. by_test (int_lt m end)
-        (λ earlier. peak.greatest m from (int_lt-true m end earlier))
-        (λ last. let l = int_lt-false m end last in let one : m ≡ end = omega (arith, ints) in rw one less);
+          (λ earlier. peak.greatest m from (int_lt-true m end earlier))
+          (λ last. let l = int_lt-false m end last in let one : m ≡ end = omega (arith, ints) in rw one less);
       first = peak.first;
     }
 

@@ -152,11 +152,11 @@ under-below c at value a n lawful span under = below-of c at value a n (λ j few
     let most = under-few c at value a n under in
     elim (under-side c at value a n under) [
       | inl by ↦
-        let less = below-least c a n j value (c.rate a n) refl lawful span two most few by.1 in
-        (omega (arith, ints), λ _. less)
+          let less = below-least c a n j value (c.rate a n) refl lawful span two most few by.1 in
+          (omega (arith, ints), λ _. less)
       | inr after ↦
-        let most = within-most c a n j value (c.rate a n) refl lawful span two most few after.1 in
-        (most, λ earlier. absurd (omega (arith, ints, after.0)))
+          let most = within-most c a n j value (c.rate a n) refl lawful span two most few after.1 in
+          (most, λ earlier. absurd (omega (arith, ints, after.0)))
     ])
 
 -- ---- the test by its parts

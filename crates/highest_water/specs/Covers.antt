@@ -37,7 +37,7 @@ unfoldable pub is_under : Meaning → ℤ → ℤ → ℤ → ℕ → Bool
 is_under c at value a n =
     nat_le 2 n && nat_le n most_minutes
     && ((int_le (a +ℤ pos n) at && stays_below (c.rate a n) n (c.track.value a) (c.track.value (a +ℤ pos n)) value)
-        || (int_lt at a && stays_within (c.rate a n) n (c.track.value a) (c.track.value (a +ℤ pos n)) value))
+    || (int_lt at a && stays_within (c.rate a n) n (c.track.value a) (c.track.value (a +ℤ pos n)) value))
 
 -- the cells of so many minutes, with as many halvings as are allowed
 unfoldable pub split_within : ℕ → Meaning → ℤ → ℤ → ℤ → ℕ → List PeakCell

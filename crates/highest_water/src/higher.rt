@@ -12,8 +12,7 @@ use curve_law::Point;
 pub fn is_higher(highest: Point, point: Point) -> bool
     ensures { result ≡ is_higher highest.minute highest.value point.minute point.value }
 {
-    point.value > highest.value
-        || (point.value == highest.value && point.minute < highest.minute)
+    point.value > highest.value || (point.value == highest.value && point.minute < highest.minute)
 }
 
 /// The higher one of two points.

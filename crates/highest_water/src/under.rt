@@ -9,13 +9,7 @@ use curve_law::{Curve, MOST_MINUTES, Point};
 
 /// Whether the cell of the `n` minutes from a point on is under the highest water, by the value at the
 /// cell's end.
-pub fn is_under<C: Curve>(
-    curve: &C,
-    highest: Point,
-    begin: Point,
-    n: u32,
-    end_value: i128,
-) -> bool
+pub fn is_under<C: Curve>(curve: &C, highest: Point, begin: Point, n: u32, end_value: i128) -> bool
     requires size { unsigned_abs highest.value < 10 ^ 37 }
     requires span { IsSpan (C.meaning curve.now) begin.minute n }
     requires value { begin.value ≡ (C.meaning curve.now).track.value begin.minute }

@@ -60,33 +60,75 @@ pub fn worked_covers()
 /// from 0 to 8.
 #[tactic(auto, unfolding(crate::specs::Covers::all_minutes, crate::specs::Covers::stays_below, crate::specs::Covers::stays_within, crate::specs::Covers::is_under, crate::specs::Verdicts::cell_verdict, crate::specs::Verdicts::cells_verdict, crate::specs::Verdicts::peak_verdict))]
 pub fn worked_verdicts()
-    ensures by_halves { peak_verdict (hills (pos 2) (pos 5) (pos 6) (pos 5) (pos 1)) (pos 0) 8 (record { at = pos 2; value = pos 5;
-        cells = PeakCell.Single ∷ PeakCell.Single ∷ PeakCell.Single ∷ PeakCell.Single ∷ PeakCell.Under 4 ∷ [] }) ≡ PeakVerdict.Accepted }
-    ensures each_minute { peak_verdict (hills (pos 2) (pos 5) (pos 6) (pos 5) (pos 1)) (pos 0) 8 (record { at = pos 2; value = pos 5;
-        cells = PeakCell.Single ∷ PeakCell.Single ∷ PeakCell.Single ∷ PeakCell.Single ∷ PeakCell.Single ∷ PeakCell.Single ∷ PeakCell.Single ∷ PeakCell.Single ∷ [] })
+    ensures by_halves { peak_verdict (hills (pos 2) (pos 5) (pos 6) (pos 5) (pos 1)) (pos 0) 8 (record {
+      at = pos 2;
+      value = pos 5;
+      cells = PeakCell.Single ∷ PeakCell.Single ∷ PeakCell.Single ∷ PeakCell.Single ∷ PeakCell.Under 4 ∷ [];
+    }) ≡ PeakVerdict.Accepted }
+    ensures each_minute { peak_verdict (hills (pos 2) (pos 5) (pos 6) (pos 5) (pos 1)) (pos 0) 8 (record {
+      at = pos 2;
+      value = pos 5;
+      cells = PeakCell.Single ∷ PeakCell.Single ∷ PeakCell.Single ∷ PeakCell.Single ∷ PeakCell.Single ∷ PeakCell.Single ∷ PeakCell.Single ∷ PeakCell.Single ∷ [];
+    })
         ≡ PeakVerdict.Accepted }
-    ensures short { peak_verdict (hills (pos 2) (pos 5) (pos 6) (pos 5) (pos 1)) (pos 0) 8 (record { at = pos 9; value = pos 5;
-        cells = PeakCell.Single ∷ PeakCell.Under 4 ∷ [] }) ≡ PeakVerdict.WrongLength (pos 5) (pos 8) }
-    ensures long { peak_verdict (hills (pos 2) (pos 5) (pos 6) (pos 5) (pos 1)) (pos 0) 8 (record { at = pos 2; value = pos 5;
-        cells = PeakCell.Under 4294967295 ∷ PeakCell.Under 4294967295 ∷ [] }) ≡ PeakVerdict.WrongLength (pos 8589934590) (pos 8) }
-    ensures at_end { peak_verdict (hills (pos 2) (pos 5) (pos 6) (pos 5) (pos 1)) (pos 0) 8 (record { at = pos 8; value = pos 3;
-        cells = PeakCell.Under 8 ∷ [] }) ≡ PeakVerdict.Outside }
-    ensures before_begin { peak_verdict (hills (pos 2) (pos 5) (pos 6) (pos 5) (pos 1)) (pos 0) 8 (record { at = negsuc 0; value = pos 2;
-        cells = PeakCell.Under 8 ∷ [] }) ≡ PeakVerdict.Outside }
-    ensures holding { peak_verdict (hills (pos 2) (pos 5) (pos 6) (pos 5) (pos 1)) (pos 0) 8 (record { at = pos 2; value = pos 99;
-        cells = PeakCell.Under 2 ∷ PeakCell.Under 6 ∷ [] }) ≡ PeakVerdict.NotUnder 2 }
-    ensures exactly_before { peak_verdict (hills (pos 2) (pos 5) (pos 6) (pos 5) (pos 1)) (pos 0) 3 (record { at = pos 2; value = pos 5;
-        cells = PeakCell.Under 2 ∷ PeakCell.Single ∷ [] }) ≡ PeakVerdict.NotUnder 1 }
-    ensures too_short { peak_verdict (hills (pos 2) (pos 5) (pos 6) (pos 5) (pos 1)) (pos 2) 2 (record { at = pos 2; value = pos 5;
-        cells = PeakCell.Single ∷ PeakCell.Under 1 ∷ [] }) ≡ PeakVerdict.NotUnder 2 }
-    ensures too_long { peak_verdict (line (pos 0) true (pos 1)) (pos 0) 1026 (record { at = pos 0; value = pos 0;
-        cells = PeakCell.Single ∷ PeakCell.Under 1025 ∷ [] }) ≡ PeakVerdict.NotUnder 2 }
-    ensures other_value { peak_verdict (hills (pos 2) (pos 5) (pos 6) (pos 5) (pos 1)) (pos 0) 4 (record { at = pos 2; value = pos 6;
-        cells = PeakCell.Single ∷ PeakCell.Single ∷ PeakCell.Single ∷ PeakCell.Single ∷ [] }) ≡ PeakVerdict.WrongValue (pos 6) (pos 5) }
-    ensures second_top { peak_verdict (hills (pos 2) (pos 5) (pos 6) (pos 5) (pos 1)) (pos 2) 5 (record { at = pos 6; value = pos 5;
-        cells = PeakCell.Single ∷ PeakCell.Single ∷ PeakCell.Single ∷ PeakCell.Single ∷ PeakCell.Single ∷ [] }) ≡ PeakVerdict.Above 1 }
-    ensures above { peak_verdict (hills (pos 2) (pos 5) (pos 6) (pos 5) (pos 1)) (pos 0) 3 (record { at = pos 1; value = pos 4;
-        cells = PeakCell.Single ∷ PeakCell.Single ∷ PeakCell.Single ∷ [] }) ≡ PeakVerdict.Above 3 }
-    ensures above_before_value { peak_verdict (hills (pos 2) (pos 5) (pos 6) (pos 5) (pos 1)) (pos 0) 3 (record { at = pos 2; value = pos 4;
-        cells = PeakCell.Single ∷ PeakCell.Single ∷ PeakCell.Single ∷ [] }) ≡ PeakVerdict.Above 2 }
+    ensures short { peak_verdict (hills (pos 2) (pos 5) (pos 6) (pos 5) (pos 1)) (pos 0) 8 (record {
+      at = pos 9;
+      value = pos 5;
+      cells = PeakCell.Single ∷ PeakCell.Under 4 ∷ [];
+    }) ≡ PeakVerdict.WrongLength (pos 5) (pos 8) }
+    ensures long { peak_verdict (hills (pos 2) (pos 5) (pos 6) (pos 5) (pos 1)) (pos 0) 8 (record {
+      at = pos 2;
+      value = pos 5;
+      cells = PeakCell.Under 4294967295 ∷ PeakCell.Under 4294967295 ∷ [];
+    }) ≡ PeakVerdict.WrongLength (pos 8589934590) (pos 8) }
+    ensures at_end { peak_verdict (hills (pos 2) (pos 5) (pos 6) (pos 5) (pos 1)) (pos 0) 8 (record {
+      at = pos 8;
+      value = pos 3;
+      cells = PeakCell.Under 8 ∷ [];
+    }) ≡ PeakVerdict.Outside }
+    ensures before_begin { peak_verdict (hills (pos 2) (pos 5) (pos 6) (pos 5) (pos 1)) (pos 0) 8 (record {
+      at = negsuc 0;
+      value = pos 2;
+      cells = PeakCell.Under 8 ∷ [];
+    }) ≡ PeakVerdict.Outside }
+    ensures holding { peak_verdict (hills (pos 2) (pos 5) (pos 6) (pos 5) (pos 1)) (pos 0) 8 (record {
+      at = pos 2;
+      value = pos 99;
+      cells = PeakCell.Under 2 ∷ PeakCell.Under 6 ∷ [];
+    }) ≡ PeakVerdict.NotUnder 2 }
+    ensures exactly_before { peak_verdict (hills (pos 2) (pos 5) (pos 6) (pos 5) (pos 1)) (pos 0) 3 (record {
+      at = pos 2;
+      value = pos 5;
+      cells = PeakCell.Under 2 ∷ PeakCell.Single ∷ [];
+    }) ≡ PeakVerdict.NotUnder 1 }
+    ensures too_short { peak_verdict (hills (pos 2) (pos 5) (pos 6) (pos 5) (pos 1)) (pos 2) 2 (record {
+      at = pos 2;
+      value = pos 5;
+      cells = PeakCell.Single ∷ PeakCell.Under 1 ∷ [];
+    }) ≡ PeakVerdict.NotUnder 2 }
+    ensures too_long { peak_verdict (line (pos 0) true (pos 1)) (pos 0) 1026 (record {
+      at = pos 0;
+      value = pos 0;
+      cells = PeakCell.Single ∷ PeakCell.Under 1025 ∷ [];
+    }) ≡ PeakVerdict.NotUnder 2 }
+    ensures other_value { peak_verdict (hills (pos 2) (pos 5) (pos 6) (pos 5) (pos 1)) (pos 0) 4 (record {
+      at = pos 2;
+      value = pos 6;
+      cells = PeakCell.Single ∷ PeakCell.Single ∷ PeakCell.Single ∷ PeakCell.Single ∷ [];
+    }) ≡ PeakVerdict.WrongValue (pos 6) (pos 5) }
+    ensures second_top { peak_verdict (hills (pos 2) (pos 5) (pos 6) (pos 5) (pos 1)) (pos 2) 5 (record {
+      at = pos 6;
+      value = pos 5;
+      cells = PeakCell.Single ∷ PeakCell.Single ∷ PeakCell.Single ∷ PeakCell.Single ∷ PeakCell.Single ∷ [];
+    }) ≡ PeakVerdict.Above 1 }
+    ensures above { peak_verdict (hills (pos 2) (pos 5) (pos 6) (pos 5) (pos 1)) (pos 0) 3 (record {
+      at = pos 1;
+      value = pos 4;
+      cells = PeakCell.Single ∷ PeakCell.Single ∷ PeakCell.Single ∷ [];
+    }) ≡ PeakVerdict.Above 3 }
+    ensures above_before_value { peak_verdict (hills (pos 2) (pos 5) (pos 6) (pos 5) (pos 1)) (pos 0) 3 (record {
+      at = pos 2;
+      value = pos 4;
+      cells = PeakCell.Single ∷ PeakCell.Single ∷ PeakCell.Single ∷ [];
+    }) ≡ PeakVerdict.Above 2 }
 {}

@@ -43,4 +43,4 @@ pub returns-clause-highest : goal.returns-clause-highest
 returns-clause-highest g c = λ accepted.
     let between : IsBetween (g.C.Curve.meaning c.args.curve.now) c.args.begin c.args.end = record { lawful = g.met.C.Curve.lawful c.args.curve.now; forward = c.requires.forward; first = c.requires.first; last = c.requires.last } in
     rw (span-end c.args.begin c.args.end c.requires.forward) at
-        (verdict-highest _ _ _ c.args.peak.now between.lawful (within-span _ _ _ _ between refl) (sym (returns-clause-verdict g c) ∙ accepted))
+    (verdict-highest _ _ _ c.args.peak.now between.lawful (within-span _ _ _ _ between refl) (sym (returns-clause-verdict g c) ∙ accepted))

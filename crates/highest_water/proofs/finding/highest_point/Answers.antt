@@ -51,7 +51,7 @@ pub returns-clause-highest : goal.returns-clause-highest
 returns-clause-highest g c =
     let done = c.in_default.ensures.found.0 ∙ c.loop-found.invariant.until in
     rw (to_z-of_z w64 c.args.begin c.ranges.begin, to_z-of_z w64 c.args.end c.ranges.end) at
-        (all-so_far (g.C.Curve.meaning c.args.curve.now) _ _ c.loop-found.walk.at.minute c.loop-found.highest done c.loop-found.invariant.so_far)
+    (all-so_far (g.C.Curve.meaning c.args.curve.now) _ _ c.loop-found.walk.at.minute c.loop-found.highest done c.loop-found.invariant.so_far)
 
 pub returns-clause-count : goal.returns-clause-count
 returns-clause-count g c =
