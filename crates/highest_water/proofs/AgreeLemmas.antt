@@ -1,8 +1,8 @@
 -- Curves that say the same of a span have the same highest water, cells and verdicts there.
-use Rattle.std.proofs.Common.{◌≡◌, ℕ, zero, suc, ◌+◌, ◌-◌, ◌/◌, ◌≤◌, ◌<◌, ◌==◌, ℤ, pos, ◌+ℤ◌, ◌-ℤ◌, ◌≤ℤ◌, ◌<ℤ◌, unsigned_abs, ◌&&◌, cond, nat_le, List, [], ◌∷◌, ◌++◌, refl, sym, ap, ◌∙◌, arith}
+use Rattle.std.proofs.Common.{◌≡◌, ℕ, zero, suc, ◌+◌, ◌-◌, ◌/◌, ◌≤◌, ◌<◌, ◌==◌, ℤ, pos, ◌+ℤ◌, ◌-ℤ◌, ◌≤ℤ◌, ◌<ℤ◌, unsigned_abs, ◌&&◌, nat_le, List, [], ◌∷◌, ◌++◌, refl, sym, ap, ◌∙◌, arith}
 use Rattle.std.proofs.lemmas.Bool.Decides.{nat_tests, Decides-eqb}
 use Rattle.std.proofs.lemmas.Int.{ints}
-use Rattle.curve_law.specs.Meaning.{Meaning}
+use Rattle.curve_law.specs.Meaning.{Meaning, AgreeOver}
 use Rattle.curve_law.specs.Cover.{most_minutes}
 use Rattle.curve_law.proofs.CoverLemmas.{by_test}
 use Rattle.highest_water.specs.declared.peak.Peak.{Peak}
@@ -10,9 +10,12 @@ use Rattle.highest_water.specs.declared.peak_cell.PeakCell.{PeakCell}
 use Rattle.highest_water.specs.declared.peak_cell.PeakCell.TheVariants.{Under, Single}
 use Rattle.highest_water.specs.Peaks.{IsHighest, highest_minute, AgreeOnValues}
 use Rattle.highest_water.specs.Covers.{minutes_of, all_minutes, is_under, split_within, peak_split, cover_within, peak_cover, peak_of}
-use Rattle.highest_water.specs.Verdicts.{cell_verdict, cells_verdict, is_inside, peak_verdict}
+use Rattle.highest_water.specs.Verdicts.{cell_verdict, cells_verdict, peak_verdict}
 use Rattle.highest_water.proofs.CoverLemmas.{split_within-step, cover_within-step}
 use Rattle.highest_water.proofs.HighestLemmas.{highest-one, minute-highest}
+
+pub agree-values : (c d : Meaning) (a : ℤ) (n : ℕ) → AgreeOver c d a n → AgreeOnValues c d a n
+agree-values c d a n agree = record { values = agree.values; rates = agree.rates }
 
 -- they say the same of each part of it
 agree-part : (c d : Meaning) (a : ℤ) (n j k : ℕ) → j + k ≤ n → AgreeOnValues c d a n → AgreeOnValues c d (a +ℤ pos j) k

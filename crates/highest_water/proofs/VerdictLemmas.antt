@@ -1,5 +1,5 @@
 -- What an accepted verdict says.
-use Rattle.std.proofs.Common.{◌≡◌, ℕ, suc, ◌+◌, ◌==◌, ℤ, pos, ◌+ℤ◌, ◌≤ℤ◌, ◌<ℤ◌, int_lt, Bool, true, false, cond, List, [], ◌∷◌, ◌&&◌, ◌||◌, refl, sym, ap, arith, ◌∙◌}
+use Rattle.std.proofs.Common.{◌≡◌, ℕ, suc, ◌+◌, ◌==◌, ℤ, pos, ◌+ℤ◌, ◌≤ℤ◌, ◌<ℤ◌, int_lt, Bool, true, false, cond, List, [], ◌∷◌, refl, sym, ap, arith, ◌∙◌}
 use Rattle.std.specs.Ordering.{int_eq}
 use Rattle.std.proofs.lemmas.Bool.{and_parts}
 use Rattle.std.proofs.lemmas.Bool.Decides.{Decides-int_eq, Decides-eqb}
@@ -11,12 +11,12 @@ use Rattle.highest_water.specs.declared.peak_cell.PeakCell.{PeakCell}
 use Rattle.highest_water.specs.declared.peak_cell.PeakCell.TheVariants.{Under, Single}
 use Rattle.highest_water.specs.declared.verdict.PeakVerdict.{PeakVerdict}
 use Rattle.highest_water.specs.declared.verdict.PeakVerdict.TheVariants.{WrongLength, Outside, NotUnder, WrongValue, Above, Accepted}
-use Rattle.highest_water.specs.Peaks.{IsHighest, is_higher}
+use Rattle.highest_water.specs.Peaks.{IsHighest, is_higher, highest_minute}
 use Rattle.highest_water.specs.Covers.{minutes_of, all_minutes, is_under}
 use Rattle.highest_water.specs.Verdicts.{cell_verdict, or_next, cells_verdict, is_inside, peak_verdict}
 use Rattle.highest_water.specs.Workings.Below.{AreBelow}
 use Rattle.highest_water.proofs.UnderLemmas.{int_lt-true, int_le-true, under-other, under-below}
-use Rattle.highest_water.proofs.HighestLemmas.{int_lt-false}
+use Rattle.highest_water.proofs.HighestLemmas.{int_lt-false, highest-one, minute-highest}
 
 both_accepted : (v w : PeakVerdict) → or_next v w ≡ Accepted → (v ≡ Accepted) × (w ≡ Accepted)
 both_accepted (WrongLength covered wanted) w h = cc
@@ -144,3 +144,13 @@ verdict-highest c a n peak lawful span ok =
       greatest = shown.below.greatest;
       first = λ m begin earlier. shown.below.first m begin (omega (arith, ints)) earlier;
     }
+
+-- and so the one that a look at each minute finds
+highest-looked : (c : Meaning) (a : ℤ) (n : ℕ) (at value : ℤ) → IsHighest c a (a +ℤ pos n) at value → (at ≡ highest_minute c a n) × (value ≡ c.track.value (highest_minute c a n))
+highest-looked c a n at value peak =
+    let from = peak.from in
+    let before = peak.before in
+    highest-one c a (a +ℤ pos n) at value _ _ peak (minute-highest c a n (omega (arith, ints)))
+
+pub verdict-looked : (c : Meaning) (a : ℤ) (n : ℕ) (peak : Peak) → IsLawful c → IsSpan c a n → peak_verdict c a n peak ≡ Accepted → (peak.at ≡ highest_minute c a n) × (peak.value ≡ c.track.value (highest_minute c a n))
+verdict-looked c a n peak lawful span ok = highest-looked c a n peak.at peak.value (verdict-highest c a n peak lawful span ok)

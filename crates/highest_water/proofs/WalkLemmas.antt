@@ -1,12 +1,12 @@
 -- How the pieces ahead of a walk change, and what they always have.
-use Rattle.std.proofs.Common.{◌≡◌, ℕ, suc, ◌+◌, ◌-◌, ◌*◌, ◌/◌, ◌^◌, ◌≤◌, ◌<◌, min, ℤ, pos, ◌+ℤ◌, ◌-ℤ◌, ◌≤ℤ◌, ◌<ℤ◌, unsigned_abs, false, true, List, [], ◌∷◌, ◌++◌, length, length-append, refl, sym, ap, arith, append_assoc, nat_le, ◌∙◌}
+use Rattle.std.proofs.Common.{◌≡◌, ℕ, ◌+◌, ◌-◌, ◌*◌, ◌/◌, ◌^◌, ◌≤◌, ◌<◌, min, ℤ, pos, ◌+ℤ◌, ◌≤ℤ◌, ◌<ℤ◌, false, true, List, [], ◌∷◌, ◌++◌, length, length-append, refl, sym, ap, arith, append_assoc, nat_le, ◌∙◌}
 use Rattle.std.proofs.lemmas.Int.{ints}
 use Rattle.std.proofs.lemmas.Bool.Decides.{nat_tests}
 use Rattle.std.proofs.lemmas.List.{append-nil}
 use Rattle.std.proofs.lemmas.Nat.{pow_pos}
 use Rattle.std.proofs.Math.Nat.{mul-le-mul_left}
 use Rattle.curve_law.specs.declared.point.Point.{Point}
-use Rattle.curve_law.specs.Meaning.{Meaning, IsLawful, IsSpan}
+use Rattle.curve_law.specs.Meaning.{Meaning, IsLawful}
 use Rattle.curve_law.proofs.CoverLemmas.{by_test}
 use Rattle.interval_search.specs.Workings.Ahead.{minutes_to, IsPiece, ArePieces}
 use Rattle.interval_search.proofs.AheadLemmas.{begun-pieces, middle-pieces, waiting-few}

@@ -1,7 +1,7 @@
 //! What follows of highest waters, of their cells, of the curve's law and of verdicts.
 
 ghost use Rattle.std.specs.Prelude.{◌≡◌, ℕ, ◌+◌, ◌-◌, ◌/◌, ◌<◌, ◌≤◌, ℤ, pos, ◌+ℤ◌, ◌*ℤ◌, ◌≤ℤ◌, ◌<ℤ◌, true, false, List, [], ◌∷◌, ◌++◌, length};
-ghost use Rattle.curve_law.specs.Meaning.{Meaning, IsSpan, IsLawful};
+ghost use Rattle.curve_law.specs.Meaning.{Meaning, IsSpan, IsLawful, AgreeOver};
 ghost use Rattle.highest_water.specs.declared.peak.Peak.{Peak};
 ghost use Rattle.highest_water.specs.declared.peak_cell.PeakCell.{PeakCell};
 ghost use Rattle.highest_water.specs.declared.verdict.PeakVerdict.{PeakVerdict};
@@ -52,10 +52,14 @@ pub fn under_cells_hold_nothing_higher()
         a ≤ℤ at → (a +ℤ pos n) ≤ℤ at }
 {}
 
-/// A highest water that is accepted is that of the span, whoever wrote it.
+/// A highest water that is accepted is that of the span, whoever wrote it, and so it is the one that a
+/// look at each minute finds.
 pub fn accepted_highest_waters_are_right()
-    ensures { (c : Meaning) (a : ℤ) (n : ℕ) (peak : Peak) → IsLawful c → IsSpan c a n →
+    ensures highest { (c : Meaning) (a : ℤ) (n : ℕ) (peak : Peak) → IsLawful c → IsSpan c a n →
         peak_verdict c a n peak ≡ PeakVerdict.Accepted → IsHighest c a (a +ℤ pos n) peak.at peak.value }
+    ensures looked { (c : Meaning) (a : ℤ) (n : ℕ) (peak : Peak) → IsLawful c → IsSpan c a n →
+        peak_verdict c a n peak ≡ PeakVerdict.Accepted →
+        (peak.at ≡ highest_minute c a n) × (peak.value ≡ c.track.value (highest_minute c a n)) }
 {}
 
 /// The cells of a span by the rule have its minutes, at most one cell a minute. With them the span's
@@ -78,4 +82,5 @@ pub fn agreeing_curves_have_one_highest_water()
     ensures peak { (c d : Meaning) (a : ℤ) (n : ℕ) → AgreeOnValues c d a n → peak_of c a n ≡ peak_of d a n }
     ensures verdicts { (c d : Meaning) (a : ℤ) (n : ℕ) (peak : Peak) → AgreeOnValues c d a n →
         peak_verdict c a n peak ≡ peak_verdict d a n peak }
+    ensures wider { (c d : Meaning) (a : ℤ) (n : ℕ) → AgreeOver c d a n → AgreeOnValues c d a n }
 {}

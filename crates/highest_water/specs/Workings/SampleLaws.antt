@@ -3,7 +3,7 @@ use Rattle.std.specs.Prelude.{◌≡◌, ℕ, ◌^◌, ◌<◌, ◌≤◌, ℤ, 
 use Rattle.std.specs.Int.{int_max}
 use Rattle.std.proofs.Common.{arith}
 use Rattle.std.proofs.lemmas.Int.{ints}
-use Rattle.curve_law.specs.Meaning.{IsMinute, IsLawful}
+use Rattle.curve_law.specs.Meaning.{IsLawful}
 use Rattle.highest_water.specs.Samples.{hill, hills}
 
 hill-value : (at top m : ℤ) → unsigned_abs at ≤ 10 ^ 12 → unsigned_abs top ≤ 10 ^ 12 → unsigned_abs m ≤ 10 ^ 6 → unsigned_abs (hill at top m) ≤ 10 ^ 13

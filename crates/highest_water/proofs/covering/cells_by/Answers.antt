@@ -1,4 +1,4 @@
-use Rattle.std.proofs.Common.{w64, ◌∙◌}
+use Rattle.std.proofs.Common.{w64}
 use Rattle.std.proofs.lemmas.Int.{to_z-of_z}
 use Rattle.highest_water.proofs.WalkLemmas.{points-few, counted-more, counted-all}
 use Rattle.highest_water.proofs.covering.cells_by.Goals as goal

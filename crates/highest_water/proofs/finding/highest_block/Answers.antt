@@ -1,5 +1,5 @@
 use Rattle.std.proofs.Common.{w64, to_z, of_z, FitsSigned, rules, arith, ◌∙◌}
-use Rattle.std.proofs.lemmas.Int.{ints, to_z-of_z}
+use Rattle.std.proofs.lemmas.Int.{ints}
 use Rattle.highest_water.proofs.UnderLemmas.{int_lt-true}
 use Rattle.highest_water.proofs.FindingLemmas.{asked-point, higher-point}
 use Rattle.highest_water.proofs.finding.highest_block.Goals as goal

@@ -1,4 +1,4 @@
-use Rattle.std.proofs.Common.{◌≡◌, length, w64, to_z, of_z, FitsSigned, rules, arith, refl, sym, ap, ◌∙◌}
+use Rattle.std.proofs.Common.{◌≡◌, w64, to_z, of_z, FitsSigned, rules, refl, sym, ap, ◌∙◌}
 use Rattle.std.proofs.lemmas.Int.{to_z-of_z}
 use Rattle.interval_search.proofs.AheadLemmas.{before-end}
 use Rattle.highest_water.proofs.WalkLemmas.{done-waiting, done-cells, given-cells, given-onward, given-right, given-stands, pieces-end}
