@@ -1,0 +1,271 @@
+ghost use Rattle.std.specs.Prelude.{◌≡◌, ◌+◌, ◌^◌, ◌<◌, ◌≤◌, ◌≤ℤ◌, ◌<ℤ◌, ◌-ℤ◌, pos, unsigned_abs, length, IsTrue};
+
+use super::*;
+use crate::hills::{Hills, Top};
+use curve_law::Curve;
+use curve_law::samples::{Line, Ripple};
+use std::alloc::{AllocError, Global};
+
+// Whether a curve tells the minutes of a span, and there are some.
+fn tells<C: Curve>(curve: &C, begin: i64, end: i64) -> bool
+    ensures { IsTrue result → (begin <ℤ end) × ((C.meaning curve.now).first ≤ℤ begin) × (end ≤ℤ (C.meaning curve.now).last) }
+{
+    curve.first() <= begin && begin < end && end <= curve.last()
+}
+
+fn is_short(begin: i64, end: i64) -> bool
+    ensures { IsTrue result → (end -ℤ begin) ≤ℤ pos 5270400 }
+{
+    begin >= -1_000_000 && end <= 1_000_000
+}
+
+fn is_asked_little<C: Curve>(curve: &C) -> bool
+    ensures { IsTrue result → C.count curve.now ≤ 10 ^ 6 }
+{
+    curve.evaluations() <= 1_000_000
+}
+
+// Whether the highest water of a span may be looked for.
+fn can_find<C: Curve>(curve: &C, begin: i64, end: i64) -> bool
+    ensures { IsTrue result → (begin <ℤ end) × ((C.meaning curve.now).first ≤ℤ begin) × (end ≤ℤ (C.meaning curve.now).last) × ((end -ℤ begin) ≤ℤ pos 5270400) × (C.count curve.now ≤ 10 ^ 6) }
+{
+    tells(curve, begin, end) && is_short(begin, end) && is_asked_little(curve)
+}
+
+// Whether what is written may be checked.
+fn is_small(peak: &Peak) -> bool
+    ensures { IsTrue result → (unsigned_abs peak.now.value < 10 ^ 37) × (length peak.now.cells ≤ 10 ^ 6) }
+{
+    peak.value.unsigned_abs() < 1_000_000 && peak.cells.as_slice().len() <= 1_000_000
+}
+
+// The highest water by a look at every minute.
+fn looked_at<C: Curve>(curve: &mut C, begin: i64, end: i64) -> Option<(i64, i128)> {
+    let mut highest = None;
+    for m in begin..end {
+        if m < curve.first() || curve.last() < m || curve.evaluations() > 1_000_000 {
+            return None;
+        }
+        let value = curve.value(m);
+        highest = match highest {
+            Some((at, most)) if most >= value => Some((at, most)),
+            _ => Some((m, value)),
+        };
+    }
+    highest
+}
+
+// What a check finds, if it asks for no more than one value a cell and one more.
+fn checked<C: Curve>(curve: &mut C, peak: &Peak, begin: i64, end: i64) -> Option<PeakVerdict> {
+    if !can_find(curve, begin, end) || !is_small(peak) {
+        return None;
+    }
+    let before = curve.evaluations();
+    let verdict = check_peak(curve, peak, begin, end);
+    let asked = curve.evaluations().saturating_sub(before);
+    (asked <= peak.cells.as_slice().len() as u64 + 1).then_some(verdict)
+}
+
+// Whether the search finds what a look at every minute does, and is accepted.
+fn finds<C: Curve + Drop>(
+    alloc: Global,
+    curve: C,
+    looked: C,
+    begin: i64,
+    end: i64,
+) -> Result<bool, AllocError> {
+    let mut curve = curve;
+    let mut looked = looked;
+    if !can_find(&curve, begin, end) {
+        return Ok(false);
+    }
+    let peak = find_peak(alloc, &mut curve, begin, end)?;
+    Ok(
+        looked_at(&mut looked, begin, end) == Some((peak.at, peak.value))
+            && checked(&mut curve, &peak, begin, end) == Some(PeakVerdict::Accepted),
+    )
+}
+
+fn hills() -> Hills {
+    Hills::new(Top { at: 100, value: 50 }, Top { at: 700, value: 90 }, 1)
+}
+
+// Two tops of the same value, with a greater rate than need be.
+fn equal_hills() -> Hills {
+    Hills::new(Top { at: 100, value: 50 }, Top { at: 600, value: 50 }, 3)
+}
+
+#[test]
+fn laws_and_rows_stand(_rt: HostRuntime) {
+    spans_have_one_highest_water();
+    blocks_are_halved();
+    spans_are_cut_into_blocks();
+    under_cells_hold_nothing_higher();
+    accepted_highest_waters_are_right();
+    covers_are_accepted();
+    agreeing_curves_have_one_highest_water();
+    worked_minutes();
+    worked_cells_under();
+    worked_covers();
+    worked_verdicts();
+}
+
+#[test]
+fn every_minute_agrees(rt: HostRuntime) -> Result<(), AllocError> {
+    let alloc = rt.alloc();
+    let spans = [
+        (0, 1),
+        (0, 1000),
+        (0, 1024),
+        (-5, 1020),
+        (700, 701),
+        (0, 700),
+        (701, 3000),
+        (-4000, 4000),
+    ];
+    for (begin, end) in spans {
+        assert!(rt; finds(alloc, hills(), hills(), begin, end)?);
+        assert!(rt; finds(alloc, equal_hills(), equal_hills(), begin, end)?);
+        let rising = Line::new(1, false, 3);
+        assert!(rt; finds(alloc, rising, Line::new(1, false, 3), begin, end)?);
+        let falling = Line::new(1, true, 1);
+        assert!(rt; finds(alloc, falling, Line::new(1, true, 1), begin, end)?);
+        assert!(rt; finds(alloc, Ripple::new(), Ripple::new(), begin, end)?);
+    }
+    Ok(())
+}
+
+// How many values a search asks for.
+fn asked<C: Curve + Drop>(
+    alloc: Global,
+    curve: C,
+    begin: i64,
+    end: i64,
+) -> Result<Option<u64>, AllocError> {
+    let mut curve = curve;
+    if !can_find(&curve, begin, end) {
+        return Ok(None);
+    }
+    let _peak = find_peak(alloc, &mut curve, begin, end)?;
+    Ok(Some(curve.evaluations()))
+}
+
+// Over some 2,000,000 minutes, which are 1,952 blocks.
+#[test]
+fn few_values_are_asked_for(rt: HostRuntime) -> Result<(), AllocError> {
+    let alloc = rt.alloc();
+    let flat = asked(alloc, equal_hills(), -999_000, 999_000)?;
+    assert!(rt; flat.is_some_and(|count| count < 7000));
+    let rising = asked(alloc, Line::new(0, false, 1), -999_000, 999_000)?;
+    assert!(rt; rising.is_some_and(|count| count < 7000));
+    Ok(())
+}
+
+// Whether the cells of a highest water are these, and the cover asks for no more than one value a cell
+// and one more.
+fn covers<C: Curve + Drop>(
+    alloc: Global,
+    curve: C,
+    begin: i64,
+    end: i64,
+    wanted: &[PeakCell],
+) -> Result<bool, AllocError> {
+    let mut curve = curve;
+    if !can_find(&curve, begin, end) {
+        return Ok(false);
+    }
+    let peak = find_peak(alloc, &mut curve, begin, end)?;
+    if !can_find(&curve, begin, end) {
+        return Ok(false);
+    }
+    let before = curve.evaluations();
+    let cells = peak_cover(alloc, &mut curve, begin, end, peak.at, peak.value)?;
+    let asked = curve.evaluations().saturating_sub(before);
+    Ok(
+        peak.cells.as_slice() == wanted
+            && cells.as_slice() == wanted
+            && asked as usize <= wanted.len() + 1,
+    )
+}
+
+#[test]
+fn covers_are_those_of_the_rule(rt: HostRuntime) -> Result<(), AllocError> {
+    let alloc = rt.alloc();
+    let single = PeakCell::Single;
+    let last = [PeakCell::Under(4), PeakCell::Under(2), single, single];
+    assert!(rt; covers(alloc, Line::new(0, false, 1), 0, 8, &last)?);
+    let longest = [PeakCell::Under(1024), single, single];
+    assert!(rt; covers(alloc, Line::new(0, false, 1), 0, 1026, &longest)?);
+    let odd = [single, single, PeakCell::Under(3)];
+    assert!(rt; covers(alloc, Line::new(0, true, 1), 0, 5, &odd)?);
+    assert!(rt; covers(alloc, Ripple::new(), 4, 6, &[single, single])?);
+    Ok(())
+}
+
+// A highest water of two equal tops, at the minutes 2 and 6, over the minutes from 0 to 8.
+fn verdict(
+    alloc: Global,
+    at: i64,
+    value: i128,
+    cells: &[PeakCell],
+) -> Result<Option<PeakVerdict>, AllocError> {
+    let mut copied = Vec::new(alloc);
+    copied.extend_from_slice(cells)?;
+    let cells = PeakCells::from_vec(copied);
+    let first = Top { at: 2, value: 5 };
+    let second = Top { at: 6, value: 5 };
+    let mut curve = Hills::new(first, second, 1);
+    Ok(checked(&mut curve, &Peak { at, value, cells }, 0, 8))
+}
+
+#[test]
+fn verdicts_are_named(rt: HostRuntime) -> Result<(), AllocError> {
+    let single = PeakCell::Single;
+    let singles = [single; 8];
+    let by_rule = [single, single, single, single, PeakCell::Under(4)];
+    let longest = PeakCell::Under(u32::MAX);
+    let rows: [(i64, i128, &[PeakCell], PeakVerdict); 9] = [
+        (2, 5, &by_rule, PeakVerdict::Accepted),
+        (2, 5, &singles, PeakVerdict::Accepted),
+        (
+            9,
+            5,
+            &[single],
+            PeakVerdict::WrongLength {
+                covered: 1,
+                wanted: 8,
+            },
+        ),
+        (
+            2,
+            5,
+            &[longest, longest],
+            PeakVerdict::WrongLength {
+                covered: 8_589_934_590,
+                wanted: 8,
+            },
+        ),
+        (8, 3, &singles, PeakVerdict::Outside),
+        (
+            2,
+            99,
+            &[PeakCell::Under(2), PeakCell::Under(6)],
+            PeakVerdict::NotUnder { cell: 2 },
+        ),
+        (
+            2,
+            6,
+            &singles,
+            PeakVerdict::WrongValue {
+                written: 6,
+                computed: 5,
+            },
+        ),
+        (6, 5, &singles, PeakVerdict::Above { cell: 3 }),
+        (1, 4, &singles, PeakVerdict::Above { cell: 3 }),
+    ];
+    for (at, value, cells, wanted) in rows {
+        assert_eq!(rt; verdict(rt.alloc(), at, value, cells)?, Some(wanted));
+    }
+    Ok(())
+}
