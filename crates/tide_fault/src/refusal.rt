@@ -10,8 +10,6 @@ use std::alloc::AllocError;
 #[derive(Clone, Copy, Debug)]
 pub enum Refusal {
     NoMemory,
-    /// What is asked isn't built as yet.
-    NotBuilt,
     /// What is given as a certificate is none: its first line with which no certificate goes on.
     NotACertificate { line: u32 },
     /// The file made from a seed isn't of the form: its first line that breaks a rule.
@@ -24,6 +22,8 @@ pub enum Refusal {
     Hydraulic,
     /// The span ends before it begins.
     BackwardSpan,
+    /// The span has no minute, where the highest water of it is asked.
+    EmptySpan,
     /// The span isn't in the file's years: with the file's first minute and the one after its last.
     OutOfYears { first: i64, last: i64 },
     /// The first year in which the amplitudes sum to too much.
