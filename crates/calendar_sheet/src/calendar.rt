@@ -16,7 +16,7 @@ use decimal_text::{Bytes, Text};
 use event_text::{word, write_level};
 use harmonics_text::Units;
 use std::alloc::{AllocError, Global};
-use zone_time::{MINUTES_OF_DAY, Zone, write_clock, write_date};
+use zone_time::{MINUTES_OF_DAY, Zone, ZoneClock, write_clock, write_date};
 
 /// The station's name, and a line such as
 /// `2000-01-10  06:00 -1.00 Low Tide  11:59 1.00 High Tide` for each date in the zone's local time,
@@ -41,10 +41,11 @@ pub fn calendar_text(
     requires forward { begin ≤ℤ end }
     ensures { IfOk result (λ text. text ≡ calendar_text_of name.now units events.now zone.now begin end) }
 {
-    let pages = pages_shown(alloc, events.as_slice(), zone, begin, end)?;
+    let clock = zone.clock();
+    let pages = pages_shown(alloc, events.as_slice(), &clock, begin, end)?;
     let mut text = Vec::from_slice(alloc, name.as_str().as_bytes())?;
     text.push(b'\n')?;
-    push_pages(&mut text, units, pages.as_slice(), zone)?;
+    push_pages(&mut text, units, pages.as_slice(), &clock)?;
     Ok(Bytes::from_vec(text))
 }
 
@@ -52,9 +53,8 @@ fn push_pages(
     text: &mut Vec<u8>,
     units: Units,
     pages: &[Page],
-    zone: &Zone,
+    zone: &ZoneClock<'_>,
 ) -> Result<(), AllocError>
-    requires zone { IsZone zone.now }
     requires days { All (λ page. IsDay page.day) pages.now }
     requires listed { All (λ page. All (IsListed units) page.events) pages.now }
     ensures { OnOk result (text.new.items ≡ text.old.items ++ flat_map (line_of_page zone.now units) pages.now) }
@@ -65,8 +65,12 @@ fn push_pages(
     Ok(())
 }
 
-fn push_page(text: &mut Vec<u8>, units: Units, page: &Page, zone: &Zone) -> Result<(), AllocError>
-    requires zone { IsZone zone.now }
+fn push_page(
+    text: &mut Vec<u8>,
+    units: Units,
+    page: &Page,
+    zone: &ZoneClock<'_>,
+) -> Result<(), AllocError>
     requires day { IsDay page.now.day }
     requires listed { All (IsListed units) page.now.events }
     ensures { OnOk result (text.new.items ≡ text.old.items ++ line_of_page zone.now units page.now) }
@@ -92,9 +96,8 @@ fn push_entry(
     text: &mut Vec<u8>,
     units: Units,
     event: &Event,
-    zone: &Zone,
+    zone: &ZoneClock<'_>,
 ) -> Result<(), AllocError>
-    requires zone { IsZone zone.now }
     requires listed { IsListed units event.now }
     ensures { OnOk result (text.new.items ≡ text.old.items ++ entry_in zone.now units event.now) }
 {

@@ -5,10 +5,10 @@ ghost use Rattle.std.specs.Int.{int_min, int_max};
 ghost use Rattle.calendar_sheet.specs.Calendars.{day_in, event_days, first_day, last_day};
 ghost use Rattle.calendar_sheet.specs.Workings.Dates.{AreDays, IsAmong};
 ghost use Rattle.zone_time.specs.Dates.{IsDay};
-ghost use Rattle.zone_time.specs.Zones.{IsZone, InZoneYears};
+ghost use Rattle.zone_time.specs.Zones.{InZoneYears};
 
 use curve_law::Event;
-use zone_time::{MINUTES_OF_DAY, Zone};
+use zone_time::{MINUTES_OF_DAY, ZoneClock};
 
 /// A stretch of days, by their numbers, where 1970-01-01 is 0. Both ends are included.
 #[derive(Clone, Copy)]
@@ -32,9 +32,8 @@ impl Days {
     }
 
     /// The shortest stretch that has the local date of the event too.
-    fn with_event(self, event: &Event, zone: &Zone) -> Days
+    fn with_event(self, event: &Event, zone: &ZoneClock<'_>) -> Days
         requires days { AreDays self.first self.last }
-        requires zone { IsZone zone.now }
         requires year { InZoneYears event.now.minute }
         ensures exact { result ≡ record { first = int_min self.first (day_in zone.now event.now.minute); last = int_max self.last (day_in zone.now event.now.minute) } }
         ensures days { AreDays result.first result.last }
@@ -43,9 +42,8 @@ impl Days {
     }
 
     /// The shortest stretch that has the local dates of the events too.
-    fn with_events(self, events: &[Event], zone: &Zone) -> Days
+    fn with_events(self, events: &[Event], zone: &ZoneClock<'_>) -> Days
         requires days { AreDays self.first self.last }
-        requires zone { IsZone zone.now }
         requires years { All (λ event. InZoneYears event.minute) events.now }
         ensures exact { result ≡ record { first = fold int_min self.first (event_days zone.now events.now); last = fold int_max self.last (event_days zone.now events.now) } }
         ensures days { AreDays result.first result.last }
@@ -88,8 +86,7 @@ impl Days {
 }
 
 /// The local date of a minute.
-pub fn local_day(zone: &Zone, minute: i64) -> i64
-    requires zone { IsZone zone.now }
+pub fn local_day(zone: &ZoneClock<'_>, minute: i64) -> i64
     requires minute { InZoneYears minute }
     ensures exact { result ≡ day_in zone.now minute }
     ensures day { IsDay result }
@@ -98,8 +95,7 @@ pub fn local_day(zone: &Zone, minute: i64) -> i64
 }
 
 /// The days from the least to the greatest local date of a span, which has a minute, and of events.
-pub fn days_of(events: &[Event], zone: &Zone, begin: i64, end: i64) -> Days
-    requires zone { IsZone zone.now }
+pub fn days_of(events: &[Event], zone: &ZoneClock<'_>, begin: i64, end: i64) -> Days
     requires begin { InZoneYears begin }
     requires end { InZoneYears end }
     requires some { begin <ℤ end }
@@ -112,8 +108,7 @@ pub fn days_of(events: &[Event], zone: &Zone, begin: i64, end: i64) -> Days
 }
 
 /// The days from the local date of one minute to that of another, whichever comes first.
-fn days_between(zone: &Zone, minute: i64, other: i64) -> Days
-    requires zone { IsZone zone.now }
+fn days_between(zone: &ZoneClock<'_>, minute: i64, other: i64) -> Days
     requires minute { InZoneYears minute }
     requires other { InZoneYears other }
     ensures exact { result ≡ record { first = int_min (day_in zone.now minute) (day_in zone.now other); last = int_max (day_in zone.now minute) (day_in zone.now other) } }

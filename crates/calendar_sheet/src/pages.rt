@@ -4,24 +4,23 @@ ghost use Rattle.std.specs.Prelude.{◌≡◌, pos, ◌-ℤ◌, ◌≤ℤ◌, Al
 ghost use Rattle.calendar_sheet.specs.Calendars.{day_in, days_shown, days_through};
 ghost use Rattle.calendar_sheet.specs.Workings.Dates.{AreDays, IsAmong, empty_page, page_of, pages_of};
 ghost use Rattle.zone_time.specs.Dates.{IsDay};
-ghost use Rattle.zone_time.specs.Zones.{IsZone, InZoneYears};
+ghost use Rattle.zone_time.specs.Zones.{InZoneYears};
 
 use crate::days::{Days, days_of, local_day};
 use crate::page::Page;
 use curve_law::Event;
 use std::alloc::{AllocError, Global};
-use zone_time::Zone;
+use zone_time::ZoneClock;
 
 /// A page for each date from the least to the greatest one of a span and of events, with the events
 /// on it. An empty span has no page. Each event is gone over twice.
 pub fn pages_shown(
     alloc: Global,
     events: &[Event],
-    zone: &Zone,
+    zone: &ZoneClock<'_>,
     begin: i64,
     end: i64,
 ) -> Result<Vec<Page>, AllocError>
-    requires zone { IsZone zone.now }
     requires years { All (λ event. InZoneYears event.minute) events.now }
     requires begin { InZoneYears begin }
     requires end { InZoneYears end }
@@ -40,10 +39,9 @@ pub fn pages_shown(
 fn pages_of(
     alloc: Global,
     events: &[Event],
-    zone: &Zone,
+    zone: &ZoneClock<'_>,
     days: Days,
 ) -> Result<Vec<Page>, AllocError>
-    requires zone { IsZone zone.now }
     requires days { AreDays days.first days.last }
     requires years { All (λ event. InZoneYears event.minute) events.now }
     requires among { All (IsAmong zone.now days.first days.last) events.now }
@@ -70,8 +68,7 @@ fn empty_pages(alloc: Global, days: Days) -> Result<Vec<Page>, AllocError>
 }
 
 /// How many days after the first one an event's date comes.
-fn place_of(event: &Event, zone: &Zone, days: Days) -> usize
-    requires zone { IsZone zone.now }
+fn place_of(event: &Event, zone: &ZoneClock<'_>, days: Days) -> usize
     requires days { AreDays days.first days.last }
     requires year { InZoneYears event.now.minute }
     requires among { IsAmong zone.now days.first days.last event.now }

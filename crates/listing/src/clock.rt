@@ -12,7 +12,7 @@ use decimal_text::{Bytes, Text};
 use event_text::height_line;
 use harmonics_text::Units;
 use std::alloc::{AllocError, Global};
-use zone_time::Zone;
+use zone_time::{Zone, ZoneClock};
 
 /// The station's name, a line such as `Now 2000-01-10 03:00 UTC       0.00 feet  Falling`, and the
 /// line of each event, as [`event_line`](crate::event_line) has it.
@@ -35,9 +35,10 @@ pub fn clock_text(
     requires listed { All (IsListed units) events.now }
     ensures { IfOk result (λ text. text ≡ clock_text_of name.now units now level rising events.now zone.now) }
 {
+    let clock = zone.clock();
     let mut text = name_line(alloc, name)?;
-    push_now(&mut text, units, now, level, rising, zone)?;
-    push_events(&mut text, units, events.as_slice(), zone)?;
+    push_now(&mut text, units, now, level, rising, &clock)?;
+    push_events(&mut text, units, events.as_slice(), &clock)?;
     Ok(Bytes::from_vec(text))
 }
 
@@ -47,9 +48,8 @@ fn push_now(
     now: i64,
     level: i64,
     rising: bool,
-    zone: &Zone,
+    zone: &ZoneClock<'_>,
 ) -> Result<(), AllocError>
-    requires zone { IsZone zone.now }
     requires now { InZoneYears now }
     ensures { OnOk result (text.new.items ≡ text.old.items ++ now_line_of zone.now units now level rising) }
 {

@@ -14,7 +14,7 @@ use decimal_text::{Bytes, Text};
 use event_text::{event_line, height_line};
 use harmonics_text::Units;
 use std::alloc::{AllocError, Global};
-use zone_time::Zone;
+use zone_time::{Zone, ZoneClock};
 
 /// The station's name, and the line of each event in the zone's local time, as [`event_line`] has it.
 ///
@@ -33,7 +33,7 @@ pub fn plain_events(
     ensures { IfOk result (λ text. text ≡ plain_events_of name.now units events.now zone.now) }
 {
     let mut text = name_line(alloc, name)?;
-    push_events(&mut text, units, events.as_slice(), zone)?;
+    push_events(&mut text, units, events.as_slice(), &zone.clock())?;
     Ok(Bytes::from_vec(text))
 }
 
@@ -51,9 +51,10 @@ pub fn plain_heights(
     requires listed { All (λ row. InZoneYears row.minute) rows.now }
     ensures { IfOk result (λ text. text ≡ plain_heights_of name.now units rows.now zone.now) }
 {
+    let clock = zone.clock();
     let mut text = name_line(alloc, name)?;
     for row in rows.as_slice() {
-        push_row(&mut text, units, row, zone)?;
+        push_row(&mut text, units, row, &clock)?;
     }
     Ok(Bytes::from_vec(text))
 }
@@ -72,9 +73,8 @@ pub(crate) fn push_events(
     text: &mut Vec<u8>,
     units: Units,
     events: &[Event],
-    zone: &Zone,
+    zone: &ZoneClock<'_>,
 ) -> Result<(), AllocError>
-    requires zone { IsZone zone.now }
     requires listed { All (IsListed units) events.now }
     ensures { OnOk result (text.new.items ≡ text.old.items ++ flat_map (event_line_in zone.now units) events.now) }
 {
@@ -88,9 +88,8 @@ fn push_event(
     text: &mut Vec<u8>,
     units: Units,
     event: &Event,
-    zone: &Zone,
+    zone: &ZoneClock<'_>,
 ) -> Result<(), AllocError>
-    requires zone { IsZone zone.now }
     requires listed { IsListed units event.now }
     ensures { OnOk result (text.new.items ≡ text.old.items ++ event_line_in zone.now units event.now) }
 {
@@ -100,8 +99,12 @@ fn push_event(
     text.extend_from_slice(line.as_str().as_bytes())
 }
 
-fn push_row(text: &mut Vec<u8>, units: Units, row: &Row, zone: &Zone) -> Result<(), AllocError>
-    requires zone { IsZone zone.now }
+fn push_row(
+    text: &mut Vec<u8>,
+    units: Units,
+    row: &Row,
+    zone: &ZoneClock<'_>,
+) -> Result<(), AllocError>
     requires minute { InZoneYears row.now.minute }
     ensures { OnOk result (text.new.items ≡ text.old.items ++ row_line_in zone.now units row.now) }
 {

@@ -18,7 +18,7 @@ use decimal_text::{Bytes, Text, write};
 use event_text::{unit_text, word};
 use harmonics_text::Units;
 use std::alloc::{AllocError, Global};
-use zone_time::{Zone, write_moment, write_time};
+use zone_time::{Zone, ZoneClock, write_moment, write_time};
 
 /// A record for each event, after the header `station,moment,local,event,level,units`. The moment is
 /// in universal time, as `2000-01-10T11:59Z`, and the local time is the zone's, as
@@ -38,10 +38,11 @@ pub fn csv_events(
     requires listed { All (IsListed units) events.now }
     ensures { IfOk result (λ text. text ≡ csv_events_of name.now units events.now zone.now) }
 {
+    let clock = zone.clock();
     let mut records = new_records(alloc);
     push_event_header(&mut records)?;
     for event in events.as_slice() {
-        push_event(&mut records, name, units, event, zone)?;
+        push_event(&mut records, name, units, event, &clock)?;
     }
     bytes_of(records)
 }
@@ -60,10 +61,11 @@ pub fn csv_heights(
     requires listed { All (λ row. InZoneYears row.minute) rows.now }
     ensures { IfOk result (λ text. text ≡ csv_heights_of name.now units rows.now zone.now) }
 {
+    let clock = zone.clock();
     let mut records = new_records(alloc);
     push_row_header(&mut records)?;
     for row in rows.as_slice() {
-        push_row(&mut records, name, units, row, zone)?;
+        push_row(&mut records, name, units, row, &clock)?;
     }
     bytes_of(records)
 }
@@ -138,8 +140,7 @@ struct Texts {
     level: ArrayString<24>,
 }
 
-fn texts_of(minute: i64, level: i64, zone: &Zone) -> Texts
-    requires zone { IsZone zone.now }
+fn texts_of(minute: i64, level: i64, zone: &ZoneClock<'_>) -> Texts
     requires minute { InZoneYears minute }
     ensures moment { result.moment.bytes ≡ moment_text minute }
     ensures local { result.local.bytes ≡ time_in zone.now minute }
@@ -161,10 +162,9 @@ fn push_event(
     name: &Text,
     units: Units,
     event: &Event,
-    zone: &Zone,
+    zone: &ZoneClock<'_>,
 ) -> Result<(), AllocError>
     requires start { IsAtRecord records.old }
-    requires zone { IsZone zone.now }
     requires listed { IsListed units event.now }
     ensures end { OnOk result (IsAtRecord records.new) }
     ensures bytes { OnOk result (written records.new ≡ written records.old ++ record_of (event_fields name.now units zone.now event.now)) }
@@ -210,10 +210,9 @@ fn push_row(
     name: &Text,
     units: Units,
     row: &Row,
-    zone: &Zone,
+    zone: &ZoneClock<'_>,
 ) -> Result<(), AllocError>
     requires start { IsAtRecord records.old }
-    requires zone { IsZone zone.now }
     requires minute { InZoneYears row.now.minute }
     ensures end { OnOk result (IsAtRecord records.new) }
     ensures bytes { OnOk result (written records.new ≡ written records.old ++ record_of (row_fields name.now units zone.now row.now)) }

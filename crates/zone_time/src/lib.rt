@@ -2,7 +2,7 @@
 //!
 //! A moment is a whole number of minutes since 1970-01-01T00:00Z. [`read_moment`] and
 //! [`write_moment`] go between moments and texts such as `2000-01-10T00:00Z`, by the calendar of
-//! `jiff`. A [`Local`] is what the clock of a [`Zone`] shows at a moment.
+//! `jiff`. A [`Local`] is what the [`ZoneClock`] of a [`Zone`] shows at a moment.
 #![tactic(auto)]
 
 mod dates;
@@ -13,6 +13,7 @@ mod reading;
 mod worked;
 mod writing;
 mod zone;
+mod zone_clock;
 mod zone_fault;
 mod zone_file;
 mod zone_reading;
@@ -25,6 +26,7 @@ pub use reading::read_moment;
 pub use worked::{worked_clocks, worked_locals, worked_readings, worked_texts, worked_zone_files};
 pub use writing::write_moment;
 pub use zone::Zone;
+pub use zone_clock::ZoneClock;
 pub use zone_fault::ZoneFault;
 pub use zone_file::ZoneFile;
 pub use zone_reading::read_zone;

@@ -4,7 +4,8 @@ ghost use Rattle.std.specs.Prelude.{◌≡◌};
 ghost use Rattle.zone_time.specs.Locals.{IsLocal};
 ghost use Rattle.zone_time.specs.Zones.{IsZone, InZoneYears, local_in};
 
-use crate::local::{Label, Local};
+use crate::local::Local;
+use crate::zone_clock::ZoneClock;
 use crate::zone_file::ZoneFile;
 
 /// The zone whose clock shows local times.
@@ -20,26 +21,22 @@ pub enum Zone {
 }
 
 impl Zone {
-    /// What the clock of the zone shows at a minute, counted from 1970-01-01T00:00Z. The minute is
-    /// of the years from 2 to 9300, or of the day before them, and a fixed zone at most 1560 minutes
-    /// from universal time. Seconds are cut off. A label of minutes is the local minute less the
-    /// minute.
+    /// The clock of the zone. A fixed zone is at most 1560 minutes from universal time.
+    pub fn clock(&self) -> ZoneClock<'_>
+        requires { IsZone self.now }
+        ensures { result ≡ self.now }
+    {
+        ZoneClock::new(self)
+    }
+
+    /// What the clock of the zone shows at a minute. A fixed zone is at most 1560 minutes from
+    /// universal time, and the minute is as for [`ZoneClock::local`].
     pub fn local(&self, minute: i64) -> Local
         requires zone { IsZone self.now }
         requires minute { InZoneYears minute }
         ensures exact { result ≡ local_in self.now minute }
         ensures written { IsLocal result }
     {
-        match self {
-            Zone::Utc => Local {
-                minute,
-                label: Label::Utc,
-            },
-            Zone::Fixed(ahead) => Local {
-                minute: minute + i64::from(*ahead),
-                label: Label::Minutes(*ahead),
-            },
-            Zone::File(file) => file.local(minute),
-        }
+        self.clock().local(minute)
     }
 }

@@ -1,0 +1,66 @@
+//! The clock of a zone.
+
+ghost use Rattle.std.specs.Prelude.{◌≡◌};
+ghost use Rattle.zone_time.specs.Locals.{IsLocal};
+ghost use Rattle.zone_time.specs.Zones.{IsZone, InZoneYears, local_in};
+
+use crate::local::{Label, Local};
+use crate::zone::Zone;
+use std::marker::Model;
+
+/// The clock of a zone that is at most 1560 minutes from universal time, if it is a fixed one.
+/// [`Zone::clock`] makes one. Contracts see it as the zone.
+#[derive(Debug, Drop)]
+pub struct ZoneClock<'a> {
+    zone: &'a Zone,
+}
+
+impl<'a> Model for ZoneClock<'a> {
+    ghost use Rattle.zone_time.specs.declared.zone.Zone.{Zone};
+
+    ghost Value = { Zone };
+
+    ghost use Rattle.zone_time.specs.Zones.{IsZone};
+
+    ghost view = { λ clock. clock.zone.now };
+
+    ghost invariant = { λ clock. IsZone clock.zone.now };
+}
+
+impl<'a> ZoneClock<'a> {
+    pub(crate) fn new(zone: &'a Zone) -> ZoneClock<'a>
+        requires { IsZone zone.now }
+        ensures { result ≡ zone.now }
+    {
+        ZoneClock { zone }
+    }
+
+    /// Its zone, lent.
+    pub fn zone(&self) -> &'a Zone
+        ensures exact { result.now ≡ self.now }
+        ensures zone { IsZone result.now }
+    {
+        self.zone
+    }
+
+    /// What the clock shows at a minute, counted from 1970-01-01T00:00Z. The minute is of the years
+    /// from 2 to 9300, or of the day before them. Seconds are cut off. A label of minutes is the
+    /// local minute less the minute.
+    pub fn local(&self, minute: i64) -> Local
+        requires { InZoneYears minute }
+        ensures exact { result ≡ local_in self.now minute }
+        ensures written { IsLocal result }
+    {
+        match self.zone {
+            Zone::Utc => Local {
+                minute,
+                label: Label::Utc,
+            },
+            Zone::Fixed(ahead) => Local {
+                minute: minute + i64::from(*ahead),
+                label: Label::Minutes(*ahead),
+            },
+            Zone::File(file) => file.local(minute),
+        }
+    }
+}
