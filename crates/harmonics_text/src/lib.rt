@@ -2,7 +2,8 @@
 //!
 //! A [`Book`] is the content of one file, after the text files of XTide's tools: the constituents
 //! with their speeds, the equilibrium arguments and node factors of each year, and the stations
-//! with their amplitudes and epochs. [`read_book`] makes it from the file's bytes.
+//! with their amplitudes and epochs. [`read_book`] makes it from the file's bytes. A [`SoundBook`] is
+//! one whose values are known to lie in a file's ranges.
 #![tactic(auto)]
 
 mod book;
@@ -23,6 +24,7 @@ mod progress;
 mod reading;
 mod record;
 mod scale;
+mod sound_book;
 mod table;
 
 pub use book::{Book, Constituent, Station, Units};
@@ -31,3 +33,4 @@ pub use fault::{BookFault, Why};
 pub use laws::{first_faults, worked_files, worked_lines, worked_pieces};
 pub use lists::{Constituents, Stations};
 pub use reading::read_book;
+pub use sound_book::SoundBook;

@@ -66,7 +66,6 @@ fn rows_are_read(rt: HostRuntime) -> Result<(), Fail> {
     assert_eq!(rt; rows[1].name.as_str(), "Outer, east");
     assert_eq!(rt; rows[1].high, Offset::USUAL);
     assert_eq!(rt; OffsetTable::new(alloc).as_slice().len(), 0);
-    assert_eq!(rt; OffsetTable::from_vec(Vec::new(alloc)).as_slice().len(), 0);
     Ok(())
 }
 

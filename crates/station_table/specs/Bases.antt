@@ -1,5 +1,5 @@
 -- What the waters of a name are made of: its own station, or its reference's with offsets (this project).
-use Rattle.std.specs.Prelude.{ℕ, pos, ◌<◌, Bool, ◌&&◌, is_none, position, List, Option, Some, None, Result, Ok, Err, slice_get}
+use Rattle.std.specs.Prelude.{ℕ, pos, ◌<◌, Bool, ◌&&◌, is_none, position, List, Option, Some, None, Result, Ok, slice_get}
 use Rattle.std.specs.Option.{ForSome, ok_or}
 use Rattle.std.specs.Ordering.{int_eq}
 use Rattle.std.specs.Str.{bytes_eq}

@@ -3,14 +3,14 @@
 ghost use Rattle.std.specs.Prelude.{◌≡◌, ◌<◌, IfOk, IfErr, IfSome, length};
 ghost use Rattle.harmonics_text.specs.Books.{IsBook};
 ghost use Rattle.station_table.specs.Bases.{IsBasis, IsFindFault, station_at, row_at, basis_in, basis_over, basis_of};
-ghost use Rattle.station_table.specs.Offsets.{IsTable, IsOffsets};
+ghost use Rattle.station_table.specs.Offsets.{IsOffsets};
 
 use crate::basis::Basis;
 use crate::offset::Offset;
 use crate::offsets::Offsets;
 use crate::table::OffsetTable;
 use decimal_text::Text;
-use harmonics_text::Book;
+use harmonics_text::{Book, SoundBook};
 
 /// Why a name has no basis.
 #[derive(Clone, Copy, Debug, PartialEq, Eq)]
@@ -26,7 +26,6 @@ pub enum FindFault {
 #[tactic(auto, unfolding(crate::specs::Bases::basis_of))]
 pub fn find(book: &Book, table: &OffsetTable, name: &Text) -> Result<Basis, FindFault>
     requires book { IsBook book.now }
-    requires table { IsTable table.now }
     ensures exact { result ≡ basis_of book.now table.now name.now }
     ensures sound { IfOk result (IsBasis (length book.now.stations)) }
     ensures row { IfErr result (IsFindFault (length table.now)) }
@@ -39,35 +38,33 @@ pub fn find(book: &Book, table: &OffsetTable, name: &Text) -> Result<Basis, Find
             low: Offset::USUAL,
             slack: None,
         }),
-        None => find_row(book, table, name),
+        None => find_row(&SoundBook::new(book), table, name),
     }
 }
 
 /// The same by the rows of the table alone.
 #[tactic(auto, unfolding(crate::specs::Bases::basis_in))]
-fn find_row(book: &Book, table: &OffsetTable, name: &Text) -> Result<Basis, FindFault>
-    requires book { IsBook book.now }
-    requires table { IsTable table.now }
+fn find_row(book: &SoundBook<'_>, table: &OffsetTable, name: &Text) -> Result<Basis, FindFault>
     ensures exact { result ≡ basis_in book.now table.now name.now }
     ensures sound { IfOk result (IsBasis (length book.now.stations)) }
     ensures row { IfErr result (IsFindFault (length table.now)) }
 {
-    match row_place(table, name) {
-        Some(row) => basis_over(book, row as u32, &table.as_slice()[row]),
+    let rows = table.as_slice();
+    match row_place(rows, name) {
+        Some(row) => basis_over(book, row as u32, &rows[row]),
         None => Err(FindFault::NoStation),
     }
 }
 
 /// The basis of a row, by its place.
 #[tactic(auto, unfolding(crate::specs::Bases::basis_over))]
-fn basis_over(book: &Book, row: u32, offsets: &Offsets) -> Result<Basis, FindFault>
-    requires book { IsBook book.now }
+fn basis_over(book: &SoundBook<'_>, row: u32, offsets: &Offsets) -> Result<Basis, FindFault>
     requires sound { IsOffsets offsets.now }
     ensures exact { result ≡ basis_over book.now row offsets.now }
     ensures sound { IfOk result (IsBasis (length book.now.stations)) }
     ensures row { IfErr result (λ fault. fault ≡ FindFault.NoReference row) }
 {
-    match station_place(book, &offsets.reference) {
+    match station_place(book.book(), &offsets.reference) {
         Some(station) => Ok(Basis {
             station: station as u32,
             row: Some(row),
@@ -91,12 +88,10 @@ fn station_place(book: &Book, name: &Text) -> Option<usize>
 }
 
 /// The place of the first row of that name.
-fn row_place(table: &OffsetTable, name: &Text) -> Option<usize>
-    ensures exact { result ≡ row_at table.now name.now }
-    ensures place { IfSome result (λ place. place < length table.now) }
+fn row_place(rows: &[Offsets], name: &Text) -> Option<usize>
+    ensures exact { result ≡ row_at rows.now name.now }
+    ensures place { IfSome result (λ place. place < length rows.now) }
 {
-    table
-        .as_slice()
-        .iter()
+    rows.iter()
         .position(|row| row.name.as_str() == name.as_str())
 }

@@ -3,7 +3,7 @@
 ghost use Rattle.std.specs.Prelude.{◌≡◌, ◌≤◌, [], length, IfOk};
 ghost use Rattle.decimal_text.specs.Expected.{Gives};
 ghost use Rattle.csv.specs.Records.{fields_of};
-ghost use Rattle.station_table.specs.Offsets.{IsOffsets, IsTable};
+ghost use Rattle.station_table.specs.Offsets.{IsOffsets};
 ghost use Rattle.station_table.specs.Reasons.{wants_memory};
 ghost use Rattle.station_table.specs.Table.{at_row, offsets_of, table_of};
 ghost use Rattle.station_table.specs.Workings.Records.{HasGiven};
@@ -30,8 +30,7 @@ use std::alloc::Global;
 /// with the first reason; only want of memory may come in its place.
 pub fn read_offsets(alloc: Global, bytes: &[u8]) -> Result<OffsetTable, OffsetFault>
     requires { length bytes.now ≤ MOST_BYTES }
-    ensures exact { Gives wants_memory (table_of bytes.now) result }
-    ensures sound { IfOk result IsTable }
+    ensures { Gives wants_memory (table_of bytes.now) result }
 {
     let mut records = records_of(alloc, bytes);
     let header = match records.next() {

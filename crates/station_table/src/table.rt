@@ -1,12 +1,14 @@
 //! The list of a table's rows.
 
-ghost use Rattle.std.specs.Prelude.{◌≡◌, [], ◌∷◌, ◌++◌, OnOk};
+ghost use Rattle.std.specs.Prelude.{◌≡◌, ◌+◌, ◌^◌, ◌<◌, [], ◌∷◌, ◌++◌, length, OnOk};
+ghost use Rattle.station_table.specs.Offsets.{IsOffsets, IsTable};
 
 use crate::offsets::Offsets;
 use std::alloc::{AllocError, Global};
 use std::marker::Model;
 
-/// Stations that follow reference stations, in the file's order.
+/// Stations that follow reference stations, in the file's order: fewer than 2^32, whose fields lie
+/// in their ranges.
 #[derive(Debug, Drop)]
 pub struct OffsetTable {
     rows: Vec<Offsets>,
@@ -18,7 +20,11 @@ impl Model for OffsetTable {
 
     ghost Value = { List Offsets };
 
+    ghost use Rattle.station_table.specs.Offsets.{IsTable};
+
     ghost view = { λ t. t.rows.items };
+
+    ghost invariant = { λ t. IsTable t.rows.items };
 }
 
 impl OffsetTable {
@@ -31,15 +37,10 @@ impl OffsetTable {
         }
     }
 
-    /// The table of a vector's rows. It takes no memory.
-    pub fn from_vec(rows: Vec<Offsets>) -> OffsetTable
-        ensures { result ≡ rows.items }
-    {
-        OffsetTable { rows }
-    }
-
     /// Adds a row at the end.
     pub(crate) fn push(&mut self, row: Offsets) -> Result<(), AllocError>
+        requires few { length self.old + 1 < 2 ^ 32 }
+        requires sound { IsOffsets row }
         ensures { OnOk result (self.new ≡ self.old ++ row ∷ []) }
     {
         self.rows.push(row)?;
@@ -48,7 +49,8 @@ impl OffsetTable {
 
     /// The rows, lent.
     pub fn as_slice(&self) -> &[Offsets]
-        ensures { result.now ≡ self.now }
+        ensures exact { result.now ≡ self.now }
+        ensures sound { IsTable self.now }
     {
         self.rows.as_slice()
     }

@@ -1,15 +1,13 @@
 use Rattle.std.proofs.Common.{◌∙◌, [], ◌∷◌, ◌++◌, length-append, sym, refl, arith}
-use Rattle.std.proofs.lemmas.List.Elements.{All-nil, All-push}
 use Rattle.std.proofs.lemmas.Result.{err_from_is_err_and}
 use Rattle.csv.specs.Records.{fields_of}
-use Rattle.station_table.specs.Offsets.{IsOffsets}
 use Rattle.station_table.specs.Table.{offsets_of, rows_from}
 use Rattle.station_table.proofs.RecordLemmas.{given_more, given_all, given_front, given_few}
 use Rattle.station_table.proofs.TableLemmas.{rows_more, rows_count, no_header, bad_header, bad_row, whole_table, certain, excused_row, row_went_well}
 use Rattle.station_table.proofs.reading.read_offsets.Goals as goal
 
-pub returns-in_err-header-in-Some-Ok-clause-exact : goal.returns-in_err-header-in-Some-Ok-clause-exact
-returns-in_err-header-in-Some-Ok-clause-exact c =
+pub returns-in_err-header-in-Some-Ok : goal.returns-in_err-header-in-Some-Ok
+returns-in_err-header-in-Some-Ok c =
     let none = c.records_of-records.ensures in
     let read = rw (c.in-Some-Ok.is, c.in-Some-Ok.field-0-is) at ((c.next.ensures.steps none.turns none.trim).0 none.ready) in
     let names = fields_of c.in-Some-Ok.names in
@@ -18,8 +16,8 @@ returns-in_err-header-in-Some-Ok-clause-exact c =
     let p = err_from_is_err_and c.from_residual.result c.from_residual.ensures.1 in
     rw (p.1, p.2) (certain _ _ (bad_header c.args.bytes.now names records.0 _ records.1 (sym c.header_of.ensures ∙ c.in_err-header-in-Some-Ok.was)))
 
-pub returns-in-None-clause-exact : goal.returns-in-None-clause-exact
-returns-in-None-clause-exact c =
+pub returns-in-None : goal.returns-in-None
+returns-in-None c =
     let none = c.records_of-records.ensures in
     let read = rw c.in-None.is at ((c.next.ensures.steps none.turns none.trim).0 none.ready) in
     no_header c.args.bytes.now (given_all c.args.bytes.now [] c.records_of-records.result c.next.new.self none read)
@@ -37,11 +35,10 @@ loop-record-init c =
       first = sym c.header_of.ensures ∙ c.in_ok-header-in-Some-Ok.was;
       rows = refl;
       number = refl;
-      each = All-nil IsOffsets;
     }
 
-pub returns-in_err-offsets_at-in-Ok-clause-exact : goal.returns-in_err-offsets_at-in-Ok-clause-exact
-returns-in_err-offsets_at-in-Ok-clause-exact c =
+pub returns-in_err-offsets_at-in-Ok : goal.returns-in_err-offsets_at-in-Ok
+returns-in_err-offsets_at-in-Ok c =
     let so_far = c.loop-record.invariant in
     let fields = fields_of c.in-Ok.record in
     let read = rw (c.in-Some.is, c.in-Ok.is) at ((c.next-in-loop-record.ensures.steps so_far.given.turns so_far.given.trim).0 so_far.given.ready) in
@@ -55,6 +52,11 @@ pub overflow_add-row : goal.overflow_add-row
 overflow_add-row c =
     let so_far = c.loop-record.invariant in
     omega (arith, so_far.number, given_few c.args.bytes.now (so_far.names ∷ so_far.seen) c.loop-record.record-iterator so_far.given, c.requires)
+
+pub push-requires-clause-few : goal.push-requires-clause-few
+push-requires-clause-few c =
+    let so_far = c.loop-record.invariant in
+    omega (arith, rows_count c.in_ok-header-in-Some-Ok.header 2 so_far.seen c.loop-record.table so_far.rows, given_few c.args.bytes.now (so_far.names ∷ so_far.seen) c.loop-record.record-iterator so_far.given, c.requires)
 
 pub loop-record-preserved : goal.loop-record-preserved
 loop-record-preserved c =
@@ -70,18 +72,10 @@ loop-record-preserved c =
       first = so_far.first;
       rows = rows_more c.in_ok-header-in-Some-Ok.header 2 so_far.seen c.loop-record.table fields offsets so_far.rows is;
       number = omega (arith, so_far.number, length-append so_far.seen (fields ∷ []));
-      each = All-push IsOffsets c.loop-record.table offsets so_far.each c.in_ok-offsets_at-in-Ok.ensures.sound;
     }
 
-pub returns-clause-exact : goal.returns-clause-exact
-returns-clause-exact c =
+pub returns : goal.returns
+returns c =
     let so_far = c.loop-record.invariant in
     let read = rw c.in-None-record.is at ((c.next-in-loop-record.ensures.steps so_far.given.turns so_far.given.trim).0 so_far.given.ready) in
     whole_table c.args.bytes.now so_far.names c.in_ok-header-in-Some-Ok.header so_far.seen c.loop-record.table (given_all c.args.bytes.now (so_far.names ∷ so_far.seen) c.loop-record.record-iterator c.next-in-loop-record.new.self so_far.given read) so_far.first so_far.rows
-
-pub returns-clause-sound : goal.returns-clause-sound
-returns-clause-sound c =
-    let so_far = c.loop-record.invariant in record {
-      few = omega (arith, rows_count c.in_ok-header-in-Some-Ok.header 2 so_far.seen c.loop-record.table so_far.rows, given_few c.args.bytes.now (so_far.names ∷ so_far.seen) c.loop-record.record-iterator so_far.given, c.requires);
-      each = so_far.each;
-    }

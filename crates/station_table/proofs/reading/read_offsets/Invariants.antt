@@ -1,5 +1,4 @@
-use Rattle.std.proofs.Common.{◌≡◌, ℕ, ◌+◌, List, ◌∷◌, length, Ok, All}
-use Rattle.station_table.specs.Offsets.{IsOffsets}
+use Rattle.std.proofs.Common.{◌≡◌, ℕ, ◌+◌, List, ◌∷◌, length, Ok}
 use Rattle.station_table.specs.Table.{header_of, rows_from}
 use Rattle.station_table.specs.declared.header.Header.{Header}
 use Rattle.station_table.specs.declared.offsets.Offsets.{Offsets}
@@ -14,7 +13,6 @@ pub record IsSoFar (text : List ℕ) (header : Header) (row : ℕ) (table : List
   pub first : header_of names ≡ Ok header
   pub rows : rows_from header 2 seen ≡ Ok table
   pub number : row ≡ 2 + length seen
-  pub each : All IsOffsets table
 
 abbrev pub invariant-loop-record : goal.invariant-loop-record
 invariant-loop-record l = IsSoFar l.fn.bytes l.header l.row l.table l.record-iterator
