@@ -10,7 +10,7 @@ ghost use Rattle.station_curve.specs.Limits.{IsGentle};
 ghost use Rattle.station_table.specs.Bases.{IsBasis, basis_of, is_equal};
 ghost use Rattle.station_table.specs.Offsets.{IsTable};
 ghost use Rattle.tide_fault.specs.Faults.{wants_memory_of_refusal, IsToldRefusal};
-ghost use Rattle.station_span.specs.Sites.{basis_from, site_in, site_at, level_unit, reached, has_minute, has_span, span_in, length_in, mark_in, span_limit, tide_from};
+ghost use Rattle.station_span.specs.Sites.{basis_from, site_in, site_at, lacks_minute, level_unit, moved, reached, has_minute, has_span, span_in, length_in, mark_in, span_limit, tide_from};
 ghost use Rattle.station_span.specs.Workings.Spans.{IsBeside, IsNear, IsNearSpan, HasLevels, IsReached, FindsIn};
 ghost use Rattle.year_blend.specs.Places.{InDomain};
 ghost use Rattle.year_blend.specs.Years.{year_start_of};
@@ -135,6 +135,9 @@ fn check_span(book: &Book, reach: Reach, basis: &Basis, asked: &Asked) -> Result
     if is_backward(asked) {
         return Err(Refusal::BackwardSpan);
     }
+    if lacks_minute(reach, asked) {
+        return Err(Refusal::EmptySpan);
+    }
     let span = reached(reach, basis, asked);
     let first = first_minute(book);
     let last = last_minute(book);
@@ -151,6 +154,13 @@ fn is_backward(asked: &Asked) -> bool
     asked.end < asked.begin
 }
 
+#[tactic(auto, unfolding(crate::specs::Sites::lacks_minute))]
+fn lacks_minute(reach: Reach, asked: &Asked) -> bool
+    ensures { result ≡ lacks_minute reach asked.now.begin asked.now.end }
+{
+    matches!(reach, Reach::Highest) && asked.begin == asked.end
+}
+
 /// The minutes of the reference that are looked at.
 pub fn reached(reach: Reach, basis: &Basis, asked: &Asked) -> Span
     requires offsets { HasOffsets basis.now }
@@ -162,8 +172,24 @@ pub fn reached(reach: Reach, basis: &Basis, asked: &Asked) -> Span
     ensures beside { IsBeside asked.now.begin asked.now.end result }
 {
     match reach {
-        Reach::Levels if basis.equal() => level_span(basis, asked),
-        _ => widened(basis, asked.begin, asked.end),
+        Reach::Events => widened(basis, asked.begin, asked.end),
+        Reach::Levels | Reach::Highest => moved(basis, asked),
+    }
+}
+
+fn moved(basis: &Basis, asked: &Asked) -> Span
+    requires offsets { HasOffsets basis.now }
+    requires near { IsNear asked.now }
+    requires forward { asked.now.begin ≤ℤ asked.now.end }
+    ensures exact { result ≡ moved basis.now asked.now.begin asked.now.end }
+    ensures forward { result.begin ≤ℤ result.end }
+    ensures near { IsNearSpan result }
+    ensures beside { IsBeside asked.now.begin asked.now.end result }
+{
+    if basis.equal() {
+        level_span(basis, asked)
+    } else {
+        widened(basis, asked.begin, asked.end)
     }
 }
 

@@ -1,5 +1,5 @@
 -- What the steps of an answer hand on to each other.
-use Rattle.std.specs.Prelude.{◌≡◌, ℤ, negsuc, pos, ◌-ℤ◌, ◌≤ℤ◌, ◌≤◌, unsigned_abs, length, IsTrue, Result, Ok, Err}
+use Rattle.std.specs.Prelude.{◌≡◌, ℤ, negsuc, pos, ◌-ℤ◌, ◌≤ℤ◌, ◌≤◌, unsigned_abs, length, false, IsTrue, Result, Ok, Err}
 use Rattle.std.specs.Option.{ForSome}
 use Rattle.decimal_text.specs.Expected.{Excused}
 use Rattle.event_list.specs.declared.span.Span.{Span}
@@ -17,7 +17,7 @@ use Rattle.station_span.specs.declared.reach.Reach.{Reach}
 use Rattle.tide_fault.specs.declared.refusal.Refusal.{Refusal}
 use Rattle.station_span.specs.declared.station.Found.{Found}
 use Rattle.tide_fault.specs.Faults.{wants_memory_of_refusal}
-use Rattle.station_span.specs.Sites.{Site, reached, span_limit}
+use Rattle.station_span.specs.Sites.{Site, lacks_minute, reached, span_limit}
 
 -- a span that a question, a certificate or a clock can name
 pub record IsNear (asked : Asked) : Type 0 where
@@ -48,6 +48,7 @@ pub record IsReached (reach : Reach) (book : Book) (basis : Basis) (begin end : 
   pub ends : InDomain book.first_year book.years (reached reach basis begin end).end
   pub near : IsNearSpan (reached reach basis begin end)
   pub beside : IsBeside begin end (reached reach basis begin end)
+  pub some : lacks_minute reach begin end ≡ false
 
 -- any but a hydraulic current has levels
 abbrev pub HasLevels : Units → Type 0
