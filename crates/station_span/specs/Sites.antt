@@ -117,3 +117,12 @@ site_in reach book table name asked = do
   basis ← basis_from (basis_of book table name)
   station ← ok_or (slice_get book.stations basis.station) NoStation
   site_at reach book (record { basis = basis; station = station }) asked
+
+-- the station of a name, where its reference has a curve
+unfoldable pub station_in : Book → List Offsets → List ℕ → Result Site Refusal
+station_in book table name = do
+  basis ← basis_from (basis_of book table name)
+  station ← ok_or (slice_get book.stations basis.station) NoStation
+  units ← level_unit station.units
+  tide ← tide_from (curve_of book station)
+  Ok (record { basis = basis; station = station })

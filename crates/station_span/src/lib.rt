@@ -10,6 +10,7 @@
 mod asked;
 mod curves;
 mod following;
+mod knowing;
 mod levels;
 mod reach;
 mod station;
@@ -20,6 +21,7 @@ pub use curves::{mark_curve, slack_curve, turn_curve};
 pub use following::{
     Listed, find_events, list_station, mark_search, merge_of, slack_search, turn_search,
 };
+pub use knowing::find_known;
 pub use levels::{check_level, is_rising, level_at, worked_levels};
 pub use reach::Reach;
 pub use station::{Found, find_station, reached};

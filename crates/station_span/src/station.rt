@@ -60,7 +60,7 @@ pub fn find_station(
     find_at(alloc, book, reach, basis, station, asked)
 }
 
-fn find_basis(book: &Book, table: &OffsetTable, name: &Text) -> Result<Basis, Refusal>
+pub fn find_basis(book: &Book, table: &OffsetTable, name: &Text) -> Result<Basis, Refusal>
     requires book { IsBook book.now }
     requires table { IsTable table.now }
     ensures exact { result ≡ basis_from (basis_of book.now table.now name.now) }
@@ -102,14 +102,14 @@ fn find_at(
     })
 }
 
-fn station_at(book: &Book, place: u32) -> &Station
+pub fn station_at(book: &Book, place: u32) -> &Station
     requires { place < length book.now.stations }
     ensures { slice_get book.now.stations place ≡ Some result.now }
 {
     &book.stations.as_slice()[place as usize]
 }
 
-fn level_units(units: Units) -> Result<Units, Refusal>
+pub fn level_units(units: Units) -> Result<Units, Refusal>
     ensures exact { result ≡ level_unit units }
     ensures levels { IfOk result HasLevels }
     ensures same { IfOk result (λ same. same ≡ units) }
@@ -248,7 +248,7 @@ fn last_minute(book: &Book) -> i64
     year_start(book.first_year + book.years as i32)
 }
 
-fn curve_at(
+pub fn curve_at(
     alloc: Global,
     book: &Book,
     place: u32,

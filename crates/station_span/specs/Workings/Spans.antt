@@ -79,3 +79,17 @@ pub record IsFound (reach : Reach) (book : Book) (asked : Asked) (site : Site) (
 abbrev pub FindsIn : Reach → Book → Asked → Result Site Refusal → Result Found Refusal → Type 0
 FindsIn reach book asked expected (Ok found) = (site : Site) × (expected ≡ Ok site) × IsFound reach book asked site found
 FindsIn reach book asked expected (Err refusal) = Excused (wants_memory_of_refusal refusal) expected refusal
+
+-- what is known of a site without a span: its curve predicts it
+pub record IsKnown (book : Book) (site : Site) (found : Found) : Type 0 where
+  pub basis : found.basis ≡ site.basis
+  pub sound : IsBasis (length book.stations) found.basis
+  pub units : found.units ≡ site.station.units
+  pub levels : HasLevels found.units
+  pub predicts : Predicts book site.station found.curve
+  pub gentle : IsGentle found.curve
+
+-- the expected site is known, or the expected refusal given
+abbrev pub Knows : Book → Result Site Refusal → Result Found Refusal → Type 0
+Knows book expected (Ok found) = (site : Site) × (expected ≡ Ok site) × IsKnown book site found
+Knows book expected (Err refusal) = Excused (wants_memory_of_refusal refusal) expected refusal
