@@ -1,0 +1,158 @@
+-- A curve that changes by at most its rate in each minute stays under a value that is far enough from the values at both ends.
+use Rattle.std.proofs.Common.{◌≡◌, ◌⊎◌, inl, inr, ⊎_elim, ℕ, zero, suc, ◌+◌, ◌-◌, ◌*◌, ◌≤◌, ◌<◌, nat_le, ℤ, pos, negsuc, ◌+ℤ◌, ◌-ℤ◌, ◌*ℤ◌, ◌≤ℤ◌, ◌<ℤ◌, unsigned_abs, int_lt, int_le, Bool, true, false, ◌&&◌, ◌||◌, Option, Some, None, refl, arith}
+use Rattle.std.proofs.lemmas.Bool.{and_parts}
+use Rattle.std.proofs.lemmas.Bool.Decides.{nat_tests}
+use Rattle.std.proofs.lemmas.Int.{ints}
+use Rattle.curve_law.specs.Meaning.{Meaning, IsSpan, IsRate, IsLawful}
+use Rattle.curve_law.specs.Cover.{most_minutes}
+use Rattle.highest_water.specs.Covers.{stays_below, stays_within, is_under}
+use Rattle.highest_water.specs.Workings.Below.{AreBelow}
+
+-- how far the value is after so many minutes, and before as many
+drift_up : (f : ℤ → ℤ) (a : ℤ) (r n : ℕ) → ((k : ℕ) → k < n → unsigned_abs (f (a +ℤ pos k +ℤ pos 1) -ℤ f (a +ℤ pos k)) ≤ r) → f (a +ℤ pos n) ≤ℤ (f a +ℤ pos (r * n))
+drift_up f a r zero steps = let here : a +ℤ pos 0 ≡ a = omega (arith, ints) in rw here (omega (arith, ints))
+drift_up f a r (suc n) steps =
+    let so_far = drift_up f a r n (λ k h. steps k (omega arith)) in
+    let step = steps n (omega arith) in
+    let there : a +ℤ pos n +ℤ pos 1 ≡ a +ℤ pos (suc n) = omega (arith, ints) in
+    rw (← there) (omega (arith, ints))
+
+drift_down : (f : ℤ → ℤ) (a : ℤ) (r n : ℕ) → ((k : ℕ) → k < n → unsigned_abs (f (a +ℤ pos k +ℤ pos 1) -ℤ f (a +ℤ pos k)) ≤ r) → f a ≤ℤ (f (a +ℤ pos n) +ℤ pos (r * n))
+drift_down f a r zero steps = let here : a +ℤ pos 0 ≡ a = omega (arith, ints) in rw here (omega (arith, ints))
+drift_down f a r (suc n) steps =
+    let so_far = drift_down f a r n (λ k h. steps k (omega arith)) in
+    let step = steps n (omega arith) in
+    let there : a +ℤ pos n +ℤ pos 1 ≡ a +ℤ pos (suc n) = omega (arith, ints) in
+    rw (← there) (omega (arith, ints))
+
+-- the steps of the second part of so many minutes
+later_steps : (f : ℤ → ℤ) (a : ℤ) (r j i : ℕ) → ((k : ℕ) → k < j + i → unsigned_abs (f (a +ℤ pos k +ℤ pos 1) -ℤ f (a +ℤ pos k)) ≤ r) → (k : ℕ) → k < i → unsigned_abs (f (a +ℤ pos j +ℤ pos k +ℤ pos 1) -ℤ f (a +ℤ pos j +ℤ pos k)) ≤ r
+later_steps f a r j i steps k few =
+    let there : a +ℤ pos j +ℤ pos k ≡ a +ℤ pos (j + k) = omega (arith, ints) in
+    rw there (steps (j + k) (omega arith))
+
+-- twice a value inside is at most both values at the ends and the rate times the minutes
+twice-most : (f : ℤ → ℤ) (a : ℤ) (r j i : ℕ) → ((k : ℕ) → k < j + i → unsigned_abs (f (a +ℤ pos k +ℤ pos 1) -ℤ f (a +ℤ pos k)) ≤ r) → (pos 2 *ℤ f (a +ℤ pos j)) ≤ℤ (f a +ℤ f (a +ℤ pos (j + i)) +ℤ pos (r * (j + i)))
+twice-most f a r j i steps =
+    let first = drift_up f a r j (λ k h. steps k (omega arith)) in
+    let second = drift_down f (a +ℤ pos j) r i (later_steps f a r j i steps) in
+    let end : a +ℤ pos j +ℤ pos i ≡ a +ℤ pos (j + i) = omega (arith, ints) in
+    let back = rw end at second in
+    omega (arith, ints)
+
+-- the same by the law of a rate
+rated-most : (c : Meaning) (a : ℤ) (j i : ℕ) (rate : ℤ) → 1 ≤ j + i → IsRate c a (j + i) rate → (pos 2 *ℤ c.track.value (a +ℤ pos j)) ≤ℤ (c.track.value a +ℤ c.track.value (a +ℤ pos (j + i)) +ℤ (rate *ℤ pos (j + i)))
+rated-most c a j i (negsuc r) some is = absurd (let step = is.steps 0 (omega arith) in omega (arith, ints))
+rated-most c a j i (pos r) some is =
+    let steps = λ (k : ℕ) (h : k < j + i). let step = is.steps k h in let s : unsigned_abs (c.track.value (a +ℤ pos k +ℤ pos 1) -ℤ c.track.value (a +ℤ pos k)) ≤ r = omega (arith, ints) in s in
+    twice-most c.track.value a r j i steps
+
+pub int_lt-true : (x y : ℤ) → int_lt x y ≡ true → x <ℤ y
+int_lt-true x y h = grind (arith, ints)
+
+pub int_le-true : (x y : ℤ) → int_le x y ≡ true → x ≤ℤ y
+int_le-true x y h = grind (arith, ints)
+
+no_rate-below : (n : ℕ) (v w value : ℤ) → stays_below None n v w value ≡ true → ⊥
+unfolding stays_below
+no_rate-below n v w value h = cc
+
+no_rate-within : (n : ℕ) (v w value : ℤ) → stays_within None n v w value ≡ true → ⊥
+unfolding stays_within
+no_rate-within n v w value h = cc
+
+rate-below : (rate v w x value : ℤ) (n : ℕ) → (pos 2 *ℤ x) ≤ℤ (v +ℤ w +ℤ (rate *ℤ pos n)) → stays_below (Some rate) n v w value ≡ true → x <ℤ value
+unfolding stays_below
+rate-below rate v w x value n bound stays =
+    let less = int_lt-true (v +ℤ w +ℤ (rate *ℤ pos n)) (pos 2 *ℤ value) stays in
+    omega (arith, ints)
+
+rate-within : (rate v w x value : ℤ) (n : ℕ) → (pos 2 *ℤ x) ≤ℤ (v +ℤ w +ℤ (rate *ℤ pos n)) → stays_within (Some rate) n v w value ≡ true → x ≤ℤ value
+unfolding stays_within
+rate-within rate v w x value n bound stays =
+    let less = int_le-true (v +ℤ w +ℤ (rate *ℤ pos n)) (pos 2 *ℤ value) stays in
+    omega (arith, ints)
+
+-- what a rate says of a minute inside
+inside-most : (c : Meaning) (a : ℤ) (n j : ℕ) (rate : ℤ) → c.rate a n ≡ Some rate → IsLawful c → IsSpan c a n → 2 ≤ n → n ≤ most_minutes → j < n → (pos 2 *ℤ c.track.value (a +ℤ pos j)) ≤ℤ (c.track.value a +ℤ c.track.value (a +ℤ pos n) +ℤ (rate *ℤ pos n))
+inside-most c a n j rate is lawful span two most few =
+    let all : j + (n - j) ≡ n = omega arith in
+    let law = lawful.rates a n rate (record { first = span.first; last = span.last; some = omega arith; few = most }) is in
+    rw all at (rated-most c a j (n - j) rate (omega arith) (rw all law))
+
+below-least : (c : Meaning) (a : ℤ) (n j : ℕ) (value : ℤ) (o : Option ℤ) → c.rate a n ≡ o → IsLawful c → IsSpan c a n → 2 ≤ n → n ≤ most_minutes → j < n → stays_below o n (c.track.value a) (c.track.value (a +ℤ pos n)) value ≡ true → c.track.value (a +ℤ pos j) <ℤ value
+below-least c a n j value None is lawful span two most few stays = absurd (no_rate-below n _ _ value stays)
+below-least c a n j value (Some rate) is lawful span two most few stays =
+    rate-below rate _ _ _ value n (inside-most c a n j rate is lawful span two most few) stays
+
+within-most : (c : Meaning) (a : ℤ) (n j : ℕ) (value : ℤ) (o : Option ℤ) → c.rate a n ≡ o → IsLawful c → IsSpan c a n → 2 ≤ n → n ≤ most_minutes → j < n → stays_within o n (c.track.value a) (c.track.value (a +ℤ pos n)) value ≡ true → c.track.value (a +ℤ pos j) ≤ℤ value
+within-most c a n j value None is lawful span two most few stays = absurd (no_rate-within n _ _ value stays)
+within-most c a n j value (Some rate) is lawful span two most few stays =
+    rate-within rate _ _ _ value n (inside-most c a n j rate is lawful span two most few) stays
+
+two_ways : (p q r s : Bool) → ((p && q) || (r && s)) ≡ true → ((p ≡ true) × (q ≡ true)) ⊎ ((r ≡ true) × (s ≡ true))
+two_ways true true r s h = inl (refl, refl)
+two_ways true false true true h = inr (refl, refl)
+two_ways true false true false h = cc
+two_ways true false false s h = cc
+two_ways false q true true h = inr (refl, refl)
+two_ways false q true false h = cc
+two_ways false q false s h = cc
+
+-- the parts of the test
+pub under-two : (c : Meaning) (at value a : ℤ) (n : ℕ) → is_under c at value a n ≡ true → 2 ≤ n
+unfolding is_under
+under-two c at value a n under = grind (arith, nat_tests)
+
+pub under-few : (c : Meaning) (at value a : ℤ) (n : ℕ) → is_under c at value a n ≡ true → n ≤ most_minutes
+unfolding is_under
+under-few c at value a n under = grind (arith, nat_tests)
+
+-- where it ends by the minute, all that it can hold is less; where it begins after it, nothing is greater
+abbrev EndsBy : Meaning → ℤ → ℤ → ℤ → ℕ → Type 0
+EndsBy c at value a n = (a +ℤ pos n) ≤ℤ at × (stays_below (c.rate a n) n (c.track.value a) (c.track.value (a +ℤ pos n)) value ≡ true)
+
+abbrev BeginsAfter : Meaning → ℤ → ℤ → ℤ → ℕ → Type 0
+BeginsAfter c at value a n = at <ℤ a × (stays_within (c.rate a n) n (c.track.value a) (c.track.value (a +ℤ pos n)) value ≡ true)
+
+under-side : (c : Meaning) (at value a : ℤ) (n : ℕ) → is_under c at value a n ≡ true → EndsBy c at value a n ⊎ BeginsAfter c at value a n
+unfolding is_under
+under-side c at value a n under =
+    let sides = and_parts _ _ under in
+    ⊎_elim
+    (λ by. inl (int_le-true _ _ by.0, by.1))
+    (λ after. inr (int_lt-true _ _ after.0, after.1))
+    (two_ways _ _ _ _ sides.1)
+
+-- a cell that is under doesn't hold the minute
+pub under-beside : (c : Meaning) (at value a : ℤ) (n : ℕ) → is_under c at value a n ≡ true → a ≤ℤ at → (a +ℤ pos n) ≤ℤ at
+under-beside c at value a n under from =
+    elim (under-side c at value a n under) [ inl by ↦ by.0 | inr after ↦ absurd (omega (arith, ints, after.0)) ]
+
+pub under-other : (c : Meaning) (at value a : ℤ) (n : ℕ) → is_under c at value a n ≡ true → a ≤ℤ at → at <ℤ (a +ℤ pos n) → ⊥
+under-other c at value a n under from before =
+    let beside = under-beside c at value a n under from in omega (arith, ints)
+
+-- and no minute in it is higher
+below-of : (c : Meaning) (at value a : ℤ) (n : ℕ) → ((j : ℕ) → j < n → c.track.value (a +ℤ pos j) ≤ℤ value × ((a +ℤ pos j) <ℤ at → c.track.value (a +ℤ pos j) <ℤ value)) → AreBelow c at value a (a +ℤ pos n)
+below-of c at value a n each = record {
+  greatest = λ m from before.
+      let j : a +ℤ pos (unsigned_abs (m -ℤ a)) ≡ m = omega (arith, ints) in
+      rw j at (each (unsigned_abs (m -ℤ a)) (omega (arith, ints))).0;
+  first = λ m from before earlier.
+      let j : a +ℤ pos (unsigned_abs (m -ℤ a)) ≡ m = omega (arith, ints) in
+      (rw j at (each (unsigned_abs (m -ℤ a)) (omega (arith, ints))).1) earlier;
+}
+
+pub under-below : (c : Meaning) (at value a : ℤ) (n : ℕ) → IsLawful c → IsSpan c a n → is_under c at value a n ≡ true → AreBelow c at value a (a +ℤ pos n)
+under-below c at value a n lawful span under = below-of c at value a n (λ j few.
+    let two = under-two c at value a n under in
+    let most = under-few c at value a n under in
+    elim (under-side c at value a n under) [
+      | inl by ↦
+        let less = below-least c a n j value (c.rate a n) refl lawful span two most few by.1 in
+        (omega (arith, ints), λ _. less)
+      | inr after ↦
+        let most = within-most c a n j value (c.rate a n) refl lawful span two most few after.1 in
+        (most, λ earlier. absurd (omega (arith, ints, after.0)))
+    ])

@@ -1,0 +1,228 @@
+-- How the pieces ahead of a walk change, and what they always have.
+use Rattle.std.proofs.Common.{◌≡◌, ℕ, suc, ◌+◌, ◌-◌, ◌*◌, ◌/◌, ◌^◌, ◌≤◌, ◌<◌, min, ℤ, pos, ◌+ℤ◌, ◌-ℤ◌, ◌≤ℤ◌, ◌<ℤ◌, unsigned_abs, false, true, List, [], ◌∷◌, ◌++◌, length, length-append, refl, sym, ap, arith, append_assoc, nat_le, ◌∙◌}
+use Rattle.std.proofs.lemmas.Int.{ints}
+use Rattle.std.proofs.lemmas.Bool.Decides.{nat_tests}
+use Rattle.std.proofs.lemmas.List.{append-nil}
+use Rattle.std.proofs.lemmas.Nat.{pow_pos}
+use Rattle.std.proofs.Math.Nat.{mul-le-mul_left}
+use Rattle.curve_law.specs.declared.point.Point.{Point}
+use Rattle.curve_law.specs.Meaning.{Meaning, IsLawful, IsSpan}
+use Rattle.curve_law.proofs.CoverLemmas.{by_test}
+use Rattle.interval_search.specs.Workings.Ahead.{minutes_to, IsPiece, ArePieces}
+use Rattle.interval_search.proofs.AheadLemmas.{begun-pieces, middle-pieces, waiting-few}
+use Rattle.highest_water.specs.declared.peak_cell.PeakCell.{PeakCell}
+use Rattle.highest_water.specs.declared.peak_cell.PeakCell.TheVariants.{Under, Single}
+use Rattle.highest_water.specs.Covers.{minutes_of, all_minutes, is_under, peak_split, peak_cover}
+use Rattle.highest_water.specs.Workings.Walk.{cells_ahead, Stands, IsRight}
+use Rattle.highest_water.proofs.CoverLemmas.{split-one, split-under, split-halves, cover-none, cover-last, cover-block}
+use Rattle.highest_water.proofs.AcceptedLemmas.{split-whole}
+
+-- ---- a block begun gives the same cells
+
+last-cells : (c : Meaning) (h : Point) (end a b : ℤ) → a <ℤ end → minutes_to a end ≤ 1024 → b ≡ end → peak_split c h.minute h.value a (minutes_to a b) ++ peak_cover c h.minute h.value b (minutes_to b end) ≡ peak_cover c h.minute h.value a (minutes_to a end)
+last-cells c h end a b some few is =
+    let none : minutes_to end end ≡ 0 = omega (arith, ints) in
+    rw (is, none, cover-none c h.minute h.value end, append-nil) (sym (cover-last c h.minute h.value a (minutes_to a end) few))
+
+more-cells : (c : Meaning) (h : Point) (end a b : ℤ) → a <ℤ end → 1024 < minutes_to a end → b ≡ a +ℤ pos 1024 → peak_split c h.minute h.value a (minutes_to a b) ++ peak_cover c h.minute h.value b (minutes_to b end) ≡ peak_cover c h.minute h.value a (minutes_to a end)
+more-cells c h end a b some many is =
+    let block : minutes_to a (a +ℤ pos 1024) ≡ 1024 = omega (arith, ints) in
+    let rest : minutes_to (a +ℤ pos 1024) end ≡ minutes_to a end - 1024 = omega (arith, ints) in
+    rw (is, block, rest) (sym (cover-block c h.minute h.value a (minutes_to a end) many))
+
+begun-cells : (c : Meaning) (h : Point) (end a : ℤ) (p : Point) → a <ℤ end → p.minute ≡ a +ℤ pos (min (minutes_to a end) 1024) → cells_ahead c h end a (p ∷ []) ≡ cells_ahead c h end a []
+unfolding cells_ahead
+begun-cells c h end a p some is = by_test (nat_le (minutes_to a end) 1024)
+    (λ last. let few : minutes_to a end ≤ 1024 = grind (arith, nat_tests) in last-cells c h end a p.minute some few (omega (arith, ints)))
+    (λ more. let many : 1024 < minutes_to a end = grind (arith, nat_tests) in more-cells c h end a p.minute some many (omega (arith, ints)))
+
+-- as a call tells it
+pub begun-ahead : (c : Meaning) (end a b : ℤ) (p : Point) (old new : List Point) → a <ℤ end → b ≡ a +ℤ pos (min (minutes_to a end) 1024) → p ≡ record { minute = b; value = c.track.value b } → old ≡ [] → new ≡ [] → (h : Point) → cells_ahead c h end a (p ∷ new) ≡ cells_ahead c h end a old
+begun-ahead c end a b p old new some is point empty none h =
+    let q : Point = record { minute = b; value = c.track.value b } in
+    rw (point, empty, none) (begun-cells c h end a q some is)
+
+pub begun-stands : (c : Meaning) (count more : ℕ) (end : ℤ) (at : Point) (b : ℤ) (p : Point) (old new : List Point) → at.minute <ℤ end → b ≡ at.minute +ℤ pos (min (minutes_to at.minute end) 1024) → p ≡ record { minute = b; value = c.track.value b } → more ≡ count + 1 → old ≡ [] → new ≡ [] → Stands c count end at old → Stands c more end at (p ∷ new)
+begun-stands c count more end at b p old new some is point counted empty none stands =
+    let q : Point = record { minute = b; value = c.track.value b } in
+    let few = (rw empty at stands).few in
+    rw (point, counted, none) (record {
+      value = stands.value;
+      first = stands.first;
+      last = stands.last;
+      pieces = begun-pieces c end at.minute q some is refl;
+      few = omega arith;
+    })
+
+-- ---- the nearest piece, and what is halved of it
+
+piece-parts : (c : Meaning) (end a : ℤ) (p : Point) (ps : List Point) → ArePieces c end a (p ∷ ps) → (a <ℤ p.minute) × (minutes_to a p.minute * 2 ^ length ps ≤ 1024) × (p.value ≡ c.track.value p.minute) × ArePieces c end p.minute ps
+unfolding ArePieces
+piece-parts c end a p ps pieces = pieces
+
+pub pieces-end : (c : Meaning) (end a : ℤ) (ps : List Point) → ArePieces c end a ps → a ≤ℤ end
+unfolding ArePieces
+pieces-end c end a [] pieces = pieces
+pieces-end c end a (p ∷ ps) pieces =
+    let some = pieces.0 in
+    let rest = pieces-end c end p.minute ps pieces.3 in
+    omega (arith, ints)
+
+one_or_more : (k n : ℕ) → n * 2 ^ k ≤ 1024 → n ≤ 1024
+one_or_more k n few = let p = pow_pos k in let q = mul-le-mul_left n p in omega (arith, q)
+
+-- what lies ahead of a point to the nearest one
+pub nearest-piece : (c : Meaning) (count : ℕ) (end : ℤ) (at p : Point) (ps : List Point) → Stands c count end at (p ∷ ps) → IsPiece c at p
+nearest-piece c count end at p ps stands =
+    let parts = piece-parts c end at.minute p ps stands.pieces in
+    let few = one_or_more (length ps) (minutes_to at.minute p.minute) parts.1 in
+    let some = parts.0 in
+    let rest = pieces-end c end p.minute ps parts.3 in
+    let last = stands.last in
+    record {
+      first = stands.first;
+      last = omega (arith, ints);
+      some = some;
+      few = omega (arith, ints);
+      value = stands.value;
+      end_value = parts.2;
+    }
+
+-- few enough values were asked for one more
+pub asked-few : (c : Meaning) (count : ℕ) (end : ℤ) (at p : Point) (ps : List Point) → Stands c count end at (p ∷ ps) → count < 2 ^ 63
+asked-few c count end at p ps stands =
+    let few = stands.few in
+    let waiting = waiting-few c end at.minute p ps stands.pieces in
+    omega arith
+
+-- halves instead of their whole
+halved-cells : (c : Meaning) (h : Point) (a m b : ℤ) (rest : List PeakCell) → a <ℤ b → 2 ≤ minutes_to a b → is_under c h.minute h.value a (minutes_to a b) ≡ false → m ≡ a +ℤ pos (minutes_to a b / 2) → peak_split c h.minute h.value a (minutes_to a m) ++ (peak_split c h.minute h.value m (minutes_to m b) ++ rest) ≡ peak_split c h.minute h.value a (minutes_to a b) ++ rest
+halved-cells c h a m b rest some two other is =
+    let first : minutes_to a m ≡ minutes_to a b / 2 = omega (arith, ints) in
+    let second : minutes_to m b ≡ minutes_to a b - minutes_to a b / 2 = omega (arith, ints) in
+    rw (first, second, is, split-halves c h.minute h.value a (minutes_to a b) two other) (sym (append_assoc (peak_split c h.minute h.value a (minutes_to a b / 2)) (peak_split c h.minute h.value (a +ℤ pos (minutes_to a b / 2)) (minutes_to a b - minutes_to a b / 2)) rest))
+
+pub middle-cells : (c : Meaning) (h : Point) (end a : ℤ) (m p : Point) (ps : List Point) → a <ℤ p.minute → 2 ≤ minutes_to a p.minute → is_under c h.minute h.value a (minutes_to a p.minute) ≡ false → m.minute ≡ a +ℤ pos (minutes_to a p.minute / 2) → cells_ahead c h end a (m ∷ p ∷ ps) ≡ cells_ahead c h end a (p ∷ ps)
+unfolding cells_ahead
+middle-cells c h end a m p ps some two other is = halved-cells c h a m.minute p.minute (cells_ahead c h end p.minute ps) some two other is
+
+pub middle-stands : (c : Meaning) (count : ℕ) (end : ℤ) (at m p : Point) (ps : List Point) → Stands c count end at (p ∷ ps) → 2 ≤ minutes_to at.minute p.minute → m.minute ≡ at.minute +ℤ pos (minutes_to at.minute p.minute / 2) → m.value ≡ c.track.value m.minute → Stands c (count + 1) end at (m ∷ p ∷ ps)
+middle-stands c count end at m p ps stands two is value =
+    let few = stands.few in
+    record {
+      value = stands.value;
+      first = stands.first;
+      last = stands.last;
+      pieces = middle-pieces c end at.minute m p ps stands.pieces two is value;
+      few = omega arith;
+    }
+
+-- ---- a walk that begins, and one that is done
+
+pub first-stands : (c : Meaning) (count more : ℕ) (begin end : ℤ) (p : Point) (ps : List Point) → IsLawful c → begin ≤ℤ end → c.first ≤ℤ begin → end ≤ℤ c.last → count ≤ 2 ^ 62 + 2 ^ 60 → more ≡ count + 1 → p ≡ record { minute = begin; value = c.track.value begin } → ps ≡ [] → Stands c more end p ps
+unfolding ArePieces
+first-stands c count more begin end p ps lawful forward first last few counted is none =
+    let early = lawful.early in
+    let late = lawful.late in
+    rw (is, none, counted) (record { value = refl; first = first; last = last; pieces = forward; few = omega (arith, ints) })
+
+pub first-cells : (c : Meaning) (begin end : ℤ) (p : Point) (ps : List Point) → p ≡ record { minute = begin; value = c.track.value begin } → ps ≡ [] → (h : Point) → cells_ahead c h end p.minute ps ≡ peak_cover c h.minute h.value begin (minutes_to begin end)
+unfolding cells_ahead
+first-cells c begin end p ps is none h = rw (is, none) refl
+
+pub done-waiting : (c : Meaning) (end a : ℤ) (ps : List Point) → ArePieces c end a ps → a ≡ end → ps ≡ []
+unfolding ArePieces
+done-waiting c end a [] pieces done = refl
+done-waiting c end a (p ∷ ps) pieces done =
+    let some = pieces.0 in
+    let rest = pieces-end c end p.minute ps pieces.3 in
+    absurd (omega (arith, ints))
+
+done-none : (c : Meaning) (h : Point) (end a : ℤ) → a ≡ end → cells_ahead c h end a [] ≡ []
+unfolding cells_ahead
+done-none c h end a done =
+    let none : minutes_to end end ≡ 0 = omega (arith, ints) in rw (done, none) (cover-none c h.minute h.value end)
+
+pub done-cells : (c : Meaning) (h : Point) (end a : ℤ) (ps : List Point) → ArePieces c end a ps → a ≡ end → cells_ahead c h end a ps ≡ []
+done-cells c h end a ps pieces done = rw (done-waiting c end a ps pieces done) (done-none c h end a done)
+
+-- ---- a cell is given
+
+-- the one cell of a piece has its minutes
+cell-minutes : (c : Meaning) (h : Point) (a b : ℤ) (cell : PeakCell) → a <ℤ b → peak_split c h.minute h.value a (minutes_to a b) ≡ cell ∷ [] → b ≡ a +ℤ pos (minutes_of cell)
+unfolding all_minutes
+cell-minutes c h a b cell some one =
+    let whole = (split-whole c h.minute h.value a (minutes_to a b) (omega (arith, ints))).whole in
+    let same = rw one at whole in
+    omega (arith, ints)
+
+one-cell : (x y : PeakCell) (xs : List PeakCell) → x ∷ [] ≡ y ∷ xs → y ≡ x
+one-cell x y xs e = cc
+
+two-cells : (xs ys : List PeakCell) (cell : PeakCell) → 1 ≤ length xs → 1 ≤ length ys → xs ++ ys ≡ cell ∷ [] → ⊥
+two-cells xs ys cell first second e =
+    let both = ap length e in omega (arith, length-append xs ys, both)
+
+some-cells : (n : ℕ) (cells : List PeakCell) → 1 ≤ n → all_minutes cells ≡ n → 1 ≤ length cells
+unfolding all_minutes
+some-cells n [] some whole = absurd (omega arith)
+some-cells n (cell ∷ cells) some whole = omega arith
+
+split-some : (c : Meaning) (at value a : ℤ) (n : ℕ) → 1 ≤ n → 1 ≤ length (peak_split c at value a n)
+split-some c at value a n some = some-cells n (peak_split c at value a n) some (split-whole c at value a n some).whole
+
+-- and it is right
+under-right : (c : Meaning) (h : Point) (a : ℤ) (n : ℕ) (cell : PeakCell) → is_under c h.minute h.value a n ≡ true → cell ≡ Under n → IsRight c h a cell
+under-right c h a n cell under is = rw is under
+
+single-right : (c : Meaning) (h : Point) (a : ℤ) (cell : PeakCell) → cell ≡ Single → IsRight c h a cell
+single-right c h a cell is = rw is tt
+
+pub one-right : (c : Meaning) (h : Point) (a : ℤ) (n : ℕ) (cell : PeakCell) → 1 ≤ n → peak_split c h.minute h.value a n ≡ cell ∷ [] → IsRight c h a cell
+one-right c h a n cell some one = by_test (nat_le n 1)
+    (λ single.
+    let e : n ≡ 1 = grind (arith, nat_tests) in
+    single-right c h a cell (one-cell Single cell [] (sym (split-one c h.minute h.value a) ∙ (rw e at one))))
+    (λ more.
+    let two : 2 ≤ n = grind (arith, nat_tests) in
+    by_test (is_under c h.minute h.value a n)
+    (λ under. under-right c h a n cell under (one-cell (Under n) cell [] (sym (split-under c h.minute h.value a n under) ∙ one)))
+    (λ other. absurd (two-cells _ _ cell (split-some c h.minute h.value a (n / 2) (omega arith)) (split-some c h.minute h.value (a +ℤ pos (n / 2)) (n - n / 2) (omega arith)) (sym (split-halves c h.minute h.value a n two other) ∙ one))))
+
+pub given-cells : (c : Meaning) (h : Point) (end a : ℤ) (p : Point) (ps : List Point) (cell : PeakCell) → peak_split c h.minute h.value a (minutes_to a p.minute) ≡ cell ∷ [] → cells_ahead c h end a (p ∷ ps) ≡ cell ∷ cells_ahead c h end p.minute ps
+unfolding cells_ahead
+given-cells c h end a p ps cell one = rw one refl
+
+pub given-onward : (c : Meaning) (h : Point) (count : ℕ) (end : ℤ) (at p : Point) (ps : List Point) (cell : PeakCell) → Stands c count end at (p ∷ ps) → peak_split c h.minute h.value at.minute (minutes_to at.minute p.minute) ≡ cell ∷ [] → p.minute ≡ at.minute +ℤ pos (minutes_of cell)
+given-onward c h count end at p ps cell stands one =
+    cell-minutes c h at.minute p.minute cell (piece-parts c end at.minute p ps stands.pieces).0 one
+
+pub given-right : (c : Meaning) (h : Point) (count : ℕ) (end : ℤ) (at p : Point) (ps : List Point) (cell : PeakCell) → Stands c count end at (p ∷ ps) → peak_split c h.minute h.value at.minute (minutes_to at.minute p.minute) ≡ cell ∷ [] → IsRight c h at.minute cell
+given-right c h count end at p ps cell stands one =
+    let some = (piece-parts c end at.minute p ps stands.pieces).0 in
+    one-right c h at.minute (minutes_to at.minute p.minute) cell (omega (arith, ints)) one
+
+pub given-stands : (c : Meaning) (count : ℕ) (end : ℤ) (at p : Point) (ps : List Point) → Stands c count end at (p ∷ ps) → Stands c count end p ps
+given-stands c count end at p ps stands =
+    let parts = piece-parts c end at.minute p ps stands.pieces in
+    let some = parts.0 in
+    let first = stands.first in
+    let few = stands.few in
+    let rest = pieces-end c end p.minute ps parts.3 in
+    record {
+      value = parts.2;
+      first = omega (arith, ints);
+      last = stands.last;
+      pieces = parts.3;
+      few = omega (arith, ints);
+    }
+
+-- each piece has a cell of its own
+pub points-few : (c : Meaning) (h : Point) (end a : ℤ) (ps : List Point) → ArePieces c end a ps → length ps ≤ length (cells_ahead c h end a ps)
+unfolding cells_ahead ArePieces
+points-few c h end a [] pieces = omega arith
+points-few c h end a (p ∷ ps) pieces =
+    let some = pieces.0 in
+    let one = split-some c h.minute h.value a (minutes_to a p.minute) (omega (arith, ints)) in
+    let rest = points-few c h end p.minute ps pieces.3 in
+    omega (arith, length-append (peak_split c h.minute h.value a (minutes_to a p.minute)) (cells_ahead c h end p.minute ps))

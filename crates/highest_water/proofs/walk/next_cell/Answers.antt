@@ -1,0 +1,28 @@
+use Rattle.std.proofs.Common.{◌≡◌, length, w64, to_z, of_z, FitsSigned, rules, arith, refl, sym, ap, ◌∙◌}
+use Rattle.std.proofs.lemmas.Int.{to_z-of_z}
+use Rattle.interval_search.proofs.AheadLemmas.{before-end}
+use Rattle.highest_water.proofs.WalkLemmas.{done-waiting, done-cells, given-cells, given-onward, given-right, given-stands, pieces-end}
+use Rattle.highest_water.proofs.walk.next_cell.Goals as goal
+
+pub returns-then-at-end-clause-found : goal.returns-then-at-end-clause-found
+returns-then-at-end-clause-found g c =
+    let at : FitsSigned w64 c.args.walk.now.at.minute = search rules in
+    let end : FitsSigned w64 c.args.walk.now.end = search rules in
+    let same : c.args.walk.now.at.minute ≡ c.args.walk.now.end = sym (to_z-of_z w64 _ at) ∙ ap (to_z w64) c.if-at-end.true ∙ to_z-of_z w64 _ end in
+    let stands = c.requires.stands in
+    (same, done-waiting (g.C.Curve.meaning c.args.curve.now) c.args.walk.now.end c.args.walk.now.at.minute c.args.walk.now.waiting stands.pieces same, done-cells (g.C.Curve.meaning c.args.curve.now) c.args.highest c.args.walk.now.end c.args.walk.now.at.minute c.args.walk.now.waiting stands.pieces same)
+
+pub nearest_end-near-requires-clause-onward : goal.nearest_end-near-requires-clause-onward
+nearest_end-near-requires-clause-onward g c =
+    let end : FitsSigned w64 c.args.walk.now.end = search rules in
+    let onward = before-end (g.C.Curve.meaning c.args.curve.now) c.args.walk.now.end c.args.walk.now.at.minute c.args.walk.now.waiting c.requires.stands.pieces (λ e. c.if-at-end.false (ap (of_z w64) e)) in
+    rw (to_z-of_z w64 c.args.walk.now.end end) onward
+
+pub returns-clause-stands : goal.returns-clause-stands
+returns-clause-stands g c =
+    let end : FitsSigned w64 c.args.walk.now.end = search rules in
+    let stands = simp (to_z-of_z, c.nearest_end-near.ensures.same) at c.nearest_step-step.ensures.stands in
+    given-stands (g.C.Curve.meaning c.args.curve.now) _ c.args.walk.now.end c.args.walk.now.at _ _ stands
+
+pub returns-clause-found : goal.returns-clause-found
+returns-clause-found g c = ?

@@ -1,0 +1,77 @@
+-- The cells that show a highest water: those that the rate keeps under it, and halves down to single minutes elsewhere (this project).
+use Rattle.std.specs.Prelude.{ℕ, zero, suc, ◌+◌, ◌-◌, ◌/◌, ℤ, pos, ◌+ℤ◌, ◌*ℤ◌, int_lt, int_le, nat_le, Bool, true, false, ◌&&◌, ◌||◌, Option, Some, None, List, [], ◌∷◌, ◌++◌}
+use Rattle.curve_law.specs.Meaning.{Meaning}
+use Rattle.curve_law.specs.Cover.{most_minutes}
+use Rattle.highest_water.specs.declared.peak.Peak.{Peak}
+use Rattle.highest_water.specs.declared.peak_cell.PeakCell.{PeakCell}
+use Rattle.highest_water.specs.declared.peak_cell.PeakCell.TheVariants.{Under, Single}
+use Rattle.highest_water.specs.Peaks.{highest_minute}
+
+-- how many minutes a cell has
+abbrev pub minutes_of : PeakCell → ℕ
+minutes_of (Under n) = n
+minutes_of Single = 1
+
+-- how many minutes they have together
+unfoldable pub all_minutes : List PeakCell → ℕ
+all_minutes [] = 0
+all_minutes (cell ∷ cells) = minutes_of cell + all_minutes cells
+
+-- Between two values so many minutes apart a rate leads to half of their sum and of the rate times the minutes at most.
+abbrev pub twice_most : ℤ → ℕ → ℤ → ℤ → ℤ
+twice_most rate n v w = v +ℤ w +ℤ rate *ℤ pos n
+
+-- that is less than a value
+unfoldable pub stays_below : Option ℤ → ℕ → ℤ → ℤ → ℤ → Bool
+stays_below None n v w value = false
+stays_below (Some rate) n v w value = int_lt (twice_most rate n v w) (pos 2 *ℤ value)
+
+-- that is not greater than a value
+unfoldable pub stays_within : Option ℤ → ℕ → ℤ → ℤ → ℤ → Bool
+stays_within None n v w value = false
+stays_within (Some rate) n v w value = int_le (twice_most rate n v w) (pos 2 *ℤ value)
+
+-- A cell of so many minutes from a minute on is under a minute's value: all that it can hold is less, where it ends by that
+-- minute, and is not greater, where it begins after it. A cell that holds the minute is not.
+unfoldable pub is_under : Meaning → ℤ → ℤ → ℤ → ℕ → Bool
+is_under c at value a n =
+    nat_le 2 n && nat_le n most_minutes
+    && ((int_le (a +ℤ pos n) at && stays_below (c.rate a n) n (c.track.value a) (c.track.value (a +ℤ pos n)) value)
+        || (int_lt at a && stays_within (c.rate a n) n (c.track.value a) (c.track.value (a +ℤ pos n)) value))
+
+-- the cells of so many minutes, with as many halvings as are allowed
+unfoldable pub split_within : ℕ → Meaning → ℤ → ℤ → ℤ → ℕ → List PeakCell
+split_within zero c at value a n = []
+split_within (suc halvings) c at value a n =
+    elim (nat_le n 1) [
+      | true ↦ Single ∷ []
+      | false ↦ elim (is_under c at value a n) [
+        | true ↦ Under n ∷ []
+        | false ↦ split_within halvings c at value a (n / 2) ++ split_within halvings c at value (a +ℤ pos (n / 2)) (n - n / 2)
+      ]
+    ]
+
+-- the cells of so many minutes: one that is under, one of a single minute, or those of its two halves, the first the shorter
+unfoldable pub peak_split : Meaning → ℤ → ℤ → ℤ → ℕ → List PeakCell
+peak_split c at value a n = split_within n c at value a n
+
+-- the cells of so many minutes, with as many blocks as are allowed
+unfoldable pub cover_within : ℕ → Meaning → ℤ → ℤ → ℤ → ℕ → List PeakCell
+cover_within zero c at value a n = []
+cover_within (suc blocks) c at value a n =
+    elim (nat_le n most_minutes) [
+      | true ↦ peak_split c at value a n
+      | false ↦ peak_split c at value a most_minutes ++ cover_within blocks c at value (a +ℤ pos most_minutes) (n - most_minutes)
+    ]
+
+-- the cells of a span of so many minutes by the minute and the value of its highest water, in blocks of 1,024 minutes from its
+-- begin on, of which the last may be shorter
+unfoldable pub peak_cover : Meaning → ℤ → ℤ → ℤ → ℕ → List PeakCell
+peak_cover c at value a n = cover_within n c at value a n
+
+-- the highest water of a span of so many minutes, with its cells
+unfoldable pub peak_of : Meaning → ℤ → ℕ → Peak
+peak_of c a n =
+    let at = highest_minute c a n in
+    let value = c.track.value at in
+    record { at = at; value = value; cells = peak_cover c at value a n }

@@ -1,0 +1,31 @@
+-- The highest water of a span: the first of its minutes that has their greatest value (this project).
+use Rattle.std.specs.Prelude.{◌≡◌, ℕ, zero, suc, ◌+◌, ◌≤◌, ℤ, pos, ◌+ℤ◌, ◌≤ℤ◌, ◌<ℤ◌, int_lt, Bool, ◌&&◌, ◌||◌, if◌then◌else◌}
+use Rattle.std.specs.Ordering.{int_eq}
+use Rattle.curve_law.specs.Meaning.{Meaning}
+
+-- the first minute that has the greatest value of all minutes from one on and before another, and that value
+pub record IsHighest (c : Meaning) (begin end at value : ℤ) : Type 0 where
+  pub from : begin ≤ℤ at
+  pub before : at <ℤ end
+  pub has : c.track.value at ≡ value
+  pub greatest : (m : ℤ) → begin ≤ℤ m → m <ℤ end → c.track.value m ≤ℤ value
+  pub first : (m : ℤ) → begin ≤ℤ m → m <ℤ at → c.track.value m <ℤ value
+
+-- beside a minute and its value another minute is higher: its value is greater, or as great and it comes first
+abbrev pub is_higher : ℤ → ℤ → ℤ → ℤ → Bool
+is_higher at value m v = int_lt value v || (int_eq value v && int_lt m at)
+
+-- of two minutes the earlier one, or the later one where its value is greater
+abbrev pub higher_minute : Meaning → ℤ → ℤ → ℤ
+higher_minute c earlier later =
+    if int_lt (c.track.value earlier) (c.track.value later) then later else earlier
+
+-- that minute, by a look at each of so many minutes from a minute on
+unfoldable pub highest_minute : Meaning → ℤ → ℕ → ℤ
+highest_minute c a zero = a
+highest_minute c a (suc n) = higher_minute c (highest_minute c a n) (a +ℤ pos n)
+
+-- two curves say the same of so many minutes: the value at each minute and at their end, and the rate of each cell
+pub record AgreeOnValues (c d : Meaning) (a : ℤ) (n : ℕ) : Type 0 where
+  pub values : (k : ℕ) → k ≤ n → c.track.value (a +ℤ pos k) ≡ d.track.value (a +ℤ pos k)
+  pub rates : (k l : ℕ) → k + l ≤ n → 1 ≤ l → l ≤ 1024 → c.rate (a +ℤ pos k) l ≡ d.rate (a +ℤ pos k) l

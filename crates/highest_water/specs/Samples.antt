@@ -1,0 +1,18 @@
+-- A small curve with two tops, for tests (this project).
+use Rattle.std.specs.Prelude.{ℤ, pos, negsuc, ◌-ℤ◌, unsigned_abs, Some}
+use Rattle.std.specs.Int.{int_max}
+use Rattle.curve_law.specs.declared.kind.Kind.TheVariants.{High, Low}
+use Rattle.curve_law.specs.Meaning.{Meaning}
+
+-- a top at a minute, from which the value falls by 1 each minute to both sides
+abbrev pub hill : ℤ → ℤ → ℤ → ℤ
+hill at top m = top -ℤ pos (unsigned_abs (m -ℤ at))
+
+-- two hills, of which the higher one counts at each minute
+abbrev pub hills : ℤ → ℤ → ℤ → ℤ → ℤ → Meaning
+hills at top other_at other_top rate = record {
+  first = negsuc 999999;
+  last = pos 1000000;
+  track = record { value = λ m. int_max (hill at top m) (hill other_at other_top m); note = λ m. m; rising = Low; falling = High };
+  rate = λ a n. Some rate;
+}

@@ -1,0 +1,4 @@
+pub mod Below
+pub mod Findings
+pub mod SampleLaws
+pub mod Walk

@@ -1,0 +1,40 @@
+-- The curve with two tops is lawful.
+use Rattle.std.specs.Prelude.{◌≡◌, ◌^◌, ◌<◌, ◌≤◌, ℤ, pos, ◌+ℤ◌, ◌-ℤ◌, ◌≤ℤ◌, unsigned_abs, Some}
+use Rattle.std.specs.Int.{int_max}
+use Rattle.std.proofs.Common.{arith}
+use Rattle.std.proofs.lemmas.Int.{ints}
+use Rattle.curve_law.specs.Meaning.{IsMinute, IsLawful}
+use Rattle.highest_water.specs.Samples.{hill, hills}
+
+hill-value : (at top m : ℤ) → unsigned_abs at ≤ 10 ^ 12 → unsigned_abs top ≤ 10 ^ 12 → unsigned_abs m ≤ 10 ^ 6 → unsigned_abs (hill at top m) ≤ 10 ^ 13
+hill-value at top m near low minute = omega (arith, ints)
+
+hill-step : (at top m : ℤ) → unsigned_abs (hill at top (m +ℤ pos 1) -ℤ hill at top m) ≤ 1
+hill-step at top m = omega (arith, ints)
+
+max-value : (x y : ℤ) → unsigned_abs x ≤ 10 ^ 13 → unsigned_abs y ≤ 10 ^ 13 → unsigned_abs (int_max x y) < 10 ^ 37
+max-value x y first second = grind (arith, ints)
+
+max-step : (x y v w : ℤ) → unsigned_abs (x -ℤ v) ≤ 1 → unsigned_abs (y -ℤ w) ≤ 1 → unsigned_abs (int_max x y -ℤ int_max v w) ≤ 1
+max-step x y v w first second = grind (arith, ints)
+
+same_rate : (r s : ℤ) → Some r ≡ Some s → r ≡ s
+same_rate r s e = cc
+
+pub hills-lawful : (at top other_at other_top rate : ℤ) → unsigned_abs at ≤ 10 ^ 12 → unsigned_abs top ≤ 10 ^ 12 → unsigned_abs other_at ≤ 10 ^ 12 → unsigned_abs other_top ≤ 10 ^ 12 → pos 1 ≤ℤ rate → rate ≤ℤ pos (10 ^ 12) → IsLawful (hills at top other_at other_top rate)
+hills-lawful at top other_at other_top rate near low other_near other_low gentle small = record {
+  forward = omega (arith, ints);
+  early = omega (arith, ints);
+  late = omega (arith, ints);
+  values = λ m minute.
+      let first = minute.first in let last = minute.last in
+      max-value _ _ (hill-value at top m near low (omega (arith, ints))) (hill-value other_at other_top m other_near other_low (omega (arith, ints)));
+  rates = λ a n told cell is.
+      let same = same_rate rate told is in
+      record {
+        small = omega (arith, ints);
+        steps = λ k few.
+            let step = max-step _ _ _ _ (hill-step at top (a +ℤ pos k)) (hill-step other_at other_top (a +ℤ pos k)) in
+            omega (arith, ints);
+      };
+}

@@ -1,0 +1,92 @@
+//! The check of a highest water.
+
+ghost use Rattle.std.specs.Prelude.{◌≡◌, ◌+◌, ◌<◌, ◌≤◌, ◌^◌, pos, ◌+ℤ◌, ◌-ℤ◌, ◌≤ℤ◌, unsigned_abs, length};
+ghost use Rattle.curve_law.specs.Meaning.{IsSpan};
+ghost use Rattle.highest_water.specs.declared.verdict.PeakVerdict.{PeakVerdict};
+ghost use Rattle.highest_water.specs.Peaks.{IsHighest};
+ghost use Rattle.highest_water.specs.Covers.{minutes_of, all_minutes};
+ghost use Rattle.highest_water.specs.Verdicts.{cells_verdict, peak_verdict};
+
+use crate::judging::finding_on;
+use crate::lengths::{covered_by, minutes_of};
+use crate::peak::Peak;
+use crate::peak_cell::PeakCell;
+use crate::verdict::PeakVerdict;
+use curve_law::{Curve, Point, point_at};
+
+/// What is found on a highest water that is said to be that of the minutes from `begin` on and before
+/// `end`, which the curve tells: first whether its cells have these minutes, then whether its own
+/// minute is one of them, and then the first cell that is wrong. Where it is accepted, its minute is
+/// the first one that has the greatest value, and its value is that one, whoever wrote it.
+///
+/// The value that is written is below 10^37 in size. There are fewer than 2^32 cells, and with the
+/// values that the curve was asked for at most 2^62. The curve is asked for at most one value a cell
+/// and one more.
+pub fn check_peak<C: Curve>(curve: &mut C, peak: &Peak, begin: i64, end: i64) -> PeakVerdict
+    requires forward { begin ≤ℤ end }
+    requires first { (C.meaning curve.old).first ≤ℤ begin }
+    requires last { end ≤ℤ (C.meaning curve.old).last }
+    requires size { unsigned_abs peak.now.value < 10 ^ 37 }
+    requires few { length peak.now.cells < 2 ^ 32 }
+    requires count { C.count curve.old + length peak.now.cells ≤ 2 ^ 62 }
+    ensures verdict { result ≡ peak_verdict (C.meaning curve.old) begin (unsigned_abs (end -ℤ begin)) peak.now }
+    ensures highest { result ≡ PeakVerdict.Accepted →
+        IsHighest (C.meaning curve.old) begin end peak.now.at peak.now.value }
+    ensures count { C.count curve.new ≤ C.count curve.old + length peak.now.cells + 1 }
+    ensures same { C.meaning curve.new ≡ C.meaning curve.old }
+{
+    let wanted = end - begin;
+    let covered = covered_by(peak.cells.as_slice());
+    if covered != wanted {
+        return PeakVerdict::WrongLength { covered, wanted };
+    }
+    if peak.at < begin || peak.at >= end {
+        return PeakVerdict::Outside;
+    }
+    let highest = Point {
+        minute: peak.at,
+        value: peak.value,
+    };
+    first_finding(curve, highest, peak.cells.as_slice(), begin)
+}
+
+/// The first finding on cells that lie over their minutes from `begin` on, by the highest point that
+/// is written.
+fn first_finding<C: Curve>(
+    curve: &mut C,
+    highest: Point,
+    cells: &[PeakCell],
+    begin: i64,
+) -> PeakVerdict
+    requires size { unsigned_abs highest.value < 10 ^ 37 }
+    requires span { IsSpan (C.meaning curve.old) begin (all_minutes cells.now) }
+    requires few { length cells.now < 2 ^ 32 }
+    requires count { C.count curve.old + length cells.now ≤ 2 ^ 62 }
+    ensures verdict { result ≡ cells_verdict (C.meaning curve.old) highest.minute highest.value begin 1 cells.now }
+    ensures count { C.count curve.new ≤ C.count curve.old + length cells.now + 1 }
+    ensures same { C.meaning curve.new ≡ C.meaning curve.old }
+{
+    let mut at = point_at(curve, begin);
+    let mut number: u32 = 0;
+    for cell in cells {
+        let end = end_of(curve, at.minute, *cell);
+        number += 1;
+        match finding_on(curve, highest, number, *cell, at, end.value) {
+            PeakVerdict::Accepted => at = end,
+            wrong => return wrong,
+        }
+    }
+    PeakVerdict::Accepted
+}
+
+/// The point at which the cell ends that begins at a minute.
+fn end_of<C: Curve>(curve: &mut C, begin: i64, cell: PeakCell) -> Point
+    requires span { IsSpan (C.meaning curve.old) begin (minutes_of cell) }
+    requires few { C.count curve.old < 2 ^ 63 }
+    ensures minute { result.minute ≡ begin +ℤ pos (minutes_of cell) }
+    ensures value { result.value ≡ (C.meaning curve.old).track.value result.minute }
+    ensures counted { C.count curve.new ≡ C.count curve.old + 1 }
+    ensures same { C.meaning curve.new ≡ C.meaning curve.old }
+{
+    point_at(curve, begin + i64::from(minutes_of(cell)))
+}

@@ -1,0 +1,59 @@
+//! The cells that show a highest water.
+
+ghost use Rattle.std.specs.Prelude.{◌≡◌, ◌+◌, ◌^◌, ◌<◌, ◌≤◌, ◌-ℤ◌, ◌≤ℤ◌, unsigned_abs, length, IfOk};
+ghost use Rattle.highest_water.specs.Peaks.{IsHighest};
+ghost use Rattle.highest_water.specs.Covers.{peak_cover};
+
+use crate::peak_cells::PeakCells;
+use crate::walk::{next_cell, walk_from};
+use curve_law::{Curve, Point};
+use std::alloc::{AllocError, Global};
+
+/// The cells that show the highest water of the minutes from `begin` on and before `end`, which the
+/// curve tells. It is at the minute `at`, and `value` is the value there. The curve was asked for at
+/// most 2^62 values, and is asked for at most one a cell and one more.
+pub fn peak_cover<C: Curve>(
+    alloc: Global,
+    curve: &mut C,
+    begin: i64,
+    end: i64,
+    at: i64,
+    value: i128,
+) -> Result<PeakCells, AllocError>
+    requires highest { IsHighest (C.meaning curve.old) begin end at value }
+    requires first { (C.meaning curve.old).first ≤ℤ begin }
+    requires last { end ≤ℤ (C.meaning curve.old).last }
+    requires few { C.count curve.old ≤ 2 ^ 62 }
+    ensures cells { IfOk result (λ cells. cells ≡ peak_cover (C.meaning curve.old) at value begin (unsigned_abs (end -ℤ begin))) }
+    ensures count { C.count curve.new
+        ≤ C.count curve.old + length (peak_cover (C.meaning curve.old) at value begin (unsigned_abs (end -ℤ begin))) + 1 }
+    ensures same { C.meaning curve.new ≡ C.meaning curve.old }
+{
+    cells_by(alloc, curve, begin, end, Point { minute: at, value })
+}
+
+/// The cells of a span by a point, whether or not it is the highest one.
+pub fn cells_by<C: Curve>(
+    alloc: Global,
+    curve: &mut C,
+    begin: i64,
+    end: i64,
+    highest: Point,
+) -> Result<PeakCells, AllocError>
+    requires size { unsigned_abs highest.value < 10 ^ 37 }
+    requires forward { begin ≤ℤ end }
+    requires first { (C.meaning curve.old).first ≤ℤ begin }
+    requires last { end ≤ℤ (C.meaning curve.old).last }
+    requires few { C.count curve.old ≤ 2 ^ 62 + 2 ^ 60 }
+    ensures cells { IfOk result (λ cells. cells ≡ peak_cover (C.meaning curve.old) highest.minute highest.value begin (unsigned_abs (end -ℤ begin))) }
+    ensures count { C.count curve.new
+        ≤ C.count curve.old + length (peak_cover (C.meaning curve.old) highest.minute highest.value begin (unsigned_abs (end -ℤ begin))) + 1 }
+    ensures same { C.meaning curve.new ≡ C.meaning curve.old }
+{
+    let mut walk = walk_from(curve, begin, end);
+    let mut cells = Vec::new(alloc);
+    while let Some(found) = next_cell(curve, &mut walk, highest) {
+        cells.push(found.cell)?;
+    }
+    Ok(PeakCells::from_vec(cells))
+}

@@ -1,0 +1,82 @@
+//! The search for the highest water of a span.
+
+ghost use Rattle.std.specs.Prelude.{◌≡◌, ◌+◌, ◌*◌, ◌^◌, ◌≤◌, pos, ◌-ℤ◌, ◌≤ℤ◌, ◌<ℤ◌, unsigned_abs, IfOk};
+ghost use Rattle.interval_search.specs.Workings.Ahead.{minutes_to};
+ghost use Rattle.highest_water.specs.Peaks.{IsHighest};
+ghost use Rattle.highest_water.specs.Covers.{peak_of};
+ghost use Rattle.highest_water.specs.Workings.Below.{IsPoint};
+
+use crate::covering::cells_by;
+use crate::higher::{higher_of, raised_by};
+use crate::peak::Peak;
+use crate::walk::{next_cell, walk_from};
+use curve_law::{Curve, MOST_MINUTES, Point, point_at};
+use std::alloc::{AllocError, Global};
+
+/// The highest water of the minutes from `begin` on and before `end`, which the curve tells: the first
+/// minute that has their greatest value, that value, and the cells that show it. There is at least one
+/// minute, and there are at most 5,270,400. The curve was asked for at most 2^62 values.
+pub fn find_peak<C: Curve>(
+    alloc: Global,
+    curve: &mut C,
+    begin: i64,
+    end: i64,
+) -> Result<Peak, AllocError>
+    requires some { begin <ℤ end }
+    requires short { (end -ℤ begin) ≤ℤ pos 5270400 }
+    requires first { (C.meaning curve.old).first ≤ℤ begin }
+    requires last { end ≤ℤ (C.meaning curve.old).last }
+    requires few { C.count curve.old ≤ 2 ^ 62 }
+    ensures highest { IfOk result (λ peak. IsHighest (C.meaning curve.old) begin end peak.at peak.value) }
+    ensures peak { IfOk result (λ peak. peak ≡ peak_of (C.meaning curve.old) begin (unsigned_abs (end -ℤ begin))) }
+    ensures same { C.meaning curve.new ≡ C.meaning curve.old }
+{
+    let highest = highest_point(curve, begin, end);
+    let cells = cells_by(alloc, curve, begin, end, highest)?;
+    Ok(Peak {
+        at: highest.minute,
+        value: highest.value,
+        cells,
+    })
+}
+
+/// The point of the highest water. A cell that the curve's rate keeps under the highest point so far
+/// is passed over, so that few values are asked for.
+fn highest_point<C: Curve>(curve: &mut C, begin: i64, end: i64) -> Point
+    requires some { begin <ℤ end }
+    requires short { (end -ℤ begin) ≤ℤ pos 5270400 }
+    requires first { (C.meaning curve.old).first ≤ℤ begin }
+    requires last { end ≤ℤ (C.meaning curve.old).last }
+    requires few { C.count curve.old ≤ 2 ^ 62 }
+    ensures highest { IsHighest (C.meaning curve.old) begin end result.minute result.value }
+    ensures count { C.count curve.new ≤ C.count curve.old + 2 * minutes_to begin end + 2 }
+    ensures same { C.meaning curve.new ≡ C.meaning curve.old }
+{
+    let mut highest = highest_block(curve, begin, end);
+    let mut walk = walk_from(curve, begin, end);
+    while let Some(found) = next_cell(curve, &mut walk, highest) {
+        highest = raised_by(highest, found);
+    }
+    highest
+}
+
+/// The highest of the points at which blocks begin: from it on most cells are low enough to be passed
+/// over.
+fn highest_block<C: Curve>(curve: &mut C, begin: i64, end: i64) -> Point
+    requires some { begin <ℤ end }
+    requires first { (C.meaning curve.old).first ≤ℤ begin }
+    requires last { end ≤ℤ (C.meaning curve.old).last }
+    requires few { C.count curve.old ≤ 2 ^ 62 }
+    ensures point { IsPoint (C.meaning curve.old) begin end result }
+    ensures count { C.count curve.new ≤ C.count curve.old + minutes_to begin end }
+    ensures same { C.meaning curve.new ≡ C.meaning curve.old }
+{
+    let block = i64::from(MOST_MINUTES);
+    let mut highest = point_at(curve, begin);
+    let mut at = begin;
+    while end - at > block {
+        at += block;
+        highest = higher_of(highest, point_at(curve, at));
+    }
+    highest
+}

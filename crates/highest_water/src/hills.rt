@@ -1,0 +1,106 @@
+//! A curve with two tops, for tests.
+
+ghost use Rattle.std.specs.Prelude.{◌≡◌, ◌^◌, ◌≤◌, unsigned_abs, pos, ◌≤ℤ◌};
+
+use curve_law::{Curve, Kind};
+
+/// A top at a minute, from which the value falls by 1 each minute to both sides.
+#[derive(Clone, Copy, Debug)]
+pub struct Top {
+    pub at: i64,
+    pub value: i64,
+}
+
+/// Two tops over the minutes from -1,000,000 to 1,000,000, of which the higher value counts at each
+/// minute. The rate may be greater than it need be.
+#[derive(Debug, Drop)]
+pub struct Hills {
+    first: Top,
+    second: Top,
+    rate: i64,
+    asked: u64,
+    ghost near: { unsigned_abs first.at ≤ 10 ^ 12 },
+    ghost low: { unsigned_abs first.value ≤ 10 ^ 12 },
+    ghost second_near: { unsigned_abs second.at ≤ 10 ^ 12 },
+    ghost second_low: { unsigned_abs second.value ≤ 10 ^ 12 },
+    ghost gentle: { pos 1 ≤ℤ rate },
+    ghost small: { rate ≤ℤ pos (10 ^ 12) },
+}
+
+impl Hills {
+    ghost use Rattle.highest_water.specs.Samples.{hills};
+
+    /// Two tops. No value was asked yet.
+    pub fn new(first: Top, second: Top, rate: i64) -> Hills
+        requires near { unsigned_abs first.at ≤ 10 ^ 12 }
+        requires low { unsigned_abs first.value ≤ 10 ^ 12 }
+        requires second_near { unsigned_abs second.at ≤ 10 ^ 12 }
+        requires second_low { unsigned_abs second.value ≤ 10 ^ 12 }
+        requires gentle { pos 1 ≤ℤ rate }
+        requires small { rate ≤ℤ pos (10 ^ 12) }
+        ensures meaning { ⟦<Hills as Curve>⟧.meaning result ≡ hills first.at first.value second.at second.value rate }
+        ensures count { ⟦<Hills as Curve>⟧.count result ≡ 0 }
+    {
+        Hills {
+            first,
+            second,
+            rate,
+            asked: 0,
+        }
+    }
+}
+
+impl Curve for Hills {
+    ghost use Rattle.highest_water.specs.Samples.{hills};
+    ghost use Rattle.highest_water.specs.Workings.SampleLaws.{hills-lawful};
+
+    ghost meaning = { λ h. hills h.first.at h.first.value h.second.at h.second.value h.rate };
+
+    ghost count = { λ h. h.asked };
+
+    ghost lawful = { λ h. hills-lawful h.first.at h.first.value h.second.at h.second.value h.rate h.near h.low h.second_near h.second_low h.gentle h.small };
+
+    fn first(&self) -> i64 {
+        -1_000_000
+    }
+
+    fn last(&self) -> i64 {
+        1_000_000
+    }
+
+    fn value(&mut self, m: i64) -> i128 {
+        self.asked += 1;
+        i128::from(height(self.first, m).max(height(self.second, m)))
+    }
+
+    fn rate(&self, _a: i64, _n: u32) -> Option<i128> {
+        Some(i128::from(self.rate))
+    }
+
+    fn note(&self, m: i64) -> i64 {
+        m
+    }
+
+    fn rising(&self) -> Kind {
+        Kind::Low
+    }
+
+    fn falling(&self) -> Kind {
+        Kind::High
+    }
+
+    fn evaluations(&self) -> u64 {
+        self.asked
+    }
+}
+
+ghost use Rattle.highest_water.specs.Samples.{hill};
+
+fn height(top: Top, m: i64) -> i64
+    requires near { unsigned_abs top.at ≤ 10 ^ 12 }
+    requires low { unsigned_abs top.value ≤ 10 ^ 12 }
+    requires minute { unsigned_abs m ≤ 10 ^ 6 }
+    ensures { result ≡ hill top.at top.value m }
+{
+    top.value - (m - top.at).abs()
+}

@@ -1,0 +1,71 @@
+//! What is found on one cell.
+
+ghost use Rattle.std.specs.Prelude.{◌≡◌, ◌^◌, ◌<◌, pos, ◌+ℤ◌, unsigned_abs};
+ghost use Rattle.curve_law.specs.Meaning.{IsSpan};
+ghost use Rattle.highest_water.specs.Covers.{minutes_of};
+ghost use Rattle.highest_water.specs.Verdicts.{cell_verdict};
+ghost use Rattle.highest_water.specs.Workings.Findings.{under_finding, single_finding};
+
+use crate::higher::is_higher;
+use crate::peak_cell::PeakCell;
+use crate::under::is_under;
+use crate::verdict::PeakVerdict;
+use curve_law::{Curve, Point};
+
+/// The finding on the cell of a number, which begins at a point, by the value at its end and by the
+/// highest point that is written.
+pub fn finding_on<C: Curve>(
+    curve: &C,
+    highest: Point,
+    number: u32,
+    cell: PeakCell,
+    at: Point,
+    end_value: i128,
+) -> PeakVerdict
+    requires size { unsigned_abs highest.value < 10 ^ 37 }
+    requires span { IsSpan (C.meaning curve.now) at.minute (minutes_of cell) }
+    requires value { at.value ≡ (C.meaning curve.now).track.value at.minute }
+    requires end_value { end_value ≡ (C.meaning curve.now).track.value (at.minute +ℤ pos (minutes_of cell)) }
+    ensures { result ≡ cell_verdict (C.meaning curve.now) highest.minute highest.value at.minute number cell }
+{
+    match cell {
+        PeakCell::Under(minutes) => {
+            under_finding(number, is_under(curve, highest, at, minutes, end_value))
+        }
+        PeakCell::Single => single_finding(highest, number, at),
+    }
+}
+
+fn under_finding(number: u32, is_under: bool) -> PeakVerdict
+    ensures { result ≡ under_finding number is_under }
+{
+    if is_under {
+        PeakVerdict::Accepted
+    } else {
+        PeakVerdict::NotUnder { cell: number }
+    }
+}
+
+/// The finding on a single minute: the highest one has the value that is written, and no other one is
+/// higher.
+fn single_finding(highest: Point, number: u32, at: Point) -> PeakVerdict
+    ensures { result ≡ single_finding highest number at }
+{
+    if at.minute == highest.minute {
+        return value_finding(highest.value, at.value);
+    }
+    if is_higher(highest, at) {
+        return PeakVerdict::Above { cell: number };
+    }
+    PeakVerdict::Accepted
+}
+
+fn value_finding(written: i128, computed: i128) -> PeakVerdict
+    ensures { result ≡ value_finding written computed }
+{
+    if written == computed {
+        PeakVerdict::Accepted
+    } else {
+        PeakVerdict::WrongValue { written, computed }
+    }
+}

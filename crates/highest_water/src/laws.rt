@@ -1,0 +1,81 @@
+//! What follows of highest waters, of their cells, of the curve's law and of verdicts.
+
+ghost use Rattle.std.specs.Prelude.{◌≡◌, ℕ, ◌+◌, ◌-◌, ◌/◌, ◌<◌, ◌≤◌, ℤ, pos, ◌+ℤ◌, ◌*ℤ◌, ◌≤ℤ◌, ◌<ℤ◌, true, false, List, [], ◌∷◌, ◌++◌, length};
+ghost use Rattle.curve_law.specs.Meaning.{Meaning, IsSpan, IsLawful};
+ghost use Rattle.highest_water.specs.declared.peak.Peak.{Peak};
+ghost use Rattle.highest_water.specs.declared.peak_cell.PeakCell.{PeakCell};
+ghost use Rattle.highest_water.specs.declared.verdict.PeakVerdict.{PeakVerdict};
+ghost use Rattle.highest_water.specs.Peaks.{IsHighest, highest_minute, AgreeOnValues};
+ghost use Rattle.highest_water.specs.Covers.{all_minutes, is_under, peak_split, peak_cover, peak_of};
+ghost use Rattle.highest_water.specs.Verdicts.{peak_verdict};
+
+/// A span has one highest water, which a look at each of its minutes finds.
+pub fn spans_have_one_highest_water()
+    ensures some { (c : Meaning) (a : ℤ) (n : ℕ) → 1 ≤ n →
+        IsHighest c a (a +ℤ pos n) (highest_minute c a n) (c.track.value (highest_minute c a n)) }
+    ensures one { (c : Meaning) (begin end at value other_at other_value : ℤ) →
+        IsHighest c begin end at value → IsHighest c begin end other_at other_value →
+        (at ≡ other_at) × (value ≡ other_value) }
+{}
+
+/// The cells of a block: one of a single minute, one that is under, or those of its first half,
+/// rounded down, and of the rest.
+pub fn blocks_are_halved()
+    ensures one_minute { (c : Meaning) (at value a : ℤ) → peak_split c at value a 1 ≡ PeakCell.Single ∷ [] }
+    ensures under { (c : Meaning) (at value a : ℤ) (n : ℕ) → is_under c at value a n ≡ true →
+        peak_split c at value a n ≡ PeakCell.Under n ∷ [] }
+    ensures halves { (c : Meaning) (at value a : ℤ) (n : ℕ) → 2 ≤ n → is_under c at value a n ≡ false →
+        peak_split c at value a n
+        ≡ peak_split c at value a (n / 2) ++ peak_split c at value (a +ℤ pos (n / 2)) (n - n / 2) }
+{}
+
+/// The cells of a span: none, those of its last block of at most 1,024 minutes, or those of a block
+/// of 1,024 minutes and of the rest.
+pub fn spans_are_cut_into_blocks()
+    ensures no_minute { (c : Meaning) (at value a : ℤ) → peak_cover c at value a 0 ≡ [] }
+    ensures last_block { (c : Meaning) (at value a : ℤ) (n : ℕ) → n ≤ 1024 →
+        peak_cover c at value a n ≡ peak_split c at value a n }
+    ensures block { (c : Meaning) (at value a : ℤ) (n : ℕ) → 1024 < n →
+        peak_cover c at value a n
+        ≡ peak_split c at value a 1024 ++ peak_cover c at value (a +ℤ pos 1024) (n - 1024) }
+{}
+
+/// No minute of a cell that is under a minute's value has a greater value, nor as great a one before
+/// that minute; and the cell doesn't hold that minute.
+pub fn under_cells_hold_nothing_higher()
+    ensures greatest { (c : Meaning) (at value a : ℤ) (n : ℕ) → IsLawful c → IsSpan c a n →
+        is_under c at value a n ≡ true → (m : ℤ) → a ≤ℤ m → m <ℤ (a +ℤ pos n) → c.track.value m ≤ℤ value }
+    ensures first { (c : Meaning) (at value a : ℤ) (n : ℕ) → IsLawful c → IsSpan c a n →
+        is_under c at value a n ≡ true → (m : ℤ) → a ≤ℤ m → m <ℤ (a +ℤ pos n) → m <ℤ at →
+        c.track.value m <ℤ value }
+    ensures beside { (c : Meaning) (at value a : ℤ) (n : ℕ) → is_under c at value a n ≡ true →
+        a ≤ℤ at → (a +ℤ pos n) ≤ℤ at }
+{}
+
+/// A highest water that is accepted is that of the span, whoever wrote it.
+pub fn accepted_highest_waters_are_right()
+    ensures { (c : Meaning) (a : ℤ) (n : ℕ) (peak : Peak) → IsLawful c → IsSpan c a n →
+        peak_verdict c a n peak ≡ PeakVerdict.Accepted → IsHighest c a (a +ℤ pos n) peak.at peak.value }
+{}
+
+/// The cells of a span by the rule have its minutes, at most one cell a minute. With them the span's
+/// highest water is accepted.
+pub fn covers_are_accepted()
+    ensures minutes { (c : Meaning) (at value a : ℤ) (n : ℕ) → all_minutes (peak_cover c at value a n) ≡ n }
+    ensures few { (c : Meaning) (at value a : ℤ) (n : ℕ) → length (peak_cover c at value a n) ≤ n }
+    ensures accepted { (c : Meaning) (at value a : ℤ) (n : ℕ) → IsHighest c a (a +ℤ pos n) at value →
+        peak_verdict c a n (record { at = at; value = value; cells = peak_cover c at value a n })
+        ≡ PeakVerdict.Accepted }
+    ensures peak { (c : Meaning) (a : ℤ) (n : ℕ) → 1 ≤ n →
+        peak_verdict c a n (peak_of c a n) ≡ PeakVerdict.Accepted }
+{}
+
+/// Two curves that say the same of a span have the same highest water there, the same cells and the
+/// same verdicts, whatever they say elsewhere.
+pub fn agreeing_curves_have_one_highest_water()
+    ensures highest { (c d : Meaning) (a : ℤ) (n : ℕ) (at value : ℤ) → AgreeOnValues c d a n →
+        IsHighest c a (a +ℤ pos n) at value → IsHighest d a (a +ℤ pos n) at value }
+    ensures peak { (c d : Meaning) (a : ℤ) (n : ℕ) → AgreeOnValues c d a n → peak_of c a n ≡ peak_of d a n }
+    ensures verdicts { (c d : Meaning) (a : ℤ) (n : ℕ) (peak : Peak) → AgreeOnValues c d a n →
+        peak_verdict c a n peak ≡ peak_verdict d a n peak }
+{}

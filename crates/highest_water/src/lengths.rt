@@ -1,0 +1,28 @@
+//! How many minutes cells have.
+
+ghost use Rattle.std.specs.Prelude.{◌≡◌, ◌-◌, ◌^◌, pos, min};
+ghost use Rattle.highest_water.specs.Covers.{minutes_of, all_minutes};
+
+use crate::peak_cell::PeakCell;
+
+/// The minutes of a cell.
+pub fn minutes_of(cell: PeakCell) -> u32
+    ensures { result ≡ minutes_of cell }
+{
+    match cell {
+        PeakCell::Under(minutes) => minutes,
+        PeakCell::Single => 1,
+    }
+}
+
+/// The minutes of all cells, or the greatest `i64` where they have more.
+#[tactic(auto, using(crate::proofs::LengthLemmas::covering))]
+pub fn covered_by(cells: &[PeakCell]) -> i64
+    ensures { result ≡ pos (min (all_minutes cells.now) (2 ^ 63 - 1)) }
+{
+    let mut covered: i64 = 0;
+    for cell in cells {
+        covered = covered.saturating_add(i64::from(minutes_of(*cell)));
+    }
+    covered
+}

@@ -1,0 +1,94 @@
+//! Which cells are under a minute's value.
+
+ghost use Rattle.std.specs.Prelude.{◌≡◌, ◌*◌, ◌^◌, ◌<◌, ◌≤◌, pos, ◌+ℤ◌, ◌*ℤ◌, ◌≤ℤ◌, ◌<ℤ◌, unsigned_abs, int_lt, int_le, if◌then◌else◌};
+ghost use Rattle.curve_law.specs.Meaning.{IsSpan};
+ghost use Rattle.highest_water.specs.Covers.{twice_most, is_under};
+ghost use Rattle.highest_water.specs.Verdicts.{is_inside};
+
+use curve_law::{Curve, MOST_MINUTES, Point};
+
+/// Whether the cell of the `n` minutes from a point on is under the highest water, by the value at the
+/// cell's end.
+pub fn is_under<C: Curve>(
+    curve: &C,
+    highest: Point,
+    begin: Point,
+    n: u32,
+    end_value: i128,
+) -> bool
+    requires size { unsigned_abs highest.value < 10 ^ 37 }
+    requires span { IsSpan (C.meaning curve.now) begin.minute n }
+    requires value { begin.value ≡ (C.meaning curve.now).track.value begin.minute }
+    requires end_value { end_value ≡ (C.meaning curve.now).track.value (begin.minute +ℤ pos n) }
+    ensures { result ≡ is_under (C.meaning curve.now) highest.minute highest.value begin.minute n }
+{
+    if n < 2 || n > MOST_MINUTES {
+        return false;
+    }
+    if holds(begin.minute, n, highest.minute) {
+        return false;
+    }
+    let is_after = highest.minute < begin.minute;
+    match curve.rate(begin.minute, n) {
+        Some(rate) => is_low(
+            twice_most(rate, n, begin.value, end_value),
+            highest.value,
+            is_after,
+        ),
+        None => false,
+    }
+}
+
+/// Whether a minute is one of the `n` minutes from `begin` on.
+fn holds(begin: i64, n: u32, minute: i64) -> bool
+    requires near { unsigned_abs begin ≤ 2 ^ 60 }
+    ensures { result ≡ is_inside minute begin n }
+{
+    begin <= minute && minute < begin + i64::from(n)
+}
+
+/// Twice the greatest value that a rate leaves room for between two values.
+fn twice_most(rate: i128, n: u32, value: i128, end_value: i128) -> i128
+    requires positive { pos 0 ≤ℤ rate }
+    requires rate { (rate *ℤ pos 1024) <ℤ pos (5 * 10 ^ 37) }
+    requires few { n ≤ 1024 }
+    requires value { unsigned_abs value < 10 ^ 37 }
+    requires end_value { unsigned_abs end_value < 10 ^ 37 }
+    ensures value { result ≡ twice_most rate n value end_value }
+    ensures size { unsigned_abs result < 7 * 10 ^ 37 }
+{
+    sum(sum(value, end_value), most_change(rate, n))
+}
+
+/// Whether twice a cell's greatest value is low enough: after the highest water it may be as great,
+/// before it it has to be less.
+fn is_low(twice_most: i128, value: i128, is_after: bool) -> bool
+    requires size { unsigned_abs value < 10 ^ 37 }
+    ensures { result ≡ (if is_after then int_le twice_most (pos 2 *ℤ value) else int_lt twice_most (pos 2 *ℤ value)) }
+{
+    let twice = sum(value, value);
+    if is_after {
+        twice_most <= twice
+    } else {
+        twice_most < twice
+    }
+}
+
+/// The most that a value changes by in `n` minutes.
+fn most_change(rate: i128, n: u32) -> i128
+    requires positive { pos 0 ≤ℤ rate }
+    requires rate { (rate *ℤ pos 1024) <ℤ pos (5 * 10 ^ 37) }
+    requires few { n ≤ 1024 }
+    ensures value { result ≡ rate *ℤ pos n }
+    ensures size { unsigned_abs result < 5 * 10 ^ 37 }
+{
+    rate * i128::from(n)
+}
+
+fn sum(a: i128, b: i128) -> i128
+    requires a { unsigned_abs a < 5 * 10 ^ 37 }
+    requires b { unsigned_abs b < 5 * 10 ^ 37 }
+    ensures { result ≡ a +ℤ b }
+{
+    a + b
+}

@@ -1,0 +1,126 @@
+//! A walk over a span, cell by cell.
+
+ghost use Rattle.std.specs.Prelude.{◌≡◌, ◌+◌, ◌*◌, ◌^◌, ◌<◌, ◌≤◌, pos, ◌+ℤ◌, ◌≤ℤ◌, ◌<ℤ◌, unsigned_abs, [], ◌∷◌, length};
+ghost use Rattle.curve_law.specs.declared.point.Point.{Point};
+ghost use Rattle.interval_search.specs.Workings.Ahead.{minutes_to};
+ghost use Rattle.highest_water.specs.Covers.{minutes_of, peak_split, peak_cover};
+ghost use Rattle.highest_water.specs.Workings.Walk.{cells_ahead, Stands, StepsTo};
+
+use crate::peak_cell::PeakCell;
+use crate::piece::{block_end, cell_between, middle};
+use crate::waiting::Waiting;
+use curve_law::{Curve, Point, point_at};
+
+/// A cell, and the point where it ends.
+#[derive(Clone, Copy, Debug)]
+pub struct Step {
+    pub end: Point,
+    pub cell: PeakCell,
+}
+
+/// A cell, and the point where it begins.
+#[derive(Clone, Copy, Debug)]
+pub struct Found {
+    pub at: Point,
+    pub cell: PeakCell,
+}
+
+/// The end of the nearest piece, which is taken off, or else of the next block.
+fn nearest_end<C: Curve>(curve: &mut C, waiting: &mut Waiting, at: Point, end: i64) -> Point
+    requires stands { Stands (C.meaning curve.old) (C.count curve.old) end at waiting.old }
+    requires onward { at.minute <ℤ end }
+    ensures same { C.meaning curve.new ≡ C.meaning curve.old }
+    ensures stands { Stands (C.meaning curve.old) (C.count curve.new) end at (result ∷ waiting.new) }
+    ensures cells { (highest : Point) → cells_ahead (C.meaning curve.old) highest end at.minute (result ∷ waiting.new)
+        ≡ cells_ahead (C.meaning curve.old) highest end at.minute waiting.old }
+    ensures count { C.count curve.new + length waiting.old ≡ C.count curve.old + length waiting.new + 1 }
+{
+    match waiting.pop() {
+        Some(point) => point,
+        None => point_at(curve, block_end(at.minute, end)),
+    }
+}
+
+/// The first cell of the nearest piece, which is halved until it is one.
+fn nearest_step<C: Curve>(
+    curve: &mut C,
+    waiting: &mut Waiting,
+    highest: Point,
+    at: Point,
+    near: Point,
+    end: i64,
+) -> Step
+    requires size { unsigned_abs highest.value < 10 ^ 37 }
+    requires stands { Stands (C.meaning curve.old) (C.count curve.old) end at (near ∷ waiting.old) }
+    ensures same { C.meaning curve.new ≡ C.meaning curve.old }
+    ensures stands { Stands (C.meaning curve.old) (C.count curve.new) end at (result.end ∷ waiting.new) }
+    ensures cell { peak_split (C.meaning curve.old) highest.minute highest.value at.minute (minutes_to at.minute result.end.minute)
+        ≡ result.cell ∷ [] }
+    ensures cells { cells_ahead (C.meaning curve.old) highest end at.minute (result.end ∷ waiting.new)
+        ≡ cells_ahead (C.meaning curve.old) highest end at.minute (near ∷ waiting.old) }
+    ensures count { C.count curve.new + length waiting.old ≡ C.count curve.old + length waiting.new }
+{
+    let mut near = near;
+    loop {
+        if let Some(cell) = cell_between(curve, highest, at, near) {
+            return Step { end: near, cell };
+        }
+        waiting.push(near);
+        near = middle(curve, at, near);
+    }
+}
+
+/// How far a walk over a span has come: to a point, with the ends of the pieces ahead of it at which
+/// the values are known, the nearest one first, and on to the span's end.
+#[derive(Debug, Drop)]
+pub struct Walk {
+    pub at: Point,
+    pub waiting: Waiting,
+    pub end: i64,
+}
+
+/// The walk from a minute on.
+pub fn walk_from<C: Curve>(curve: &mut C, begin: i64, end: i64) -> Walk
+    requires forward { begin ≤ℤ end }
+    requires first { (C.meaning curve.old).first ≤ℤ begin }
+    requires last { end ≤ℤ (C.meaning curve.old).last }
+    requires few { C.count curve.old ≤ 2 ^ 62 + 2 ^ 60 }
+    ensures same { C.meaning curve.new ≡ C.meaning curve.old }
+    ensures counted { C.count curve.new ≡ C.count curve.old + 1 }
+    ensures at { result.at.minute ≡ begin }
+    ensures end { result.end ≡ end }
+    ensures stands { Stands (C.meaning curve.old) (C.count curve.new) result.end result.at result.waiting }
+    ensures cells { (highest : Point) → cells_ahead (C.meaning curve.old) highest result.end result.at.minute result.waiting
+        ≡ peak_cover (C.meaning curve.old) highest.minute highest.value begin (minutes_to begin end) }
+    ensures none { result.waiting ≡ [] }
+{
+    Walk {
+        at: point_at(curve, begin),
+        waiting: Waiting::new(),
+        end,
+    }
+}
+
+/// The next cell by a minute and its value, and where it begins. None is left where the walk is at
+/// the end.
+pub fn next_cell<C: Curve>(curve: &mut C, walk: &mut Walk, highest: Point) -> Option<Found>
+    requires size { unsigned_abs highest.value < 10 ^ 37 }
+    requires stands { Stands (C.meaning curve.old) (C.count curve.old) walk.old.end walk.old.at walk.old.waiting }
+    ensures same { C.meaning curve.new ≡ C.meaning curve.old }
+    ensures end { walk.new.end ≡ walk.old.end }
+    ensures stands { Stands (C.meaning curve.old) (C.count curve.new) walk.new.end walk.new.at walk.new.waiting }
+    ensures found { StepsTo (C.meaning curve.old) highest walk.old result walk.new }
+    ensures count { C.count curve.new + length walk.old.waiting ≤ C.count curve.old + length walk.new.waiting + 1 }
+{
+    let Walk { at, end, .. } = *walk;
+    if at.minute == end {
+        return None;
+    }
+    let near = nearest_end(curve, &mut walk.waiting, at, end);
+    let step = nearest_step(curve, &mut walk.waiting, highest, at, near, end);
+    walk.at = step.end;
+    Some(Found {
+        at,
+        cell: step.cell,
+    })
+}
