@@ -15,6 +15,7 @@ mod peak;
 mod peak_cell;
 mod peak_cells;
 mod piece;
+mod telling;
 mod under;
 mod verdict;
 mod waiting;
@@ -31,6 +32,7 @@ pub use laws::{
 pub use peak::Peak;
 pub use peak_cell::PeakCell;
 pub use peak_cells::PeakCells;
+pub use telling::verdict_line;
 pub use verdict::PeakVerdict;
 
 #[cfg(test)]
