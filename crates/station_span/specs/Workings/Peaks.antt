@@ -1,0 +1,35 @@
+-- The highest water of a site, by the tide that predicts it.
+use Rattle.std.specs.Prelude.{◌≡◌, ◌<◌, ◌^◌, ℕ, ℤ, pos, ◌-ℤ◌, ◌+ℤ◌, ◌≤ℤ◌, ◌<ℤ◌, unsigned_abs, length, true, IsTrue}
+use Rattle.curve_law.specs.Meaning.{Meaning}
+use Rattle.highest_water.specs.declared.peak.Peak.{Peak}
+use Rattle.highest_water.specs.declared.verdict.PeakVerdict.{PeakVerdict}
+use Rattle.highest_water.specs.Covers.{peak_of}
+use Rattle.highest_water.specs.Verdicts.{peak_verdict}
+use Rattle.rate_bound.specs.declared.version.Version.TheVariants.{Second}
+use Rattle.rate_bound.specs.Meanings.{mark_meaning}
+use Rattle.station_span.specs.declared.asked.Asked.{Asked}
+use Rattle.station_span.specs.declared.station.Found.{Found}
+use Rattle.station_span.specs.Peaks.{minute_count}
+use Rattle.station_span.specs.Sites.{span_limit}
+use Rattle.station_span.specs.Workings.Levels.{HasLevelsIn, source_of}
+
+-- as by every constituent of the book
+abbrev pub tide_levels : Found → Meaning
+tide_levels found = mark_meaning Second found.curve (pos 1000000) (pos 0) (pos 0) true
+
+unfoldable pub tide_peak : Found → Asked → Peak
+tide_peak found asked = peak_of (tide_levels found) (source_of found asked.begin) (minute_count asked)
+
+unfoldable pub tide_verdict : Found → Asked → Peak → PeakVerdict
+tide_verdict found asked peak = peak_verdict (tide_levels found) (source_of found asked.begin) (minute_count asked) peak
+
+-- a span of which each minute has a level, and at least one there is
+pub record HasHighest (found : Found) (asked : Asked) : Type 0 where
+  pub levels : HasLevelsIn found asked
+  pub some : asked.begin <ℤ asked.end
+  pub few : (asked.end -ℤ asked.begin) ≤ℤ span_limit
+
+-- a minute of a span, by the reference's that is moved there
+pub record IsSourceIn (found : Found) (asked : Asked) (at : ℤ) : Type 0 where
+  pub from : asked.begin ≤ℤ (at +ℤ found.basis.high.add)
+  pub before : (at +ℤ found.basis.high.add) <ℤ asked.end
