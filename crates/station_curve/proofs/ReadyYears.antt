@@ -1,5 +1,5 @@
 -- One more year that is ready.
-use Rattle.std.proofs.Common.{◌≡◌, ℕ, zero, suc, ◌+◌, ◌-◌, ◌<◌, List, [], ◌∷◌, ◌++◌, length, get_or, length-append, Some, None, inl, inr, refl, ap, subst, ◌∙◌, add-one, add-zero, add-suc, arith}
+use Rattle.std.proofs.Common.{◌≡◌, ℤ, ℕ, zero, suc, ◌+◌, ◌-◌, ◌<◌, List, [], ◌∷◌, ◌++◌, length, get_or, length-append, Some, None, inl, inr, refl, ap, subst, ◌∙◌, add-one, add-zero, add-suc, arith, lit<}
 use Rattle.std.specs.Prelude.{filter}
 use Rattle.std.proofs.lemmas.List.{get_or_append_left}
 use Rattle.std.proofs.Math.Seq.{get_or-append_seam}
@@ -7,11 +7,26 @@ use Rattle.std.proofs.lemmas.Bool.{cases_lt}
 use Rattle.harmonics_text.specs.declared.book.Station.{Station}
 use Rattle.harmonics_text.specs.declared.book.Book.{Book}
 use Rattle.year_blend.specs.Places.{start_of}
+use Rattle.year_blend.specs.Years.{IsYearInReach, year_start_of}
+use Rattle.year_blend.proofs.YearLemmas.{year_start_of_size}
 use Rattle.station_curve.specs.declared.years.Year.{Year}
 use Rattle.station_curve.specs.declared.fault.CurveFault.{CurveFault}
 use Rattle.station_curve.specs.Curves.{waves_of, is_present, year_fault, first_fault}
 use Rattle.station_curve.specs.Workings.Prepared.{AreReady}
 use Rattle.station_curve.specs.Sums.{sums_of}
+use Rattle.station_curve.proofs.Products.{cast_small, abs_within}
+use mir.Syntax.{w32, w64}
+use mir.Val.{to_z, of_z}
+
+-- a year of the calendar, and its begin, as the machine has them
+pub calendar_cast : (y : ℤ) → IsYearInReach y → to_z w32 (of_z w32 y) ≡ y
+calendar_cast y reach = cast_small w32 y 9300 (abs_within y 2 9300 reach.least reach.most) (lit< tt)
+
+pub start_cast : (y start : ℤ) → IsYearInReach y → start ≡ year_start_of (to_z w32 (of_z w32 y)) → to_z w64 (of_z w64 start) ≡ year_start_of y
+start_cast y start reach is =
+    let start_is : start ≡ year_start_of y = rw (calendar_cast y reach) at is in
+    let size = year_start_of_size y reach in
+    rw start_is (cast_small w64 (year_start_of y) 4000000000 (omega (arith, size)) (lit< tt))
 
 -- the first fault
 pub none_more : (b : Book) (s : Station) (year : ℕ) → first_fault b s year ≡ None → year_fault b s year ≡ None → first_fault b s (year + 1) ≡ None

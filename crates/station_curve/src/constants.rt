@@ -3,8 +3,9 @@
 ghost use Rattle.std.specs.Prelude.{◌≡◌, ◌+◌, ◌*◌, ◌^◌, ◌<◌, ◌≤◌, length, filter, Some, None, MatchResult, IfOk, unsigned_abs, pos, ◌+ℤ◌, ◌-ℤ◌, ◌*ℤ◌};
 ghost use Rattle.decimal_text.specs.Rounding.{rounded_of};
 ghost use Rattle.fixed_sine.specs.Circle.{circle};
-ghost use Rattle.harmonics_text.specs.Books.{IsBook, IsStation};
+ghost use Rattle.harmonics_text.specs.Books.{IsStation};
 ghost use Rattle.year_blend.specs.Places.{start_of};
+ghost use Rattle.year_blend.specs.Years.{IsYearInReach};
 ghost use Rattle.station_curve.specs.Waves.{amount_of, steepness_of};
 ghost use Rattle.station_curve.specs.Limits.{most_amount, most_steepness};
 ghost use Rattle.station_curve.specs.Schureman.{speed_of, amplitude_of, phase_of};
@@ -14,7 +15,7 @@ use crate::fault::CurveFault;
 use crate::wave::Wave;
 use decimal_text::rounded;
 use fixed_sine::reduce;
-use harmonics_text::{Book, Station};
+use harmonics_text::{SoundBook, Station};
 use std::alloc::{AllocError, Global};
 
 /// The most that the amplitudes of a year may sum to.
@@ -24,8 +25,7 @@ const MOST_AMOUNT: u64 = 1_000_000_000;
 const MOST_STEEPNESS: u128 = 100_000_000_000_000_000;
 
 /// Whether a year is within the limits.
-pub fn check_year(book: &Book, station: &Station, year: u32) -> Result<(), CurveFault>
-    requires book { IsBook book.now }
+pub fn check_year(book: &SoundBook<'_>, station: &Station, year: u32) -> Result<(), CurveFault>
     requires station { IsStation (length book.now.constituents) station.now }
     requires year { year < book.now.years }
     ensures { MatchResult result
@@ -33,7 +33,7 @@ pub fn check_year(book: &Book, station: &Station, year: u32) -> Result<(), Curve
         (λ fault. year_fault book.now station.now year ≡ Some fault) }
 {
     let (amount, steepness) = sums(book, station, year);
-    let year = book.first_year + year as i32;
+    let year = calendar_year(book, year);
     if amount > MOST_AMOUNT {
         return Err(CurveFault::TooLarge { year });
     }
@@ -43,9 +43,25 @@ pub fn check_year(book: &Book, station: &Station, year: u32) -> Result<(), Curve
     Ok(())
 }
 
+/// A year's number in the calendar, also that of the year after the last.
+pub fn calendar_year(book: &SoundBook<'_>, year: u32) -> i32
+    requires { year ≤ book.now.years }
+    ensures value { result ≡ book.now.first_year +ℤ pos year }
+    ensures reach { IsYearInReach result }
+{
+    book.book().first_year + year as i32
+}
+
+/// How many constituents a book has.
+fn count(book: &SoundBook<'_>) -> usize
+    ensures value { result ≡ length book.now.constituents }
+    ensures few { result ≤ 500 }
+{
+    book.book().constituents.as_slice().len()
+}
+
 /// The sum of the amplitudes' sizes in a year, and of each size times the speed.
-fn sums(book: &Book, station: &Station, year: u32) -> (u64, u128)
-    requires book { IsBook book.now }
+fn sums(book: &SoundBook<'_>, station: &Station, year: u32) -> (u64, u128)
     requires station { IsStation (length book.now.constituents) station.now }
     requires year { year < book.now.years }
     ensures amount { result.0 ≡ amount_of (waves_of book.now station.now year) }
@@ -53,7 +69,7 @@ fn sums(book: &Book, station: &Station, year: u32) -> (u64, u128)
 {
     let mut amount = 0;
     let mut steepness = 0;
-    for k in 0..book.constituents.as_slice().len() {
+    for k in 0..count(book) {
         let size = amplitude(book, station, year, k).unsigned_abs();
         amount += size;
         steepness += u128::from(size) * u128::from(speed(book, k));
@@ -64,18 +80,17 @@ fn sums(book: &Book, station: &Station, year: u32) -> (u64, u128)
 /// The waves of a year within the limits, those without amplitude left out.
 pub fn year_waves(
     alloc: Global,
-    book: &Book,
+    book: &SoundBook<'_>,
     station: &Station,
     year: u32,
 ) -> Result<Vec<Wave>, AllocError>
-    requires book { IsBook book.now }
     requires station { IsStation (length book.now.constituents) station.now }
     requires year { year < book.now.years }
     requires within { year_fault book.now station.now year ≡ None }
     ensures { IfOk result (λ waves. waves.items ≡ filter is_present (waves_of book.now station.now year)) }
 {
     let mut waves = Vec::new(alloc);
-    for k in 0..book.constituents.as_slice().len() {
+    for k in 0..count(book) {
         let amplitude = amplitude(book, station, year, k);
         if amplitude != 0 {
             waves.push(Wave::new(amplitude, speed(book, k), phase(book, station, year, k)))?;
@@ -85,8 +100,7 @@ pub fn year_waves(
 }
 
 /// A constituent's amplitude in a year, in millionths.
-fn amplitude(book: &Book, station: &Station, year: u32, k: usize) -> i64
-    requires book { IsBook book.now }
+fn amplitude(book: &SoundBook<'_>, station: &Station, year: u32, k: usize) -> i64
     requires station { IsStation (length book.now.constituents) station.now }
     requires year { year < book.now.years }
     requires place { k < length book.now.constituents }
@@ -97,7 +111,7 @@ fn amplitude(book: &Book, station: &Station, year: u32, k: usize) -> i64
     if amplitude == 0 {
         return 0;
     }
-    let factor = book.factors.as_slice()[place_in_table(book, year, k)];
+    let factor = book.book().factors.as_slice()[place_in_table(book, year, k)];
     effective(amplitude, factor)
 }
 
@@ -112,37 +126,34 @@ fn effective(amplitude: i64, factor: i64) -> i64
 }
 
 /// Where a table of all years has a constituent's value of a year.
-fn place_in_table(book: &Book, year: u32, k: usize) -> usize
-    requires book { IsBook book.now }
+fn place_in_table(book: &SoundBook<'_>, year: u32, k: usize) -> usize
     requires year { year < book.now.years }
     requires place { k < length book.now.constituents }
     ensures value { result ≡ k * book.now.years + year }
     ensures within { result < length book.now.constituents * book.now.years }
 {
-    k * book.years as usize + year as usize
+    k * book.book().years as usize + year as usize
 }
 
 /// A constituent's speed, in units of the circle a minute.
-fn speed(book: &Book, k: usize) -> u64
-    requires book { IsBook book.now }
+fn speed(book: &SoundBook<'_>, k: usize) -> u64
     requires place { k < length book.now.constituents }
     ensures value { pos result ≡ speed_of book.now k }
     ensures size { result ≤ 3600000000 }
 {
-    let constituent = &book.constituents.as_slice()[k];
+    let constituent = &book.book().constituents.as_slice()[k];
     constituent.speed as u64
 }
 
 /// Where on the circle a constituent stands an hour before a year.
-fn phase(book: &Book, station: &Station, year: u32, k: usize) -> u64
-    requires book { IsBook book.now }
+fn phase(book: &SoundBook<'_>, station: &Station, year: u32, k: usize) -> u64
     requires station { IsStation (length book.now.constituents) station.now }
     requires year { year < book.now.years }
     requires place { k < length book.now.constituents }
     ensures value { result ≡ phase_of book.now station.now year (start_of book.now.first_year year -ℤ pos 60) k }
     ensures turn { result < circle }
 {
-    let argument = book.angles.as_slice()[place_in_table(book, year, k)];
+    let argument = book.book().angles.as_slice()[place_in_table(book, year, k)];
     let epoch = station.epoch.as_slice()[k];
     let minutes = i64::from(station.meridian) - 60;
     let angle = angle(speed(book, k) as i64, minutes, argument, epoch);

@@ -15,7 +15,7 @@ use crate::summing::{falls, heights};
 use crate::year_sums::Sums;
 use crate::years::{Year, years_of};
 use decimal_text::rounded;
-use harmonics_text::{Book, Station, Units};
+use harmonics_text::{Book, SoundBook, Station, Units};
 use std::alloc::{AllocError, Global};
 use std::marker::Model;
 use year_blend::{Place, Stretch, TOTAL_WEIGHT, place, stretch, weight, year_start};
@@ -71,12 +71,19 @@ impl StationCurve {
         ensures predicts { IfSome (slice_get book.now.stations station) (λ s.
             IfOk result (λ tide. Predicts book.now s tide)) }
     {
-        StationCurve::of_station(alloc, book, &book.stations.as_slice()[station as usize])
+        StationCurve::of_station(
+            alloc,
+            &SoundBook::new(book),
+            &book.stations.as_slice()[station as usize],
+        )
     }
 
     /// The curve of a station.
-    fn of_station(alloc: Global, book: &Book, station: &Station) -> Result<StationCurve, CurveFault>
-        requires book { IsBook book.now }
+    fn of_station(
+        alloc: Global,
+        book: &SoundBook<'_>,
+        station: &Station,
+    ) -> Result<StationCurve, CurveFault>
         requires station { IsStation (length book.now.constituents) station.now }
         ensures exact { Gives wants_memory (curve_of book.now station.now) result }
         ensures predicts { IfOk result (λ tide. Predicts book.now station.now tide) }
@@ -91,14 +98,14 @@ impl StationCurve {
     }
 
     /// The curve of a station with the waves of all years.
-    fn of_years(book: &Book, station: &Station, years: Vec<Year>) -> StationCurve
-        requires book { IsBook book.now }
+    fn of_years(book: &SoundBook<'_>, station: &Station, years: Vec<Year>) -> StationCurve
         requires station { IsStation (length book.now.constituents) station.now }
         requires years { AreReady book.now station.now book.now.years years.items }
-        ensures { result ≡ tide_of book.now station.now }
+        ensures exact { result ≡ tide_of book.now station.now }
+        ensures predicts { Predicts book.now station.now result }
     {
         StationCurve {
-            first_year: book.first_year,
+            first_year: book.book().first_year,
             datum: station.datum,
             years,
         }

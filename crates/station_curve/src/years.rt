@@ -1,16 +1,16 @@
 //! The waves of each year.
 
 ghost use Rattle.std.specs.Prelude.{◌≡◌, ◌<◌, ◌≤◌, ◌↔◌, IsTrue, length, Some, MatchResult, ◌⊎◌, pos, ◌+ℤ◌, ◌-ℤ◌, ◌≤ℤ◌, unsigned_abs};
-ghost use Rattle.harmonics_text.specs.Books.{IsBook, IsStation};
+ghost use Rattle.harmonics_text.specs.Books.{IsStation};
 ghost use Rattle.station_curve.specs.Curves.{first_fault};
 ghost use Rattle.station_curve.specs.Workings.Prepared.{AreReady};
 ghost use Rattle.station_curve.specs.declared.fault.CurveFault.TheVariants.{NoMemory};
 
-use crate::constants::{check_year, year_waves};
+use crate::constants::{calendar_year, check_year, year_waves};
 use crate::fault::CurveFault;
 use crate::wave::Wave;
 use crate::year_sums::{Sums, sums_of_waves};
-use harmonics_text::{Book, Station};
+use harmonics_text::{SoundBook, Station};
 use std::alloc::Global;
 use year_blend::year_start;
 
@@ -52,21 +52,23 @@ impl Year {
 }
 
 /// The waves of each year, where all years are within the limits.
-pub fn years_of(alloc: Global, book: &Book, station: &Station) -> Result<Vec<Year>, CurveFault>
-    requires book { IsBook book.now }
+pub fn years_of(
+    alloc: Global,
+    book: &SoundBook<'_>,
+    station: &Station,
+) -> Result<Vec<Year>, CurveFault>
     requires station { IsStation (length book.now.constituents) station.now }
     ensures { MatchResult result
         (λ years. AreReady book.now station.now book.now.years years.items)
         (λ fault. (fault ≡ NoMemory) ⊎ (first_fault book.now station.now book.now.years ≡ Some fault)) }
 {
     let mut years = Vec::new(alloc);
-    for year in 0..book.years {
+    for year in 0..book.book().years {
         if let Err(fault) = check_year(book, station, year) {
             return Err(fault);
         }
-        let calendar_year = book.first_year + year as i32;
-        let start = year_start(calendar_year);
-        let end = year_start(calendar_year + 1);
+        let start = year_start(calendar_year(book, year));
+        let end = year_start(calendar_year(book, year + 1));
         let waves = year_waves(alloc, book, station, year)?;
         let sums = sums_of_waves(waves.as_slice());
         years.push(Year {

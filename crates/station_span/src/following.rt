@@ -7,8 +7,6 @@ ghost use Rattle.event_list.specs.Merging.{cells_left};
 ghost use Rattle.event_list.specs.Shifts.{HasOffsets};
 ghost use Rattle.rate_bound.specs.declared.version.Version.{Version};
 ghost use Rattle.rate_bound.specs.Meanings.{turn_meaning};
-ghost use Rattle.harmonics_text.specs.Books.{IsBook};
-ghost use Rattle.station_table.specs.Offsets.{IsTable};
 ghost use Rattle.tide_fault.specs.Faults.{IsToldRefusal};
 ghost use Rattle.station_span.specs.Sites.{site_in};
 ghost use Rattle.station_span.specs.Workings.Spans.{IsNear};
@@ -23,7 +21,7 @@ use crate::station::{Found, find_station, reached};
 use curve_law::{Curve, Events};
 use decimal_text::Text;
 use event_list::{Merge, Span, shifted};
-use harmonics_text::{Book, Units};
+use harmonics_text::{SoundBook, Units};
 use interval_search::Search;
 use rate_bound::{MarkCurve, TurnCurve, Version};
 use station_table::OffsetTable;
@@ -42,13 +40,11 @@ pub struct Listed {
 /// The events of a station of that name over the span that is asked, or the first refusal.
 pub fn list_station(
     alloc: Global,
-    book: &Book,
+    book: &SoundBook<'_>,
     table: &OffsetTable,
     name: &Text,
     asked: &Asked,
 ) -> Result<Listed, Refusal>
-    requires book { IsBook book.now }
-    requires table { IsTable table.now }
     requires near { IsNear asked.now }
     ensures exact { Lists book.now asked.now (site_in Reach.Events book.now table.now name.now asked.now) result }
     ensures told { IfErr result (IsToldRefusal table.now) }

@@ -4,15 +4,13 @@ ghost use Rattle.std.specs.Prelude.{◌≡◌, ℕ, ◌<◌, ◌≤◌, pos, ◌
 ghost use Rattle.std.specs.Option.{ForSome};
 ghost use Rattle.decimal_text.specs.Expected.{Gives};
 ghost use Rattle.event_list.specs.Shifts.{HasOffsets};
-ghost use Rattle.harmonics_text.specs.Books.{IsBook};
 ghost use Rattle.station_curve.specs.Curves.{curve_of, Predicts};
 ghost use Rattle.station_curve.specs.Limits.{IsGentle};
 ghost use Rattle.station_table.specs.Bases.{IsBasis, basis_of, is_equal};
-ghost use Rattle.station_table.specs.Offsets.{IsTable};
 ghost use Rattle.tide_fault.specs.Faults.{wants_memory_of_refusal, IsToldRefusal};
 ghost use Rattle.station_span.specs.Sites.{basis_from, site_in, site_at, lacks_minute, level_unit, moved, reached, has_minute, has_span, span_in, length_in, mark_in, span_limit, tide_from};
 ghost use Rattle.station_span.specs.Workings.Spans.{IsBeside, IsNear, IsNearSpan, HasLevels, IsReached, FindsIn};
-ghost use Rattle.year_blend.specs.Places.{InDomain};
+ghost use Rattle.year_blend.specs.Places.{AreYears, InDomain};
 ghost use Rattle.year_blend.specs.Years.{year_start_of};
 ghost use Rattle.zone_time.specs.Moments.{IsMoment};
 
@@ -20,7 +18,7 @@ use crate::asked::Asked;
 use crate::reach::Reach;
 use decimal_text::Text;
 use event_list::{Span, widened};
-use harmonics_text::{Book, Station, Units};
+use harmonics_text::{Book, SoundBook, Station, Units};
 use station_curve::StationCurve;
 use station_table::{Basis, OffsetTable, find};
 use std::alloc::Global;
@@ -43,31 +41,27 @@ pub struct Found {
 #[tactic(auto, unfolding(crate::specs::Sites::site_in))]
 pub fn find_station(
     alloc: Global,
-    book: &Book,
+    book: &SoundBook<'_>,
     table: &OffsetTable,
     reach: Reach,
     name: &Text,
     asked: &Asked,
 ) -> Result<Found, Refusal>
-    requires book { IsBook book.now }
-    requires table { IsTable table.now }
     requires near { IsNear asked.now }
     ensures exact { FindsIn reach book.now asked.now (site_in reach book.now table.now name.now asked.now) result }
     ensures told { IfErr result (IsToldRefusal table.now) }
 {
     let basis = find_basis(book, table, name)?;
-    let station = station_at(book, basis.station);
+    let station = station_at(book.book(), basis.station);
     find_at(alloc, book, reach, basis, station, asked)
 }
 
-pub fn find_basis(book: &Book, table: &OffsetTable, name: &Text) -> Result<Basis, Refusal>
-    requires book { IsBook book.now }
-    requires table { IsTable table.now }
+pub fn find_basis(book: &SoundBook<'_>, table: &OffsetTable, name: &Text) -> Result<Basis, Refusal>
     ensures exact { result ≡ basis_from (basis_of book.now table.now name.now) }
     ensures sound { IfOk result (IsBasis (length book.now.stations)) }
     ensures told { IfErr result (IsToldRefusal table.now) }
 {
-    match find(book, table, name) {
+    match find(book.book(), table, name) {
         Ok(basis) => Ok(basis),
         Err(fault) => Err(Refusal::from(fault)),
     }
@@ -77,13 +71,12 @@ pub fn find_basis(book: &Book, table: &OffsetTable, name: &Text) -> Result<Basis
 #[tactic(auto, unfolding(crate::specs::Sites::site_at))]
 fn find_at(
     alloc: Global,
-    book: &Book,
+    book: &SoundBook<'_>,
     reach: Reach,
     basis: Basis,
     station: &Station,
     asked: &Asked,
 ) -> Result<Found, Refusal>
-    requires book { IsBook book.now }
     requires basis { IsBasis (length book.now.stations) basis }
     requires place { slice_get book.now.stations basis.station ≡ Some station.now }
     requires near { IsNear asked.now }
@@ -124,8 +117,12 @@ pub fn level_units(units: Units) -> Result<Units, Refusal>
 }
 
 #[tactic(auto, unfolding(crate::specs::Sites::span_in))]
-fn check_span(book: &Book, reach: Reach, basis: &Basis, asked: &Asked) -> Result<(), Refusal>
-    requires book { IsBook book.now }
+fn check_span(
+    book: &SoundBook<'_>,
+    reach: Reach,
+    basis: &Basis,
+    asked: &Asked,
+) -> Result<(), Refusal>
     requires offsets { HasOffsets basis.now }
     requires near { IsNear asked.now }
     ensures exact { result ≡ span_in reach book.now basis.now asked.now.begin asked.now.end }
@@ -217,51 +214,48 @@ pub fn earlier(minute: i64, add: i32) -> i64
     minute - i64::from(add)
 }
 
-fn has_span(book: &Book, span: &Span) -> bool
-    requires { IsBook book.now }
+fn has_span(book: &SoundBook<'_>, span: &Span) -> bool
     ensures { result ≡ has_span book.now span.now }
 {
     has_minute(book, span.begin) && has_minute(book, span.end)
 }
 
-fn has_minute(book: &Book, minute: i64) -> bool
-    requires { IsBook book.now }
+fn has_minute(book: &SoundBook<'_>, minute: i64) -> bool
     ensures { result ≡ has_minute book.now minute }
 {
     first_minute(book) <= minute && minute <= last_minute(book)
 }
 
-fn first_minute(book: &Book) -> i64
-    requires { IsBook book.now }
+fn first_minute(book: &SoundBook<'_>) -> i64
     ensures value { result ≡ year_start_of book.now.first_year }
     ensures moment { IsMoment result }
 {
-    year_start(book.first_year)
+    year_start(book.book().first_year)
 }
 
 // The begin of the year after the last.
-fn last_minute(book: &Book) -> i64
-    requires { IsBook book.now }
+fn last_minute(book: &SoundBook<'_>) -> i64
     ensures value { result ≡ year_start_of (book.now.first_year +ℤ pos book.now.years) }
     ensures moment { IsMoment result }
 {
+    let book = book.book();
     year_start(book.first_year + book.years as i32)
 }
 
 pub fn curve_at(
     alloc: Global,
-    book: &Book,
+    book: &SoundBook<'_>,
     place: u32,
     station: &Station,
 ) -> Result<StationCurve, Refusal>
-    requires book { IsBook book.now }
     requires place { slice_get book.now.stations place ≡ Some station.now }
     ensures exact { Gives wants_memory_of_refusal (tide_from (curve_of book.now station.now)) result }
     ensures predicts { IfOk result (Predicts book.now station.now) }
     ensures gentle { IfOk result IsGentle }
+    ensures years { AreYears book.now.first_year book.now.years }
     ensures told { IfErr result (IsToldRefusal []) }
 {
-    match StationCurve::new(alloc, book, place) {
+    match StationCurve::new(alloc, book.book(), place) {
         Ok(curve) => {
             curve.known();
             Ok(curve)

@@ -13,7 +13,7 @@ loop-k-preserved c =
     let b = c.args.book.now in
     let s = c.args.station.now in
     let k = c.loop-k.k in
-    let in_list : k < length b.constituents = rw c.as_slice-k-end.ensures at c.loop-k-test.true in
+    let in_list : k < length b.constituents = rw c.count-k-end.ensures.value at c.loop-k-test.true in
     let small = c.amplitude.ensures.size in
     let same = cast_small w64 c.amplitude.result (10 ^ 11) small (lit< tt) in
     let bits = rw same at c.unsigned_abs-size.ensures.value in
@@ -28,10 +28,10 @@ loop-k-preserved c =
 
 pub returns-clause-amount : goal.returns-clause-amount
 returns-clause-amount c =
-    let ended : c.loop-k.k ≡ length c.as_slice-k-end.result.now = omega arith in
-    c.loop-k.invariant.amount ∙ ap amount_of (all_waves c.args.book.now c.args.station.now c.args.year c.loop-k.k (ended ∙ ap length c.as_slice-k-end.ensures))
+    let ended : c.loop-k.k ≡ c.count-k-end.result = omega arith in
+    c.loop-k.invariant.amount ∙ ap amount_of (all_waves c.args.book.now c.args.station.now c.args.year c.loop-k.k (ended ∙ c.count-k-end.ensures.value))
 
 pub returns-clause-steepness : goal.returns-clause-steepness
 returns-clause-steepness c =
-    let ended : c.loop-k.k ≡ length c.as_slice-k-end.result.now = omega arith in
-    c.loop-k.invariant.steepness ∙ ap steepness_of (all_waves c.args.book.now c.args.station.now c.args.year c.loop-k.k (ended ∙ ap length c.as_slice-k-end.ensures))
+    let ended : c.loop-k.k ≡ c.count-k-end.result = omega arith in
+    c.loop-k.invariant.steepness ∙ ap steepness_of (all_waves c.args.book.now c.args.station.now c.args.year c.loop-k.k (ended ∙ c.count-k-end.ensures.value))

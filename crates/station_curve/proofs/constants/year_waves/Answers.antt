@@ -11,13 +11,13 @@ use Rattle.station_curve.proofs.constants.year_waves.Goals.{then-amplitude-ne0+i
 
 pub new-requires-clause-amplitude : goal.new-requires-clause-amplitude
 new-requires-clause-amplitude c =
-    let in_list : c.loop-k.k < length c.args.book.now.constituents = rw c.as_slice-k-end.ensures at c.loop-k-test.true in
+    let in_list : c.loop-k.k < length c.args.book.now.constituents = rw c.count-k-end.ensures.value at c.loop-k-test.true in
     let same = cast_small w64 c.amplitude-amplitude.result (10 ^ 11) c.amplitude-amplitude.ensures.size (lit< tt) in
     rw (same, c.amplitude-amplitude.ensures.value) (wave_amount c.args.book.now c.args.station.now c.args.year c.loop-k.k in_list c.requires.within)
 
 pub new-requires-clause-steepness : goal.new-requires-clause-steepness
 new-requires-clause-steepness c =
-    let in_list : c.loop-k.k < length c.args.book.now.constituents = rw c.as_slice-k-end.ensures at c.loop-k-test.true in
+    let in_list : c.loop-k.k < length c.args.book.now.constituents = rw c.count-k-end.ensures.value at c.loop-k-test.true in
     let same = cast_small w64 c.amplitude-amplitude.result (10 ^ 11) c.amplitude-amplitude.ensures.size (lit< tt) in
     let steep = wave_steepness c.args.book.now c.args.station.now c.args.year c.loop-k.k in_list c.requires.within in
     let speed : unsigned_abs (speed_of c.args.book.now c.loop-k.k) ≡ c.speed.result = ap unsigned_abs (sym c.speed.ensures.value) in
@@ -28,7 +28,7 @@ loop-k-preserved c =
     let b = c.args.book.now in
     let s = c.args.station.now in
     let k = c.loop-k.k in
-    let in_list : k < length b.constituents = rw c.as_slice-k-end.ensures at c.loop-k-test.true in
+    let in_list : k < length b.constituents = rw c.count-k-end.ensures.value at c.loop-k-test.true in
     let same = cast_small w64 c.amplitude-amplitude.result (10 ^ 11) c.amplitude-amplitude.ensures.size (lit< tt) in
     let value = c.amplitude-amplitude.ensures.value in
     elim c.if-amplitude-ne0.branch [
@@ -44,5 +44,5 @@ loop-k-preserved c =
 
 pub returns : goal.returns
 returns c =
-    let ended : c.loop-k.k ≡ length c.as_slice-k-end.result.now = omega arith in
-    c.loop-k.invariant ∙ ap (filter is_present) (all_waves c.args.book.now c.args.station.now c.args.year c.loop-k.k (ended ∙ ap length c.as_slice-k-end.ensures))
+    let ended : c.loop-k.k ≡ c.count-k-end.result = omega arith in
+    c.loop-k.invariant ∙ ap (filter is_present) (all_waves c.args.book.now c.args.station.now c.args.year c.loop-k.k (ended ∙ c.count-k-end.ensures.value))

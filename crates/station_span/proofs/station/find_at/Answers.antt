@@ -1,7 +1,7 @@
 use Rattle.std.proofs.Common.{refl, sym}
 use Rattle.std.proofs.lemmas.Result.{err_from_is_err_and}
 use Rattle.station_span.proofs.FoundLemmas.{HasCurve, excused_by, refused_span, refused_curve, refused_length, refused_mark, found_whole}
-use Rattle.station_span.proofs.SpanLemmas.{book_years, has_offsets}
+use Rattle.station_span.proofs.SpanLemmas.{has_offsets}
 use Rattle.station_span.specs.Sites.{Site}
 use Rattle.station_span.proofs.station.find_at.Goals as goal
 
@@ -50,7 +50,7 @@ returns-clause-exact c =
         levels = c.in_ok-units.ensures.levels;
         predicts = c.in_ok-curve.ensures.predicts;
         gentle = c.in_ok-curve.ensures.gentle;
-        years = book_years _ c.requires.book;
+        years = c.in_ok-curve.ensures.years;
         span = c.in_ok-check_span.ensures.span;
         few = c.in_ok-check_length.ensures.few;
         mark = c.in_ok-check_mark.ensures.here;

@@ -1,6 +1,5 @@
 use Rattle.std.proofs.Common.{Ok, sym, ap, ◌∙◌}
 use Rattle.station_curve.proofs.Answering.{hydraulic_answer, ok_answer, fault_answer}
-use Rattle.station_curve.proofs.Predicting.{predicts_tide}
 use Rattle.station_curve.proofs.curve.StationCurve.of_station.Goals as goal
 
 pub returns-then-is_hydraulic-clause-exact : goal.returns-then-is_hydraulic-clause-exact
@@ -11,7 +10,4 @@ returns-in-Err-clause-exact c = fault_answer c.args.book.now c.args.station.now 
 
 pub returns-in-Ok-clause-exact : goal.returns-in-Ok-clause-exact
 returns-in-Ok-clause-exact c =
-    ok_answer c.args.book.now c.args.station.now (sym c.if-is_hydraulic.ensures) c.in-Ok.ensures.within ∙ ap Ok (sym c.of_years.ensures)
-
-pub returns-in-Ok-clause-predicts : goal.returns-in-Ok-clause-predicts
-returns-in-Ok-clause-predicts c = rw c.of_years.ensures (predicts_tide c.args.book.now c.args.station.now c.requires.book)
+    ok_answer c.args.book.now c.args.station.now (sym c.if-is_hydraulic.ensures) c.in-Ok.ensures.within ∙ ap Ok (sym c.of_years.ensures.exact)
