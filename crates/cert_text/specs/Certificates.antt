@@ -3,6 +3,7 @@ use Rattle.std.specs.Prelude.{◌≡◌, ◌≢◌, ℕ, ◌+◌, ◌≤◌, ℤ
 use Rattle.std.specs.Str.{IsUtf8}
 use Rattle.curve_law.specs.declared.cell.Cell.{Cell}
 use Rattle.curve_law.specs.declared.cell.Cell.TheVariants as cells
+use Rattle.curve_law.specs.declared.quiet.TheConstants.{MOST_MINUTES}
 use Rattle.zone_time.specs.Moments.{IsMoment}
 use Rattle.cert_text.specs.declared.certificate.Certificate.{Certificate}
 use Rattle.cert_text.specs.declared.track_name.TrackName.{TrackName}
@@ -26,13 +27,13 @@ IsLevel level = unsigned_abs level ≤ 99999999999999
 
 -- a cell that has a line
 abbrev pub IsCell : Cell → Type 0
-IsCell (cells.Quiet n) = (2 ≤ n) × (n ≤ 1024)
+IsCell (cells.Quiet n) = (2 ≤ n) × (n ≤ MOST_MINUTES)
 IsCell cells.Still = Unit {0}
 IsCell (cells.Turn kind level) = IsLevel level
 
 -- a cell that may stand in a track: its event, if it has one, is of the track
 abbrev pub IsCellOf : TrackName → Cell → Type 0
-IsCellOf track (cells.Quiet n) = (2 ≤ n) × (n ≤ 1024)
+IsCellOf track (cells.Quiet n) = (2 ≤ n) × (n ≤ MOST_MINUTES)
 IsCellOf track cells.Still = Unit {0}
 IsCellOf track (cells.Turn kind level) = (track_of kind ≡ track) × IsLevel level
 

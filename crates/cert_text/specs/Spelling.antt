@@ -4,6 +4,7 @@ use Rattle.std.specs.List.{AllZip}
 use Rattle.std.specs.Fmt.{signed_decimal}
 use Rattle.curve_law.specs.declared.cell.Cell.{Cell}
 use Rattle.curve_law.specs.declared.cell.Cell.TheVariants as cells
+use Rattle.curve_law.specs.declared.quiet.TheConstants.{MOST_MINUTES}
 use Rattle.curve_law.specs.declared.tracks.Tracks.{Tracks}
 use Rattle.zone_time.specs.Moments.{IsMoment, moment_text}
 use Rattle.cert_text.specs.declared.certificate.Certificate.{Certificate}
@@ -33,7 +34,7 @@ SpellsMark (Some mark) line = IsMark mark × (line ≡ codes "mark " ++ signed_d
 
 -- a cell of a track; no event of another track stands there
 abbrev pub SpellsCell : TrackName → Cell → List ℕ → Type 0
-SpellsCell track (cells.Quiet n) line = (2 ≤ n) × (n ≤ 1024) × (line ≡ codes "q " ++ decimal n)
+SpellsCell track (cells.Quiet n) line = (2 ≤ n) × (n ≤ MOST_MINUTES) × (line ≡ codes "q " ++ decimal n)
 SpellsCell track cells.Still line = line ≡ codes "s"
 SpellsCell track (cells.Turn kind level) line =
     (track_of kind ≡ track) × IsLevel level × (line ≡ codes "t " ++ kind_word kind ++ codes " " ++ signed_decimal level)

@@ -9,7 +9,8 @@ use Rattle.curve_law.specs.declared.verdict.Verdict.TheVariants.{Accepted, Wrong
 use Rattle.curve_law.specs.Track.{has_event, event_at}
 use Rattle.curve_law.specs.Meaning.{Meaning}
 use Rattle.curve_law.specs.Cells.{minutes_of, all_minutes}
-use Rattle.curve_law.specs.Cover.{most_minutes, is_quiet, unit_cell, split, cover}
+use Rattle.curve_law.specs.declared.quiet.TheConstants.{MOST_MINUTES}
+use Rattle.curve_law.specs.Cover.{is_quiet, unit_cell, split, cover}
 use Rattle.curve_law.specs.Verdicts.{cell_verdict, or_next, cells_verdict, verdict}
 use Rattle.curve_law.proofs.CoverLemmas.{by_test, split-one, split-step, cover-none, cover-last, cover-block}
 use Rattle.curve_law.proofs.VerdictLemmas.{same_kind-refl}
@@ -95,15 +96,15 @@ none-right c a = record { whole = refl; few = omega arith; right = λ number. re
 cover-right-within : (d : ℕ) (c : Meaning) (a : ℤ) (n : ℕ) → n ≤ d → AreRight c a n (cover c a n)
 cover-right-within d c a zero few = rw (cover-none c a) (none-right c a)
 cover-right-within zero c a (suc n) few = absurd (omega arith)
-cover-right-within (suc d) c a (suc n) few = by_test (nat_le (suc n) most_minutes)
-    (λ last. let small : suc n ≤ most_minutes = grind (arith, nat_tests) in
+cover-right-within (suc d) c a (suc n) few = by_test (nat_le (suc n) MOST_MINUTES)
+    (λ last. let small : suc n ≤ MOST_MINUTES = grind (arith, nat_tests) in
     rw (cover-last c a (suc n) small) (split-right c a (suc n) (omega arith)))
     (λ more.
-    let large : most_minutes < suc n = grind (arith, nat_tests) in
-    let first = split-right c a most_minutes (omega arith) in
-    let second = cover-right-within d c (a +ℤ pos most_minutes) (suc n - most_minutes) (omega arith) in
-    let both = AreRight-append c a most_minutes (suc n - most_minutes) _ _ first second in
-    let all : most_minutes + (suc n - most_minutes) ≡ suc n = omega arith in
+    let large : MOST_MINUTES < suc n = grind (arith, nat_tests) in
+    let first = split-right c a MOST_MINUTES (omega arith) in
+    let second = cover-right-within d c (a +ℤ pos MOST_MINUTES) (suc n - MOST_MINUTES) (omega arith) in
+    let both = AreRight-append c a MOST_MINUTES (suc n - MOST_MINUTES) _ _ first second in
+    let all : MOST_MINUTES + (suc n - MOST_MINUTES) ≡ suc n = omega arith in
     rw (cover-block c a (suc n) large) (rw all at both))
 
 pub cover-right : (c : Meaning) (a : ℤ) (n : ℕ) → AreRight c a n (cover c a n)

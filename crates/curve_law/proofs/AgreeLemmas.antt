@@ -12,7 +12,8 @@ use Rattle.curve_law.specs.declared.event.Event.{Event}
 use Rattle.curve_law.specs.Track.{has_event, event_at, plain_list}
 use Rattle.curve_law.specs.Meaning.{Meaning, AgreeOver}
 use Rattle.curve_law.specs.Cells.{minutes_of, all_minutes}
-use Rattle.curve_law.specs.Cover.{most_minutes, is_quiet, unit_cell, split_within, split, cover_within, cover}
+use Rattle.curve_law.specs.declared.quiet.TheConstants.{MOST_MINUTES}
+use Rattle.curve_law.specs.Cover.{is_quiet, unit_cell, split_within, split, cover_within, cover}
 use Rattle.curve_law.specs.Verdicts.{same_kind, step_verdict, cell_verdict, cells_verdict, verdict}
 use Rattle.curve_law.proofs.CoverLemmas.{by_test, split_within-step, cover_within-step}
 use Rattle.curve_law.proofs.TrackLemmas.{plain_list-zero, plain_list-one, plain_list-suc}
@@ -34,7 +35,7 @@ value-here c d a n agree = let here : a +ℤ pos 0 ≡ a = omega (arith, ints) i
 note-here : (c d : Meaning) (a : ℤ) (n : ℕ) → AgreeOver c d a n → c.track.note a ≡ d.track.note a
 note-here c d a n agree = let here : a +ℤ pos 0 ≡ a = omega (arith, ints) in rw here at (agree.notes 0 (omega arith))
 
-rate-here : (c d : Meaning) (a : ℤ) (n : ℕ) → 1 ≤ n → n ≤ most_minutes → AgreeOver c d a n → c.rate a n ≡ d.rate a n
+rate-here : (c d : Meaning) (a : ℤ) (n : ℕ) → 1 ≤ n → n ≤ MOST_MINUTES → AgreeOver c d a n → c.rate a n ≡ d.rate a n
 rate-here c d a n some few agree = let here : a +ℤ pos 0 ≡ a = omega (arith, ints) in rw here at (agree.rates 0 n (omega arith) some few)
 
 has_event-agrees : (c d : Meaning) (a : ℤ) (n : ℕ) → 1 ≤ n → AgreeOver c d a n → has_event c.track a ≡ has_event d.track a
@@ -51,10 +52,10 @@ plain_list-agrees c d a (suc n) agree =
 
 is_quiet-agrees : (c d : Meaning) (a : ℤ) (n : ℕ) → AgreeOver c d a n → is_quiet c a n ≡ is_quiet d a n
 unfolding is_quiet
-is_quiet-agrees c d a n agree = by_test (nat_le 2 n && nat_le n most_minutes)
+is_quiet-agrees c d a n agree = by_test (nat_le 2 n && nat_le n MOST_MINUTES)
     (λ fits.
     let some : 2 ≤ n = grind (arith, nat_tests) in
-    let few : n ≤ most_minutes = grind (arith, nat_tests) in
+    let few : n ≤ MOST_MINUTES = grind (arith, nat_tests) in
     let rate = rate-here c d a n (omega arith) few agree in
     let here = value-here c d a n agree in
     let there = agree.values n (omega arith) in
@@ -94,13 +95,13 @@ cover_within-agrees : (blocks : ℕ) (c d : Meaning) (a : ℤ) (n : ℕ) → Agr
 unfolding cover_within
 cover_within-agrees zero c d a n agree = refl
 cover_within-agrees (suc blocks) c d a zero agree = split-none-agrees c d a
-cover_within-agrees (suc blocks) c d a (suc n) agree = rw (cover_within-step blocks (suc n) c a, cover_within-step blocks (suc n) d a) (by_test (nat_le (suc n) most_minutes)
+cover_within-agrees (suc blocks) c d a (suc n) agree = rw (cover_within-step blocks (suc n) c a, cover_within-step blocks (suc n) d a) (by_test (nat_le (suc n) MOST_MINUTES)
     (λ last. rw (last, split-agrees c d a (suc n) (omega arith) agree) refl)
     (λ more.
-    let large : most_minutes < suc n = grind (arith, nat_tests) in
-    let first = split-agrees c d a most_minutes (omega arith) (rw here at (AgreeOver-part c d a (suc n) 0 most_minutes (omega arith) agree)) in
-    let rest = cover_within-agrees blocks c d (a +ℤ pos most_minutes) (suc n - most_minutes) (AgreeOver-part c d a (suc n) most_minutes (suc n - most_minutes) (omega arith) agree) in
-    rw (more, first) (ap (λ cells. split d a most_minutes ++ cells) rest)))
+    let large : MOST_MINUTES < suc n = grind (arith, nat_tests) in
+    let first = split-agrees c d a MOST_MINUTES (omega arith) (rw here at (AgreeOver-part c d a (suc n) 0 MOST_MINUTES (omega arith) agree)) in
+    let rest = cover_within-agrees blocks c d (a +ℤ pos MOST_MINUTES) (suc n - MOST_MINUTES) (AgreeOver-part c d a (suc n) MOST_MINUTES (suc n - MOST_MINUTES) (omega arith) agree) in
+    rw (more, first) (ap (λ cells. split d a MOST_MINUTES ++ cells) rest)))
   where
     here : a +ℤ pos 0 ≡ a
     here = omega (arith, ints)

@@ -4,7 +4,8 @@ use Rattle.std.proofs.lemmas.Bool.Decides.{nat_tests}
 use Rattle.curve_law.specs.declared.cell.Cell.{Cell}
 use Rattle.curve_law.specs.declared.cell.Cell.TheVariants.{Quiet}
 use Rattle.curve_law.specs.Meaning.{Meaning}
-use Rattle.curve_law.specs.Cover.{most_minutes, is_quiet, unit_cell, split_within, split, cover_within, cover}
+use Rattle.curve_law.specs.declared.quiet.TheConstants.{MOST_MINUTES}
+use Rattle.curve_law.specs.Cover.{is_quiet, unit_cell, split_within, split, cover_within, cover}
 
 -- a step of the rule, with the cells of the two halves
 abbrev pub halved : Meaning → ℤ → ℕ → List Cell → List Cell
@@ -38,11 +39,11 @@ split_within-step d n c a = two_tests (nat_le n 1) (is_quiet c a n) _ _ _
 
 -- a step of the rule for blocks, with the cells of the rest
 abbrev pub blocked : Meaning → ℤ → ℕ → List Cell → List Cell
-blocked c a n rest = cond (nat_le n most_minutes) (split c a n) (split c a most_minutes ++ rest)
+blocked c a n rest = cond (nat_le n MOST_MINUTES) (split c a n) (split c a MOST_MINUTES ++ rest)
 
-pub cover_within-step : (d n : ℕ) (c : Meaning) (a : ℤ) → cover_within (suc d) c a n ≡ blocked c a n (cover_within d c (a +ℤ pos most_minutes) (n - most_minutes))
+pub cover_within-step : (d n : ℕ) (c : Meaning) (a : ℤ) → cover_within (suc d) c a n ≡ blocked c a n (cover_within d c (a +ℤ pos MOST_MINUTES) (n - MOST_MINUTES))
 unfolding cover_within
-cover_within-step d n c a = one_test (nat_le n most_minutes) _ _
+cover_within-step d n c a = one_test (nat_le n MOST_MINUTES) _ _
 
 split_within-more : (d e n : ℕ) (c : Meaning) (a : ℤ) → 1 ≤ n → n ≤ d → n ≤ e → split_within d c a n ≡ split_within e c a n
 split_within-more zero e n c a some few also = absurd (omega arith)
@@ -90,24 +91,24 @@ cover_within-more (suc d) zero zero c a few also = split-none c a
 cover_within-more (suc d) zero (suc n) c a few also = absurd (omega arith)
 cover_within-more (suc d) (suc e) n c a few also =
     cover_within-step d n c a
-    ∙ ap (blocked c a n) (cover_within-more d e (n - most_minutes) c (a +ℤ pos most_minutes) (omega arith) (omega arith))
+    ∙ ap (blocked c a n) (cover_within-more d e (n - MOST_MINUTES) c (a +ℤ pos MOST_MINUTES) (omega arith) (omega arith))
     ∙ sym (cover_within-step e n c a)
 
 pub cover-none : (c : Meaning) (a : ℤ) → cover c a 0 ≡ []
 unfolding cover cover_within
 cover-none c a = refl
 
-pub cover-last : (c : Meaning) (a : ℤ) (n : ℕ) → n ≤ most_minutes → cover c a n ≡ split c a n
+pub cover-last : (c : Meaning) (a : ℤ) (n : ℕ) → n ≤ MOST_MINUTES → cover c a n ≡ split c a n
 unfolding cover
 cover-last c a zero few = cover-none c a ∙ sym (split-none c a)
 cover-last c a (suc n) few =
-    let e : nat_le (suc n) most_minutes ≡ true = grind (arith, nat_tests) in
+    let e : nat_le (suc n) MOST_MINUTES ≡ true = grind (arith, nat_tests) in
     cover_within-step n (suc n) c a ∙ rw e refl
 
-pub cover-block : (c : Meaning) (a : ℤ) (n : ℕ) → most_minutes < n → cover c a n ≡ split c a most_minutes ++ cover c (a +ℤ pos most_minutes) (n - most_minutes)
+pub cover-block : (c : Meaning) (a : ℤ) (n : ℕ) → MOST_MINUTES < n → cover c a n ≡ split c a MOST_MINUTES ++ cover c (a +ℤ pos MOST_MINUTES) (n - MOST_MINUTES)
 unfolding cover
 cover-block c a zero more = absurd (omega arith)
 cover-block c a (suc n) more =
-    let e : nat_le (suc n) most_minutes ≡ false = grind (arith, nat_tests) in
-    let rest = cover_within-more n (suc n - most_minutes) (suc n - most_minutes) c (a +ℤ pos most_minutes) (omega arith) (omega arith) in
-    cover_within-step n (suc n) c a ∙ rw e (ap (λ cells. split c a most_minutes ++ cells) rest)
+    let e : nat_le (suc n) MOST_MINUTES ≡ false = grind (arith, nat_tests) in
+    let rest = cover_within-more n (suc n - MOST_MINUTES) (suc n - MOST_MINUTES) c (a +ℤ pos MOST_MINUTES) (omega arith) (omega arith) in
+    cover_within-step n (suc n) c a ∙ rw e (ap (λ cells. split c a MOST_MINUTES ++ cells) rest)

@@ -5,7 +5,8 @@ use Rattle.std.proofs.lemmas.Int.{ints}
 use Rattle.curve_law.specs.Track.{Track, side_at, has_event}
 use Rattle.curve_law.specs.declared.cell.Cell.TheVariants.{Still, Turn}
 use Rattle.curve_law.specs.Meaning.{Meaning, IsSpan, IsRate, IsLawful}
-use Rattle.curve_law.specs.Cover.{most_minutes, keeps_side, is_quiet, unit_cell}
+use Rattle.curve_law.specs.declared.quiet.TheConstants.{MOST_MINUTES}
+use Rattle.curve_law.specs.Cover.{keeps_side, is_quiet, unit_cell}
 
 -- how far the value is after so many minutes
 drift_up : (f : ℤ → ℤ) (a : ℤ) (r n : ℕ) → ((k : ℕ) → k < n → unsigned_abs (f (a +ℤ pos k +ℤ pos 1) -ℤ f (a +ℤ pos k)) ≤ r) → f (a +ℤ pos n) ≤ℤ (f a +ℤ pos (r * n))
@@ -60,7 +61,7 @@ same_side c a j i (pos r) some is keeps =
     by_sides (c.track.value a) (c.track.value (a +ℤ pos (j + i))) (c.track.value (a +ℤ pos j)) (pos (r * (j + i))) above below keeps
 
 -- the parts of the test
-quiet_parts : (c : Meaning) (a : ℤ) (n : ℕ) → is_quiet c a n ≡ true → (2 ≤ n) × (n ≤ most_minutes) × (keeps_side (c.rate a n) n (c.track.value a) (c.track.value (a +ℤ pos n)) ≡ true)
+quiet_parts : (c : Meaning) (a : ℤ) (n : ℕ) → is_quiet c a n ≡ true → (2 ≤ n) × (n ≤ MOST_MINUTES) × (keeps_side (c.rate a n) n (c.track.value a) (c.track.value (a +ℤ pos n)) ≡ true)
 unfolding is_quiet
 quiet_parts c a n quiet = (grind (arith, nat_tests), grind (arith, nat_tests), grind arith)
 
@@ -68,7 +69,7 @@ no_rate : (n : ℕ) (v w : ℤ) → keeps_side None n v w ≡ true → ⊥
 unfolding keeps_side
 no_rate n v w h = cc
 
-rated : (c : Meaning) (a : ℤ) (n : ℕ) → (o : Option ℤ) → c.rate a n ≡ o → IsLawful c → IsSpan c a n → 2 ≤ n → n ≤ most_minutes → keeps_side o n (c.track.value a) (c.track.value (a +ℤ pos n)) ≡ true → (j : ℕ) → j ≤ n → side_at c.track (a +ℤ pos j) ≡ side_at c.track a
+rated : (c : Meaning) (a : ℤ) (n : ℕ) → (o : Option ℤ) → c.rate a n ≡ o → IsLawful c → IsSpan c a n → 2 ≤ n → n ≤ MOST_MINUTES → keeps_side o n (c.track.value a) (c.track.value (a +ℤ pos n)) ≡ true → (j : ℕ) → j ≤ n → side_at c.track (a +ℤ pos j) ≡ side_at c.track a
 rated c a n None is lawful span two most keeps j few = absurd (no_rate n _ _ keeps)
 rated c a n (Some rate) is lawful span two most keeps j few =
     let all : n ≡ j + (n - j) = omega arith in
@@ -118,21 +119,21 @@ pub keeps-not_below : (v w rate : ℤ) (n : ℕ) → v ≤ℤ pos 0 → pos 0 <�
 unfolding keeps_side
 keeps-not_below v w rate n first second = grind (arith, ints)
 
-pub is_quiet-length : (c : Meaning) (a : ℤ) (n : ℕ) → (n < 2) ⊎ (2 ≤ n × most_minutes < n) → false ≡ is_quiet c a n
+pub is_quiet-length : (c : Meaning) (a : ℤ) (n : ℕ) → (n < 2) ⊎ (2 ≤ n × MOST_MINUTES < n) → false ≡ is_quiet c a n
 unfolding is_quiet
 is_quiet-length c a n other =
-    let e : (nat_le 2 n && nat_le n most_minutes) ≡ false = grind (arith, nat_tests) in rw e refl
+    let e : (nat_le 2 n && nat_le n MOST_MINUTES) ≡ false = grind (arith, nat_tests) in rw e refl
 
-pub is_quiet-rate : (c : Meaning) (a : ℤ) (n : ℕ) (o : Option ℤ) → 2 ≤ n → n ≤ most_minutes → o ≡ c.rate a n → keeps_side o n (c.track.value a) (c.track.value (a +ℤ pos n)) ≡ is_quiet c a n
+pub is_quiet-rate : (c : Meaning) (a : ℤ) (n : ℕ) (o : Option ℤ) → 2 ≤ n → n ≤ MOST_MINUTES → o ≡ c.rate a n → keeps_side o n (c.track.value a) (c.track.value (a +ℤ pos n)) ≡ is_quiet c a n
 unfolding is_quiet
 is_quiet-rate c a n o two most is =
-    let e : (nat_le 2 n && nat_le n most_minutes) ≡ true = grind (arith, nat_tests) in rw (e, is) refl
+    let e : (nat_le 2 n && nat_le n MOST_MINUTES) ≡ true = grind (arith, nat_tests) in rw (e, is) refl
 
-pub no_rate-quiet : (c : Meaning) (a : ℤ) (n : ℕ) → 2 ≤ n → n ≤ most_minutes → None ≡ c.rate a n → false ≡ is_quiet c a n
+pub no_rate-quiet : (c : Meaning) (a : ℤ) (n : ℕ) → 2 ≤ n → n ≤ MOST_MINUTES → None ≡ c.rate a n → false ≡ is_quiet c a n
 unfolding keeps_side
 no_rate-quiet c a n two most is = is_quiet-rate c a n None two most is
 
-pub rate-positive : (c : Meaning) (a : ℤ) (n : ℕ) (rate : ℤ) → IsLawful c → IsSpan c a n → 2 ≤ n → n ≤ most_minutes → Some rate ≡ c.rate a n → pos 0 ≤ℤ rate
+pub rate-positive : (c : Meaning) (a : ℤ) (n : ℕ) (rate : ℤ) → IsLawful c → IsSpan c a n → 2 ≤ n → n ≤ MOST_MINUTES → Some rate ≡ c.rate a n → pos 0 ≤ℤ rate
 rate-positive c a n rate lawful span two most is =
     let law = lawful.rates a n rate (record { first = span.first; last = span.last; some = omega arith; few = most }) (sym is) in
     let step = law.steps 0 (omega arith) in

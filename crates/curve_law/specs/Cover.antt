@@ -2,6 +2,7 @@
 use Rattle.std.specs.Prelude.{ℕ, zero, suc, ◌-◌, ◌/◌, ℤ, pos, ◌+ℤ◌, ◌*ℤ◌, neg_ℤ, int_lt, int_le, nat_le, Bool, true, false, ◌&&◌, ◌||◌, if◌then◌else◌, Option, Some, None, List, [], ◌∷◌, ◌++◌}
 use Rattle.curve_law.specs.declared.cell.Cell.{Cell}
 use Rattle.curve_law.specs.declared.cell.Cell.TheVariants.{Quiet, Still, Turn}
+use Rattle.curve_law.specs.declared.quiet.TheConstants.{MOST_MINUTES}
 use Rattle.curve_law.specs.Track.{Track, has_event, event_at}
 use Rattle.curve_law.specs.Meaning.{Meaning}
 
@@ -12,14 +13,10 @@ keeps_side (Some rate) n v w =
     (int_lt (pos 0) v && int_lt (pos 0) w && int_lt (rate *ℤ pos n) (v +ℤ w))
     || (int_le v (pos 0) && int_le w (pos 0) && int_le (rate *ℤ pos n) (neg_ℤ (v +ℤ w)))
 
--- the most minutes of a quiet cell
-abbrev pub most_minutes : ℕ
-most_minutes = 1024
-
 -- a cell of so many minutes from a minute on is quiet
 unfoldable pub is_quiet : Meaning → ℤ → ℕ → Bool
 is_quiet c a n =
-    nat_le 2 n && nat_le n most_minutes && keeps_side (c.rate a n) n (c.track.value a) (c.track.value (a +ℤ pos n))
+    nat_le 2 n && nat_le n MOST_MINUTES && keeps_side (c.rate a n) n (c.track.value a) (c.track.value (a +ℤ pos n))
 
 -- the cell of a single minute
 unfoldable pub unit_cell : Track → ℤ → Cell
@@ -45,9 +42,9 @@ split c a n = split_within n c a n
 unfoldable pub cover_within : ℕ → Meaning → ℤ → ℕ → List Cell
 cover_within zero c a n = []
 cover_within (suc blocks) c a n =
-    elim (nat_le n most_minutes) [
+    elim (nat_le n MOST_MINUTES) [
       | true ↦ split c a n
-      | false ↦ split c a most_minutes ++ cover_within blocks c (a +ℤ pos most_minutes) (n - most_minutes)
+      | false ↦ split c a MOST_MINUTES ++ cover_within blocks c (a +ℤ pos MOST_MINUTES) (n - MOST_MINUTES)
     ]
 
 -- the cells of a span of so many minutes, in blocks of 1,024 minutes from its begin on, of which the last may be shorter

@@ -1,5 +1,6 @@
 -- What is known of a curve: a track, and how fast its value may change (this project).
 use Rattle.std.specs.Prelude.{◌≡◌, ℕ, ◌+◌, ◌*◌, ◌^◌, ◌<◌, ◌≤◌, ℤ, pos, neg_ℤ, ◌+ℤ◌, ◌-ℤ◌, ◌*ℤ◌, ◌≤ℤ◌, ◌<ℤ◌, unsigned_abs, Option, Some}
+use Rattle.curve_law.specs.declared.quiet.TheConstants.{MOST_MINUTES}
 use Rattle.curve_law.specs.Track.{Track}
 
 -- the minutes from the first to the last, the track over them, and how much its value changes at most in each minute of a cell,
@@ -25,11 +26,11 @@ pub record IsCell (c : Meaning) (a : ℤ) (n : ℕ) : Type 0 where
   pub first : c.first ≤ℤ a
   pub last : (a +ℤ pos n) ≤ℤ c.last
   pub some : 1 ≤ n
-  pub few : n ≤ 1024
+  pub few : n ≤ MOST_MINUTES
 
 -- each step of a minute within the cell changes the value by at most the rate
 pub record IsRate (c : Meaning) (a : ℤ) (n : ℕ) (rate : ℤ) : Type 0 where
-  pub small : (rate *ℤ pos 1024) <ℤ pos (5 * 10 ^ 37)
+  pub small : (rate *ℤ pos MOST_MINUTES) <ℤ pos (5 * 10 ^ 37)
   pub steps : (k : ℕ) → k < n →
       pos (unsigned_abs (c.track.value (a +ℤ pos k +ℤ pos 1) -ℤ c.track.value (a +ℤ pos k))) ≤ℤ rate
 
@@ -47,4 +48,4 @@ pub record AgreeOver (c d : Meaning) (a : ℤ) (n : ℕ) : Type 0 where
   pub falling : c.track.falling ≡ d.track.falling
   pub values : (k : ℕ) → k ≤ n → c.track.value (a +ℤ pos k) ≡ d.track.value (a +ℤ pos k)
   pub notes : (k : ℕ) → k ≤ n → c.track.note (a +ℤ pos k) ≡ d.track.note (a +ℤ pos k)
-  pub rates : (k l : ℕ) → k + l ≤ n → 1 ≤ l → l ≤ 1024 → c.rate (a +ℤ pos k) l ≡ d.rate (a +ℤ pos k) l
+  pub rates : (k l : ℕ) → k + l ≤ n → 1 ≤ l → l ≤ MOST_MINUTES → c.rate (a +ℤ pos k) l ≡ d.rate (a +ℤ pos k) l

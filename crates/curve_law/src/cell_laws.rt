@@ -2,6 +2,7 @@
 
 ghost use Rattle.std.specs.Prelude.{◌≡◌, ℕ, ◌+◌, ◌-◌, ◌/◌, ◌<◌, ◌≤◌, ℤ, pos, ◌+ℤ◌, true, false, List, [], ◌∷◌, ◌++◌, length};
 ghost use Rattle.curve_law.specs.declared.cell.Cell.{Cell};
+ghost use Rattle.curve_law.specs.declared.quiet.TheConstants.{MOST_MINUTES};
 ghost use Rattle.curve_law.specs.declared.verdict.Verdict.{Verdict};
 ghost use Rattle.curve_law.specs.Track.{side_at, has_event, plain_list};
 ghost use Rattle.curve_law.specs.Meaning.{Meaning, IsSpan, IsLawful, AgreeOver};
@@ -22,9 +23,9 @@ pub fn cells_are_halved()
 /// of 1,024 minutes and of the rest.
 pub fn spans_are_cut_into_blocks()
     ensures no_minute { (c : Meaning) (a : ℤ) → cover c a 0 ≡ [] }
-    ensures last_block { (c : Meaning) (a : ℤ) (n : ℕ) → n ≤ 1024 → cover c a n ≡ split c a n }
-    ensures block { (c : Meaning) (a : ℤ) (n : ℕ) → 1024 < n →
-        cover c a n ≡ split c a 1024 ++ cover c (a +ℤ pos 1024) (n - 1024) }
+    ensures last_block { (c : Meaning) (a : ℤ) (n : ℕ) → n ≤ MOST_MINUTES → cover c a n ≡ split c a n }
+    ensures block { (c : Meaning) (a : ℤ) (n : ℕ) → MOST_MINUTES < n →
+        cover c a n ≡ split c a MOST_MINUTES ++ cover c (a +ℤ pos MOST_MINUTES) (n - MOST_MINUTES) }
 {}
 
 /// Inside a quiet cell no side differs from that at its ends, and no event stands after any of its

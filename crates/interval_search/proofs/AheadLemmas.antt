@@ -6,6 +6,7 @@ use Rattle.std.proofs.lemmas.Nat.{pow_pos}
 use Rattle.std.proofs.lemmas.List.{append-nil}
 use Rattle.std.proofs.Math.Nat.{mul-le-mul_left, mul-le-mul_right, pow-le-pow_right, pow-suc}
 use Rattle.curve_law.specs.declared.cell.Cell.{Cell}
+use Rattle.curve_law.specs.declared.quiet.TheConstants.{MOST_MINUTES}
 use Rattle.curve_law.specs.Meaning.{Meaning, IsLawful}
 use Rattle.curve_law.specs.Cells.{minutes_of, all_minutes}
 use Rattle.curve_law.specs.Cover.{is_quiet, unit_cell, split, cover}
@@ -22,31 +23,31 @@ minutes_to-add : (a : ℤ) (n : ℕ) → minutes_to a (a +ℤ pos n) ≡ n
 minutes_to-add a n = omega (arith, ints)
 
 -- a block begun gives the same cells
-last-cells : (c : Meaning) (end a b : ℤ) → a <ℤ end → minutes_to a end ≤ 1024 → b ≡ end → split c a (minutes_to a b) ++ cover c b (minutes_to b end) ≡ cover c a (minutes_to a end)
+last-cells : (c : Meaning) (end a b : ℤ) → a <ℤ end → minutes_to a end ≤ MOST_MINUTES → b ≡ end → split c a (minutes_to a b) ++ cover c b (minutes_to b end) ≡ cover c a (minutes_to a end)
 last-cells c end a b some few is =
     let none : minutes_to end end ≡ 0 = omega (arith, ints) in
     rw (is, none, cover-none c end, append-nil) (sym (cover-last c a (minutes_to a end) few))
 
-more-cells : (c : Meaning) (end a b : ℤ) → a <ℤ end → 1024 < minutes_to a end → b ≡ a +ℤ pos 1024 → split c a (minutes_to a b) ++ cover c b (minutes_to b end) ≡ cover c a (minutes_to a end)
+more-cells : (c : Meaning) (end a b : ℤ) → a <ℤ end → MOST_MINUTES < minutes_to a end → b ≡ a +ℤ pos MOST_MINUTES → split c a (minutes_to a b) ++ cover c b (minutes_to b end) ≡ cover c a (minutes_to a end)
 more-cells c end a b some many is =
-    let block : minutes_to a (a +ℤ pos 1024) ≡ 1024 = omega (arith, ints) in
-    let rest : minutes_to (a +ℤ pos 1024) end ≡ minutes_to a end - 1024 = omega (arith, ints) in
+    let block : minutes_to a (a +ℤ pos MOST_MINUTES) ≡ MOST_MINUTES = omega (arith, ints) in
+    let rest : minutes_to (a +ℤ pos MOST_MINUTES) end ≡ minutes_to a end - MOST_MINUTES = omega (arith, ints) in
     rw (is, block, rest) (sym (cover-block c a (minutes_to a end) many))
 
-block-cells : (c : Meaning) (end a b : ℤ) → a <ℤ end → b ≡ a +ℤ pos (min (minutes_to a end) 1024) → split c a (minutes_to a b) ++ cover c b (minutes_to b end) ≡ cover c a (minutes_to a end)
-block-cells c end a b some is = by_test (nat_le (minutes_to a end) 1024)
-    (λ last. let few : minutes_to a end ≤ 1024 = grind (arith, nat_tests) in last-cells c end a b some few (omega (arith, ints)))
-    (λ more. let many : 1024 < minutes_to a end = grind (arith, nat_tests) in more-cells c end a b some many (omega (arith, ints)))
+block-cells : (c : Meaning) (end a b : ℤ) → a <ℤ end → b ≡ a +ℤ pos (min (minutes_to a end) MOST_MINUTES) → split c a (minutes_to a b) ++ cover c b (minutes_to b end) ≡ cover c a (minutes_to a end)
+block-cells c end a b some is = by_test (nat_le (minutes_to a end) MOST_MINUTES)
+    (λ last. let few : minutes_to a end ≤ MOST_MINUTES = grind (arith, nat_tests) in last-cells c end a b some few (omega (arith, ints)))
+    (λ more. let many : MOST_MINUTES < minutes_to a end = grind (arith, nat_tests) in more-cells c end a b some many (omega (arith, ints)))
 
-pub begun-cells : (c : Meaning) (end a : ℤ) (p : Point) → a <ℤ end → p.minute ≡ a +ℤ pos (min (minutes_to a end) 1024) → cells_ahead c end a (p ∷ []) ≡ cells_ahead c end a []
+pub begun-cells : (c : Meaning) (end a : ℤ) (p : Point) → a <ℤ end → p.minute ≡ a +ℤ pos (min (minutes_to a end) MOST_MINUTES) → cells_ahead c end a (p ∷ []) ≡ cells_ahead c end a []
 unfolding cells_ahead
 begun-cells c end a p some is = block-cells c end a p.minute some is
 
-pub begun-pieces : (c : Meaning) (end a : ℤ) (p : Point) → a <ℤ end → p.minute ≡ a +ℤ pos (min (minutes_to a end) 1024) → p.value ≡ c.track.value p.minute → ArePieces c end a (p ∷ [])
+pub begun-pieces : (c : Meaning) (end a : ℤ) (p : Point) → a <ℤ end → p.minute ≡ a +ℤ pos (min (minutes_to a end) MOST_MINUTES) → p.value ≡ c.track.value p.minute → ArePieces c end a (p ∷ [])
 unfolding ArePieces
 begun-pieces c end a p some is value = (omega (arith, ints), omega (arith, ints), value, omega (arith, ints))
 
-pub begun-stands : (c : Meaning) (count : ℕ) (end : ℤ) (at p : Point) → at.minute <ℤ end → p.minute ≡ at.minute +ℤ pos (min (minutes_to at.minute end) 1024) → p.value ≡ c.track.value p.minute → Stands c count end at [] → Stands c (count + 1) end at (p ∷ [])
+pub begun-stands : (c : Meaning) (count : ℕ) (end : ℤ) (at p : Point) → at.minute <ℤ end → p.minute ≡ at.minute +ℤ pos (min (minutes_to at.minute end) MOST_MINUTES) → p.value ≡ c.track.value p.minute → Stands c count end at [] → Stands c (count + 1) end at (p ∷ [])
 begun-stands c count end at p some is value stands =
     let few = stands.few in
     let same = ap length (begun-cells c end at.minute p some is) in
@@ -59,7 +60,7 @@ begun-stands c count end at p some is value stands =
     }
 
 -- the same as a call tells it
-pub begun-at : (c : Meaning) (count more : ℕ) (end : ℤ) (at : Point) (b : ℤ) (p : Point) (old new : List Point) → at.minute <ℤ end → b ≡ at.minute +ℤ pos (min (minutes_to at.minute end) 1024) → p ≡ record { minute = b; value = c.track.value b } → more ≡ count + 1 → old ≡ [] → new ≡ [] → Stands c count end at old → Stands c more end at (p ∷ new) × (cells_ahead c end at.minute (p ∷ new) ≡ cells_ahead c end at.minute old)
+pub begun-at : (c : Meaning) (count more : ℕ) (end : ℤ) (at : Point) (b : ℤ) (p : Point) (old new : List Point) → at.minute <ℤ end → b ≡ at.minute +ℤ pos (min (minutes_to at.minute end) MOST_MINUTES) → p ≡ record { minute = b; value = c.track.value b } → more ≡ count + 1 → old ≡ [] → new ≡ [] → Stands c count end at old → Stands c more end at (p ∷ new) × (cells_ahead c end at.minute (p ∷ new) ≡ cells_ahead c end at.minute old)
 begun-at c count more end at b p old new some is point counted empty none stands =
     let q : Point = record { minute = b; value = c.track.value b } in
     let begun = begun-stands c count end at q some is refl (rw empty at stands) in
@@ -67,7 +68,7 @@ begun-at c count more end at b p old new some is point counted empty none stands
     (rw (point, counted, none) begun, rw (point, empty, none) cells)
 
 -- the nearest piece, and what is halved of it
-piece-parts : (c : Meaning) (end a : ℤ) (p : Point) (ps : List Point) → ArePieces c end a (p ∷ ps) → (a <ℤ p.minute) × (minutes_to a p.minute * 2 ^ length ps ≤ 1024) × (p.value ≡ c.track.value p.minute) × ArePieces c end p.minute ps
+piece-parts : (c : Meaning) (end a : ℤ) (p : Point) (ps : List Point) → ArePieces c end a (p ∷ ps) → (a <ℤ p.minute) × (minutes_to a p.minute * 2 ^ length ps ≤ MOST_MINUTES) × (p.value ≡ c.track.value p.minute) × ArePieces c end p.minute ps
 unfolding ArePieces
 piece-parts c end a p ps pieces = pieces
 
@@ -80,7 +81,7 @@ pieces-end c end a (p ∷ ps) pieces =
     omega (arith, ints)
 
 -- a power is at least 1
-one_or_more : (k n : ℕ) → n * 2 ^ k ≤ 1024 → n ≤ 1024
+one_or_more : (k n : ℕ) → n * 2 ^ k ≤ MOST_MINUTES → n ≤ MOST_MINUTES
 one_or_more k n few = let p = pow_pos k in let q = mul-le-mul_left n p in omega (arith, q)
 
 -- what lies ahead of a point to the nearest one
@@ -134,13 +135,13 @@ unfolding cells_ahead
 middle-cells c end a m p ps some two loud is = halved-cells c end a m.minute p.minute (cells_ahead c end p.minute ps) some two loud is
 
 -- a half that is halved once more
-half_few : (n k : ℕ) → n * 2 ^ k ≤ 1024 → (n / 2) * 2 ^ suc k ≤ 1024
+half_few : (n k : ℕ) → n * 2 ^ k ≤ MOST_MINUTES → (n / 2) * 2 ^ suc k ≤ MOST_MINUTES
 half_few n k few =
     let half : n / 2 * 2 ≤ n = omega arith in
     let less = mul-le-mul_right (2 ^ k) half in
     omega (arith, pow-suc 2 k, ap (λ p. n / 2 * p) (pow-suc 2 k), less)
 
-rest_few : (n k : ℕ) → n * 2 ^ k ≤ 1024 → (n - n / 2) * 2 ^ k ≤ 1024
+rest_few : (n k : ℕ) → n * 2 ^ k ≤ MOST_MINUTES → (n - n / 2) * 2 ^ k ≤ MOST_MINUTES
 rest_few n k few = let less = mul-le-mul_right (2 ^ k) (le-sub n (n / 2)) in omega (arith, less)
   where
     le-sub : (a b : ℕ) → a - b ≤ a

@@ -35,7 +35,7 @@ pub fn middle<C: Curve>(curve: &mut C, begin: Point, end: Point) -> Point
 
 fn halfway(begin: i64, end: i64) -> i64
     requires some { begin <ℤ end }
-    requires few { end ≤ℤ (begin +ℤ pos 1024) }
+    requires few { end ≤ℤ (begin +ℤ pos MOST_MINUTES) }
     ensures { result ≡ begin +ℤ pos (minutes_to begin end / 2) }
 {
     begin + i64::from(minutes(begin, end) / 2)
@@ -45,14 +45,14 @@ fn halfway(begin: i64, end: i64) -> i64
 pub fn block_end(begin: i64, end: i64) -> i64
     requires some { begin <ℤ end }
     requires near { unsigned_abs begin ≤ 2 ^ 60 }
-    ensures { result ≡ begin +ℤ pos (min (minutes_to begin end) 1024) }
+    ensures { result ≡ begin +ℤ pos (min (minutes_to begin end) MOST_MINUTES) }
 {
     end.min(begin + i64::from(MOST_MINUTES))
 }
 
 fn minutes(begin: i64, end: i64) -> u32
     requires some { begin <ℤ end }
-    requires few { end ≤ℤ (begin +ℤ pos 1024) }
+    requires few { end ≤ℤ (begin +ℤ pos MOST_MINUTES) }
     ensures { result ≡ minutes_to begin end }
 {
     (end - begin) as u32

@@ -1,15 +1,13 @@
 //! Moments, local times and zone files.
 
-ghost use Rattle.zone_time.specs.Zones.{IsZone};
-
 use arrayvec::ArrayString;
 use std::alloc::Global;
 use std::process::Abort;
 use std::test::Fail;
 use zone_time::{
-    Label, Local, Zone, ZoneFault, days_have_their_date, moments_have_one_text, read_moment,
-    read_zone, worked_clocks, worked_locals, worked_readings, worked_texts, worked_zone_files,
-    write_local, write_moment, zone_files_go_by_jiff,
+    Label, Local, Zone, ZoneClock, ZoneFault, days_have_their_date, moments_have_one_text,
+    read_moment, read_zone, worked_clocks, worked_locals, worked_readings, worked_texts,
+    worked_zone_files, write_local, write_moment, zone_files_go_by_jiff,
 };
 
 #[test]
@@ -138,9 +136,7 @@ fn new_york(alloc: Global, footer: &[u8]) -> Result<Vec<u8>, Fail> {
     Ok(bytes)
 }
 
-fn check_new_york(rt: &impl Abort, zone: &Zone) -> Result<(), Fail>
-    requires { IsZone zone.now }
-{
+fn check_new_york(rt: &impl Abort, clock: &ZoneClock<'_>) -> Result<(), Fail> {
     for (minute, ahead) in [
         (-63113760, -297),
         (-45294181, -297),
@@ -154,7 +150,7 @@ fn check_new_york(rt: &impl Abort, zone: &Zone) -> Result<(), Fail>
         (16223400, -300),
     ] {
         assert!(rt; (-1035069120..=3855733919).contains(&minute));
-        let local = zone.local(minute);
+        let local = clock.local(minute);
         assert!(rt; local.label == Label::Minutes(ahead), "{minute}");
         assert!(rt; local.minute == minute + i64::from(ahead), "{minute}");
     }
@@ -165,7 +161,9 @@ fn check_new_york(rt: &impl Abort, zone: &Zone) -> Result<(), Fail>
 fn zones_show_local_times(rt: HostRuntime) -> Result<(), Fail> {
     let bytes = new_york(rt.alloc(), b"\nEST5EDT,M3.2.0,M11.1.0\n")?;
     let zone = read_zone(rt.alloc(), bytes.as_slice())?;
-    check_new_york(&rt, &zone)?;
+    let clock = zone.clock();
+    check_new_york(&rt, &clock)?;
+    assert!(rt; matches!(clock.zone(), Zone::File(_)));
     let local = Zone::Fixed(-300).local(15791400);
     assert!(rt; local.minute == 15791100 && local.label == Label::Minutes(-300));
     let local = Zone::Utc.local(15791400);

@@ -14,7 +14,8 @@ use Rattle.curve_law.specs.declared.kind.Kind.{Kind}
 use Rattle.curve_law.specs.declared.verdict.Verdict.{Verdict}
 use Rattle.curve_law.specs.declared.verdict.Verdict.TheVariants.{Accepted, WrongLength, NotQuiet, WrongStep, WrongLevel}
 use Rattle.curve_law.specs.Cells.{minutes_of, all_minutes}
-use Rattle.curve_law.specs.Cover.{most_minutes, is_quiet}
+use Rattle.curve_law.specs.declared.quiet.TheConstants.{MOST_MINUTES}
+use Rattle.curve_law.specs.Cover.{is_quiet}
 use Rattle.curve_law.specs.Meaning.{Meaning, IsMinute, IsSpan}
 use Rattle.curve_law.specs.Track.{side_at, has_event, event_at}
 use Rattle.curve_law.specs.Verdicts.{same_kind, cell_verdict, or_next, cells_verdict, verdict}
@@ -49,11 +50,11 @@ event_track : (track : TrackName) (c : Meaning) (above : Bool) → IsOf track c 
 event_track track c true is = is.falling
 event_track track c false is = is.rising
 
-quiet_length : (c : Meaning) (a : ℤ) (n : ℕ) → is_quiet c a n ≡ true → (2 ≤ n) × (n ≤ 1024)
+quiet_length : (c : Meaning) (a : ℤ) (n : ℕ) → is_quiet c a n ≡ true → (2 ≤ n) × (n ≤ MOST_MINUTES)
 unfolding is_quiet
 quiet_length c a n quiet =
     let both = both_true _ _ quiet in
-    let length = both_true (nat_le 2 n) (nat_le n most_minutes) both.0 in
+    let length = both_true (nat_le 2 n) (nat_le n MOST_MINUTES) both.0 in
     let least = length.0 in
     let most = length.1 in
     (grind (arith, nat_tests), grind (arith, nat_tests))

@@ -7,6 +7,7 @@ use Rattle.curve_law.specs.declared.cell.Cell.{Cell}
 use Rattle.curve_law.specs.declared.cell.Cell.TheVariants as cells
 use Rattle.curve_law.specs.declared.kind.Kind.{Kind}
 use Rattle.curve_law.specs.declared.kind.Kind.TheVariants.{High, Low, FloodBegins, EbbBegins, MarkRising, MarkFalling}
+use Rattle.curve_law.specs.declared.quiet.TheConstants.{MOST_MINUTES}
 use Rattle.decimal_text.specs.Digits.{digits_of}
 use Rattle.zone_time.specs.Moments.{moment_of}
 use Rattle.cert_text.specs.declared.track_name.TrackName.{TrackName}
@@ -64,7 +65,7 @@ mark_of line =
     else option_and_then mark_within (option_and_then number_of (after (codes "mark ") line))
 
 abbrev pub quiet_for : ℕ → Option Cell
-quiet_for n = if nat_le 2 n && nat_le n 1024 then Some (cells.Quiet n) else None
+quiet_for n = if nat_le 2 n && nat_le n MOST_MINUTES then Some (cells.Quiet n) else None
 
 unfoldable pub quiet_of : List ℕ → Option Cell
 quiet_of line = option_and_then quiet_for (option_and_then size_of (after (codes "q ") line))

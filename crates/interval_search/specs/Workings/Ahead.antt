@@ -1,6 +1,7 @@
 -- The pieces that a search has ahead of it. No public clause cites this.
 use Rattle.std.specs.Prelude.{◌≡◌, ℕ, ◌+◌, ◌-◌, ◌*◌, ◌^◌, ◌≤◌, ℤ, pos, ◌+ℤ◌, ◌-ℤ◌, ◌≤ℤ◌, ◌<ℤ◌, unsigned_abs, false, List, [], ◌∷◌, ◌++◌, length, Option, Some, None}
 use Rattle.curve_law.specs.declared.cell.Cell.{Cell}
+use Rattle.curve_law.specs.declared.quiet.TheConstants.{MOST_MINUTES}
 use Rattle.curve_law.specs.Meaning.{Meaning}
 use Rattle.curve_law.specs.Cover.{is_quiet, split, cover}
 use Rattle.interval_search.specs.declared.front.Front.{Front}
@@ -15,7 +16,7 @@ pub record IsPiece (c : Meaning) (begin end : Point) : Type 0 where
   pub first : c.first ≤ℤ begin.minute
   pub last : end.minute ≤ℤ c.last
   pub some : begin.minute <ℤ end.minute
-  pub few : end.minute ≤ℤ (begin.minute +ℤ pos 1024)
+  pub few : end.minute ≤ℤ (begin.minute +ℤ pos MOST_MINUTES)
   pub value : begin.value ≡ c.track.value begin.minute
   pub end_value : end.value ≡ c.track.value end.minute
 
@@ -33,7 +34,7 @@ cells_ahead c end a (p ∷ ps) = split c a (minutes_to a p.minute) ++ cells_ahea
 unfoldable pub ArePieces : Meaning → ℤ → ℤ → List Point → Type 0
 ArePieces c end a [] = a ≤ℤ end
 ArePieces c end a (p ∷ ps) =
-    (a <ℤ p.minute) × (minutes_to a p.minute * 2 ^ length ps ≤ 1024) × (p.value ≡ c.track.value p.minute) × ArePieces c end p.minute ps
+    (a <ℤ p.minute) × (minutes_to a p.minute * 2 ^ length ps ≤ MOST_MINUTES) × (p.value ≡ c.track.value p.minute) × ArePieces c end p.minute ps
 
 -- the values that are asked for until all cells are given, and one more for each point that is ahead
 abbrev pub IsFew : ℕ → ℕ → ℕ → Type 0
