@@ -1,6 +1,7 @@
 -- The highest water of a station over a span (this project).
-use Rattle.std.specs.Prelude.{ℕ, ℤ, pos, ◌-ℤ◌, unsigned_abs, true}
+use Rattle.std.specs.Prelude.{ℕ, ℤ, pos, ◌-ℤ◌, unsigned_abs, true, List, Result, Ok}
 use Rattle.curve_law.specs.Meaning.{Meaning}
+use Rattle.decimal_text.specs.Expected.{◌>>=◌}
 use Rattle.harmonics_text.specs.declared.book.Book.{Book}
 use Rattle.highest_water.specs.declared.peak.Peak.{Peak}
 use Rattle.highest_water.specs.declared.verdict.PeakVerdict.{PeakVerdict}
@@ -8,8 +9,19 @@ use Rattle.highest_water.specs.Covers.{peak_of}
 use Rattle.highest_water.specs.Verdicts.{peak_verdict}
 use Rattle.rate_bound.specs.declared.version.Version.TheVariants.{Second}
 use Rattle.rate_bound.specs.Meanings.{predicted_mark}
+use Rattle.station_table.specs.declared.offsets.Offsets.{Offsets}
+use Rattle.tide_fault.specs.declared.refusal.Refusal.{Refusal}
 use Rattle.station_span.specs.declared.asked.Asked.{Asked}
-use Rattle.station_span.specs.Sites.{Site}
+use Rattle.station_span.specs.declared.reach.Reach.TheVariants.{Highest}
+use Rattle.station_span.specs.Levels.{level_in}
+use Rattle.station_span.specs.Sites.{Site, site_in}
+
+-- the station of a name with a span of it that has a highest water: one that has levels
+unfoldable pub highest_site : Book → List Offsets → List ℕ → Asked → Result Site Refusal
+highest_site book table name asked = do
+  site ← site_in Highest book table name asked
+  level ← level_in site.basis
+  Ok site
 
 -- the level of the reference, in its own unit and against no mark
 abbrev pub level_curve : Book → Site → Meaning

@@ -1,17 +1,45 @@
 //! The highest water of a station over a span.
 
-ghost use Rattle.std.specs.Prelude.{◌≡◌, ◌<◌, ◌^◌, length, unsigned_abs, IfOk};
+ghost use Rattle.std.specs.Prelude.{◌≡◌, ◌<◌, ◌^◌, ◌+ℤ◌, length, unsigned_abs, IfErr, IfOk};
 ghost use Rattle.highest_water.specs.declared.verdict.PeakVerdict.{PeakVerdict};
-ghost use Rattle.station_span.specs.Workings.Levels.{HasLevel, source_of};
-ghost use Rattle.station_span.specs.Workings.Peaks.{HasHighest, IsSourceIn, tide_levels, tide_peak, tide_verdict};
+ghost use Rattle.tide_fault.specs.Faults.{IsToldRefusal};
+ghost use Rattle.station_span.specs.Peaks.{highest_site};
+ghost use Rattle.station_span.specs.Workings.Levels.{HasLevel};
+ghost use Rattle.station_span.specs.Workings.Peaks.{FindsHighest, HasHighest, IsSourceIn, tide_levels, tide_peak, tide_verdict};
+ghost use Rattle.station_span.specs.Workings.Spans.{IsNear};
+ghost use Rattle.zone_time.specs.Zones.{InZoneYears};
 
 use crate::asked::Asked;
-use crate::levels::source;
-use crate::station::Found;
+use crate::levels::{check_level, source};
+use crate::reach::Reach;
+use crate::station::{Found, find_station};
 use curve_law::Curve;
+use decimal_text::Text;
+use harmonics_text::SoundBook;
 use highest_water::{Peak, PeakVerdict, check_peak, find_peak};
 use rate_bound::MarkCurve;
+use station_table::OffsetTable;
 use std::alloc::{AllocError, Global};
+use tide_fault::Refusal;
+
+/// The station of a name with a span of it that has a highest water, or the first refusal: the
+/// station, its unit, the span, the limits, a level.
+#[tactic(auto, unfolding(crate::specs::Peaks::highest_site))]
+pub fn find_level(
+    alloc: Global,
+    book: &SoundBook<'_>,
+    table: &OffsetTable,
+    name: &Text,
+    asked: &Asked,
+) -> Result<Found, Refusal>
+    requires near { IsNear asked.now }
+    ensures exact { FindsHighest book.now asked.now (highest_site book.now table.now name.now asked.now) result }
+    ensures told { IfErr result (IsToldRefusal table.now) }
+{
+    let found = find_station(alloc, book, table, Reach::Highest, name, asked)?;
+    check_level(&found.basis)?;
+    Ok(found)
+}
 
 /// The highest water of the reference's minutes that are moved into the span, with the cells that
 /// show it. The span has a minute.
@@ -39,6 +67,17 @@ pub fn judge_highest(found: &Found, asked: &Asked, peak: &Peak) -> PeakVerdict
     let begin = source(found, asked.begin);
     let end = source(found, asked.end);
     check_peak(&mut level_curve(found), peak, begin, end)
+}
+
+/// The station's minute to which a reference's is moved.
+pub fn moved_minute(found: &Found, asked: &Asked, at: i64) -> i64
+    requires highest { HasHighest found.now asked.now }
+    requires inside { IsSourceIn found.now asked.now at }
+    ensures exact { result ≡ at +ℤ found.now.basis.high.add }
+    ensures level { HasLevel found.now result }
+    ensures shown { InZoneYears result }
+{
+    at + i64::from(found.basis.high.add)
 }
 
 // The level of the reference, of which the highest water is the greatest value.
