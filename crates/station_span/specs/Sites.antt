@@ -1,7 +1,6 @@
 -- The steps that every question about a station's span goes through, in the order of refusals (this project).
 use Rattle.std.specs.Prelude.{ℕ, ℤ, pos, ◌+ℤ◌, ◌-ℤ◌, int_lt, int_le, Bool, true, false, ◌&&◌, if◌then◌else◌, List, Option, Some, None, Result, Ok, Err, slice_get}
 use Rattle.std.specs.Option.{ok_or}
-use Rattle.std.specs.Ordering.{int_eq}
 use Rattle.decimal_text.specs.Expected.{◌>>=◌}
 use Rattle.event_list.specs.declared.span.Span.{Span}
 use Rattle.event_list.specs.Shifts.{widened_of}
@@ -66,7 +65,7 @@ needs_minute Levels = false
 needs_minute Highest = true
 
 unfoldable pub lacks_minute : Reach → ℤ → ℤ → Bool
-lacks_minute reach begin end = needs_minute reach && int_eq begin end
+lacks_minute reach begin end = needs_minute reach && int_le end begin
 
 -- whether a minute is one of the file's years, or the one after the last
 abbrev pub has_minute : Book → ℤ → Bool

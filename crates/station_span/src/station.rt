@@ -155,7 +155,7 @@ fn is_backward(asked: &Asked) -> bool
 fn lacks_minute(reach: Reach, asked: &Asked) -> bool
     ensures { result ≡ lacks_minute reach asked.now.begin asked.now.end }
 {
-    matches!(reach, Reach::Highest) && asked.begin == asked.end
+    matches!(reach, Reach::Highest) && asked.end <= asked.begin
 }
 
 /// The minutes of the reference that are looked at.

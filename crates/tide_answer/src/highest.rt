@@ -2,11 +2,9 @@
 
 ghost use Rattle.std.specs.Prelude.{◌≡◌, IfErr, IfOk};
 ghost use Rattle.decimal_text.specs.Expected.{Gives};
-ghost use Rattle.harmonics_text.specs.Books.{IsBook};
 ghost use Rattle.tide_answer.specs.Answers.{highest, peak_certified};
-ghost use Rattle.tide_answer.specs.Workings.Peaks.{tide_highest_text, FindsPeak};
+ghost use Rattle.tide_answer.specs.Workings.Peaks.{tide_highest_text};
 ghost use Rattle.tide_fault.specs.Faults.{wants_memory_of_refusal, IsToldRefusal};
-ghost use Rattle.station_span.specs.Workings.Levels.{HasLevel};
 ghost use Rattle.station_span.specs.Workings.Peaks.{HasHighest, IsSourceIn};
 ghost use Rattle.station_span.specs.Workings.Spans.{AreMoments, IsNear};
 
@@ -15,9 +13,7 @@ use decimal_text::{Bytes, Text};
 use harmonics_text::SoundBook;
 use highest_water::{PeakCertificate, write_peak};
 use listing::highest_text;
-use station_span::{
-    Asked, Found, Reach, check_level, find_highest, find_station, later, level_at,
-};
+use station_span::{Asked, Found, find_highest, find_level, level_at, moved_minute};
 use station_table::OffsetTable;
 use std::alloc::{AllocError, Global};
 use tide_fault::Refusal;
@@ -40,7 +36,7 @@ pub fn tell_highest(
 {
     let found = find_level(alloc, book, table, name, asked)?;
     let peak = find_highest(alloc, &found, asked)?;
-    let text = highest_text_at(alloc, name, &found, peak.at, clock)?;
+    let text = highest_text_at(alloc, &found, asked, name, peak.at, clock)?;
     Ok(Answer {
         text,
         rejected: false,
@@ -48,7 +44,26 @@ pub fn tell_highest(
     })
 }
 
-/// Its certificate.
+/// The station's name, and the minute and the level to which a reference's minute is moved.
+pub fn highest_text_at(
+    alloc: Global,
+    found: &Found,
+    asked: &Asked,
+    name: &Text,
+    at: i64,
+    clock: &ZoneClock<'_>,
+) -> Result<Bytes, AllocError>
+    requires highest { HasHighest found.now asked.now }
+    requires inside { IsSourceIn found.now asked.now at }
+    ensures { IfOk result (λ text. text ≡ tide_highest_text found.now name.now at clock.now) }
+{
+    let minute = moved_minute(found, asked, at);
+    let level = level_at(found, minute);
+    highest_text(alloc, name, found.units, minute, level, clock.zone())
+}
+
+/// The certificate of the highest water of a station among the minutes of a span, or the first
+/// refusal.
 #[tactic(auto, unfolding(crate::specs::Answers::peak_certified))]
 pub fn certify_peak(
     alloc: Global,
@@ -63,11 +78,12 @@ pub fn certify_peak(
     ensures told { IfErr result (IsToldRefusal table.now) }
 {
     let found = find_level(alloc, book, table, name, asked)?;
+    let peak = find_highest(alloc, &found, asked)?;
     let cert = PeakCertificate {
         station: name.copy(alloc)?,
         begin: asked.begin,
         end: asked.end,
-        peak: find_highest(alloc, &found, asked)?,
+        peak,
     };
     Ok(Answer {
         text: write_peak(alloc, &cert)?,
