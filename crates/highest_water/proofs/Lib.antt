@@ -1,8 +1,11 @@
 pub mod AcceptedLemmas
 pub mod AgreeLemmas
 pub mod CoverLemmas
+pub mod FindingLemmas
 pub mod HighestLemmas
+pub mod JudgingLemmas
 pub mod LengthLemmas
+pub mod SpanLemmas
 pub mod UnderLemmas
 pub mod VerdictLemmas
 pub mod WalkLemmas

@@ -1,11 +1,13 @@
 -- A curve that changes by at most its rate in each minute stays under a value that is far enough from the values at both ends.
-use Rattle.std.proofs.Common.{◌≡◌, ◌⊎◌, inl, inr, ⊎_elim, ℕ, zero, suc, ◌+◌, ◌-◌, ◌*◌, ◌≤◌, ◌<◌, nat_le, ℤ, pos, negsuc, ◌+ℤ◌, ◌-ℤ◌, ◌*ℤ◌, ◌≤ℤ◌, ◌<ℤ◌, unsigned_abs, int_lt, int_le, Bool, true, false, ◌&&◌, ◌||◌, Option, Some, None, refl, arith}
+use Rattle.std.proofs.Common.{◌≡◌, ◌⊎◌, inl, inr, ⊎_elim, ℕ, zero, suc, ◌+◌, ◌-◌, ◌*◌, ◌≤◌, ◌<◌, nat_le, ℤ, pos, negsuc, ◌+ℤ◌, ◌-ℤ◌, ◌*ℤ◌, ◌≤ℤ◌, ◌<ℤ◌, unsigned_abs, int_lt, int_le, Bool, true, false, ◌&&◌, ◌||◌, ◌^◌, cond, Option, Some, None, refl, sym, arith}
 use Rattle.std.proofs.lemmas.Bool.{and_parts}
 use Rattle.std.proofs.lemmas.Bool.Decides.{nat_tests}
 use Rattle.std.proofs.lemmas.Int.{ints}
 use Rattle.curve_law.specs.Meaning.{Meaning, IsSpan, IsRate, IsLawful}
 use Rattle.curve_law.specs.Cover.{most_minutes}
-use Rattle.highest_water.specs.Covers.{stays_below, stays_within, is_under}
+use Rattle.curve_law.proofs.CoverLemmas.{by_test}
+use Rattle.highest_water.specs.Covers.{twice_most, stays_below, stays_within, is_under}
+use Rattle.highest_water.specs.Verdicts.{is_inside}
 use Rattle.highest_water.specs.Workings.Below.{AreBelow}
 
 -- how far the value is after so many minutes, and before as many
@@ -156,3 +158,67 @@ under-below c at value a n lawful span under = below-of c at value a n (λ j few
         let most = within-most c a n j value (c.rate a n) refl lawful span two most few after.1 in
         (most, λ earlier. absurd (omega (arith, ints, after.0)))
     ])
+
+-- ---- the test by its parts
+
+and_false : (b : Bool) → false ≡ (b && false)
+and_false true = refl
+and_false false = refl
+
+pub is_under-length : (c : Meaning) (at value a : ℤ) (n : ℕ) → (n < 2) ⊎ (2 ≤ n × most_minutes < n) → false ≡ is_under c at value a n
+unfolding is_under
+is_under-length c at value a n other =
+    let e : (nat_le 2 n && nat_le n most_minutes) ≡ false = grind (arith, nat_tests) in rw e refl
+
+inside-not_by : (at a : ℤ) (n : ℕ) → is_inside at a n ≡ true → int_le (a +ℤ pos n) at ≡ false
+inside-not_by at a n h = grind (arith, ints)
+
+inside-not_after : (at a : ℤ) (n : ℕ) → is_inside at a n ≡ true → int_lt at a ≡ false
+inside-not_after at a n h = grind (arith, ints)
+
+pub is_under-inside : (c : Meaning) (at value a : ℤ) (n : ℕ) → is_inside at a n ≡ true → false ≡ is_under c at value a n
+unfolding is_under
+is_under-inside c at value a n inside =
+    rw (inside-not_by at a n inside, inside-not_after at a n inside) (and_false (nat_le 2 n && nat_le n most_minutes))
+
+outside-by : (at a : ℤ) (n : ℕ) → is_inside at a n ≡ false → int_lt at a ≡ false → int_le (a +ℤ pos n) at ≡ true
+outside-by at a n h later = grind (arith, ints)
+
+after-not_by : (at a : ℤ) (n : ℕ) → int_lt at a ≡ true → int_le (a +ℤ pos n) at ≡ false
+after-not_by at a n h = grind (arith, ints)
+
+-- which of the two bounds counts, where the cell doesn't hold the minute
+abbrev pub low_enough : ℤ → ℤ → Bool → Bool
+low_enough most value is_after = cond is_after (int_le most (pos 2 *ℤ value)) (int_lt most (pos 2 *ℤ value))
+
+or_false : (b : Bool) → b ≡ (b || false)
+or_false true = refl
+or_false false = refl
+
+pub is_under-rate : (c : Meaning) (at value a most rate : ℤ) (n : ℕ) → 2 ≤ n → n ≤ most_minutes → is_inside at a n ≡ false → Some rate ≡ c.rate a n → most ≡ twice_most rate n (c.track.value a) (c.track.value (a +ℤ pos n)) → low_enough most value (int_lt at a) ≡ is_under c at value a n
+unfolding is_under stays_below stays_within
+is_under-rate c at value a most rate n two few outside told is =
+    let e : (nat_le 2 n && nat_le n most_minutes) ≡ true = grind (arith, nat_tests) in
+    by_test (int_lt at a)
+    (λ after. rw (is, ← told, e, after-not_by at a n after, after) refl)
+    (λ before. rw (is, ← told, e, outside-by at a n outside before, before) (or_false _))
+
+pub is_under-unrated : (c : Meaning) (at value a : ℤ) (n : ℕ) → None ≡ c.rate a n → false ≡ is_under c at value a n
+unfolding is_under stays_below stays_within
+is_under-unrated c at value a n told = rw (← told) (no_way (int_le (a +ℤ pos n) at) (int_lt at a) (nat_le 2 n && nat_le n most_minutes))
+  where
+    no_way : (p q b : Bool) → false ≡ (b && ((p && false) || (q && false)))
+    no_way true true b = and_false b
+    no_way true false b = and_false b
+    no_way false true b = and_false b
+    no_way false false b = and_false b
+
+pub rate-small : (c : Meaning) (a : ℤ) (n : ℕ) (rate : ℤ) → IsLawful c → IsSpan c a n → 2 ≤ n → n ≤ most_minutes → Some rate ≡ c.rate a n → (rate *ℤ pos 1024) <ℤ pos (5 * 10 ^ 37)
+rate-small c a n rate lawful span two most is =
+    (lawful.rates a n rate (record { first = span.first; last = span.last; some = omega arith; few = most }) (sym is)).small
+
+pub value-small : (c : Meaning) (a m v : ℤ) (n : ℕ) → IsLawful c → IsSpan c a n → a ≤ℤ m → m ≤ℤ (a +ℤ pos n) → v ≡ c.track.value m → unsigned_abs v < 10 ^ 37
+value-small c a m v n lawful span from to is =
+    let first = span.first in
+    let last = span.last in
+    rw is (lawful.values m (record { first = omega (arith, ints); last = omega (arith, ints) }))

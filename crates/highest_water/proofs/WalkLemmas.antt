@@ -226,3 +226,13 @@ points-few c h end a (p ∷ ps) pieces =
     let one = split-some c h.minute h.value a (minutes_to a p.minute) (omega (arith, ints)) in
     let rest = points-few c h end p.minute ps pieces.3 in
     omega (arith, length-append (peak_split c h.minute h.value a (minutes_to a p.minute)) (cells_ahead c h end p.minute ps))
+
+-- ---- how many values are asked for while cells are gathered
+
+pub counted-more : (xs ahead rest all : List PeakCell) (cell : PeakCell) (start count more w v : ℕ) → xs ++ ahead ≡ all → ahead ≡ cell ∷ rest → v ≤ length rest → more + w ≡ count + v + 1 → count ≤ start + length xs + w + 1 → more ≤ start + length all + 1
+counted-more xs ahead rest all cell start count more w v whole next few step so_far =
+    omega (arith, length-append xs ahead, ap length whole, ap length next)
+
+pub counted-all : (xs ahead all : List PeakCell) (ps : List Point) (start count : ℕ) → xs ++ ahead ≡ all → ahead ≡ [] → ps ≡ [] → count ≤ start + length xs + length ps + 1 → count ≤ start + length all + 1
+counted-all xs ahead all ps start count whole done none so_far =
+    omega (arith, length-append xs ahead, ap length whole, ap length done, ap length none)

@@ -5,7 +5,7 @@ ghost use Rattle.curve_law.specs.Meaning.{IsSpan};
 ghost use Rattle.highest_water.specs.declared.verdict.PeakVerdict.{PeakVerdict};
 ghost use Rattle.highest_water.specs.Peaks.{IsHighest};
 ghost use Rattle.highest_water.specs.Covers.{minutes_of, all_minutes};
-ghost use Rattle.highest_water.specs.Verdicts.{cells_verdict, peak_verdict};
+ghost use Rattle.highest_water.specs.Verdicts.{cells_verdict, is_inside, peak_verdict};
 
 use crate::judging::finding_on;
 use crate::lengths::{covered_by, minutes_of};
@@ -40,7 +40,7 @@ pub fn check_peak<C: Curve>(curve: &mut C, peak: &Peak, begin: i64, end: i64) ->
     if covered != wanted {
         return PeakVerdict::WrongLength { covered, wanted };
     }
-    if peak.at < begin || peak.at >= end {
+    if !is_inside(peak.at, begin, end) {
         return PeakVerdict::Outside;
     }
     let highest = Point {
@@ -48,6 +48,14 @@ pub fn check_peak<C: Curve>(curve: &mut C, peak: &Peak, begin: i64, end: i64) ->
         value: peak.value,
     };
     first_finding(curve, highest, peak.cells.as_slice(), begin)
+}
+
+/// Whether a minute is one of a span.
+fn is_inside(at: i64, begin: i64, end: i64) -> bool
+    requires { begin ≤ℤ end }
+    ensures { result ≡ is_inside at begin (unsigned_abs (end -ℤ begin)) }
+{
+    begin <= at && at < end
 }
 
 /// The first finding on cells that lie over their minutes from `begin` on, by the highest point that

@@ -9,8 +9,9 @@ ghost use Rattle.highest_water.specs.Workings.Below.{IsPoint};
 use crate::covering::cells_by;
 use crate::higher::{higher_of, raised_by};
 use crate::peak::Peak;
+use crate::piece::block_end;
 use crate::walk::{next_cell, walk_from};
-use curve_law::{Curve, MOST_MINUTES, Point, point_at};
+use curve_law::{Curve, Point, point_at};
 use std::alloc::{AllocError, Global};
 
 /// The highest water of the minutes from `begin` on and before `end`, which the curve tells: the first
@@ -49,7 +50,7 @@ fn highest_point<C: Curve>(curve: &mut C, begin: i64, end: i64) -> Point
     requires last { end ≤ℤ (C.meaning curve.old).last }
     requires few { C.count curve.old ≤ 2 ^ 62 }
     ensures highest { IsHighest (C.meaning curve.old) begin end result.minute result.value }
-    ensures count { C.count curve.new ≤ C.count curve.old + 2 * minutes_to begin end + 2 }
+    ensures count { C.count curve.new ≤ C.count curve.old + 2 * minutes_to begin end + 1 }
     ensures same { C.meaning curve.new ≡ C.meaning curve.old }
 {
     let mut highest = highest_block(curve, begin, end);
@@ -71,12 +72,11 @@ fn highest_block<C: Curve>(curve: &mut C, begin: i64, end: i64) -> Point
     ensures count { C.count curve.new ≤ C.count curve.old + minutes_to begin end }
     ensures same { C.meaning curve.new ≡ C.meaning curve.old }
 {
-    let block = i64::from(MOST_MINUTES);
     let mut highest = point_at(curve, begin);
-    let mut at = begin;
-    while end - at > block {
-        at += block;
+    let mut at = block_end(begin, end);
+    while at < end {
         highest = higher_of(highest, point_at(curve, at));
+        at = block_end(at, end);
     }
     highest
 }

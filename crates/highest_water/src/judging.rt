@@ -4,7 +4,7 @@ ghost use Rattle.std.specs.Prelude.{◌≡◌, ◌^◌, ◌<◌, pos, ◌+ℤ◌
 ghost use Rattle.curve_law.specs.Meaning.{IsSpan};
 ghost use Rattle.highest_water.specs.Covers.{minutes_of};
 ghost use Rattle.highest_water.specs.Verdicts.{cell_verdict};
-ghost use Rattle.highest_water.specs.Workings.Findings.{under_finding, single_finding};
+ghost use Rattle.highest_water.specs.Workings.Findings.{under_finding, value_finding, single_finding};
 
 use crate::higher::is_higher;
 use crate::peak_cell::PeakCell;

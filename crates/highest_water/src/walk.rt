@@ -1,6 +1,6 @@
 //! A walk over a span, cell by cell.
 
-ghost use Rattle.std.specs.Prelude.{◌≡◌, ◌+◌, ◌*◌, ◌^◌, ◌<◌, ◌≤◌, pos, ◌+ℤ◌, ◌≤ℤ◌, ◌<ℤ◌, unsigned_abs, [], ◌∷◌, length};
+ghost use Rattle.std.specs.Prelude.{◌≡◌, ◌+◌, ◌*◌, ◌^◌, ◌<◌, ◌≤◌, pos, ◌+ℤ◌, ◌≤ℤ◌, ◌<ℤ◌, unsigned_abs, [], ◌∷◌, length, MatchOption};
 ghost use Rattle.curve_law.specs.declared.point.Point.{Point};
 ghost use Rattle.interval_search.specs.Workings.Ahead.{minutes_to};
 ghost use Rattle.highest_water.specs.Covers.{minutes_of, peak_split, peak_cover};
@@ -110,7 +110,8 @@ pub fn next_cell<C: Curve>(curve: &mut C, walk: &mut Walk, highest: Point) -> Op
     ensures end { walk.new.end ≡ walk.old.end }
     ensures stands { Stands (C.meaning curve.old) (C.count curve.new) walk.new.end walk.new.at walk.new.waiting }
     ensures found { StepsTo (C.meaning curve.old) highest walk.old result walk.new }
-    ensures count { C.count curve.new + length walk.old.waiting ≤ C.count curve.old + length walk.new.waiting + 1 }
+    ensures count { MatchOption result (C.count curve.new ≡ C.count curve.old)
+        (λ _. C.count curve.new + length walk.old.waiting ≡ C.count curve.old + length walk.new.waiting + 1) }
 {
     let Walk { at, end, .. } = *walk;
     if at.minute == end {

@@ -1,5 +1,5 @@
 -- The curve with two tops is lawful.
-use Rattle.std.specs.Prelude.{◌≡◌, ◌^◌, ◌<◌, ◌≤◌, ℤ, pos, ◌+ℤ◌, ◌-ℤ◌, ◌≤ℤ◌, unsigned_abs, Some}
+use Rattle.std.specs.Prelude.{◌≡◌, ℕ, ◌^◌, ◌<◌, ◌≤◌, ℤ, pos, ◌+ℤ◌, ◌-ℤ◌, ◌≤ℤ◌, unsigned_abs, Some}
 use Rattle.std.specs.Int.{int_max}
 use Rattle.std.proofs.Common.{arith}
 use Rattle.std.proofs.lemmas.Int.{ints}
@@ -18,6 +18,13 @@ max-value x y first second = grind (arith, ints)
 max-step : (x y v w : ℤ) → unsigned_abs (x -ℤ v) ≤ 1 → unsigned_abs (y -ℤ w) ≤ 1 → unsigned_abs (int_max x y -ℤ int_max v w) ≤ 1
 max-step x y v w first second = grind (arith, ints)
 
+below-rate : (n : ℕ) (rate : ℤ) → n ≤ 1 → pos 1 ≤ℤ rate → pos n ≤ℤ rate
+below-rate n rate few gentle = omega (arith, ints)
+
+hills-step : (at top other_at other_top rate m : ℤ) → pos 1 ≤ℤ rate → pos (unsigned_abs (int_max (hill at top (m +ℤ pos 1)) (hill other_at other_top (m +ℤ pos 1)) -ℤ int_max (hill at top m) (hill other_at other_top m))) ≤ℤ rate
+hills-step at top other_at other_top rate m gentle =
+    below-rate _ rate (max-step (hill at top (m +ℤ pos 1)) (hill other_at other_top (m +ℤ pos 1)) (hill at top m) (hill other_at other_top m) (hill-step at top m) (hill-step other_at other_top m)) gentle
+
 same_rate : (r s : ℤ) → Some r ≡ Some s → r ≡ s
 same_rate r s e = cc
 
@@ -28,13 +35,8 @@ hills-lawful at top other_at other_top rate near low other_near other_low gentle
   late = omega (arith, ints);
   values = λ m minute.
       let first = minute.first in let last = minute.last in
-      max-value _ _ (hill-value at top m near low (omega (arith, ints))) (hill-value other_at other_top m other_near other_low (omega (arith, ints)));
+      max-value (hill at top m) (hill other_at other_top m) (hill-value at top m near low (omega (arith, ints))) (hill-value other_at other_top m other_near other_low (omega (arith, ints)));
   rates = λ a n told cell is.
       let same = same_rate rate told is in
-      record {
-        small = omega (arith, ints);
-        steps = λ k few.
-            let step = max-step _ _ _ _ (hill-step at top (a +ℤ pos k)) (hill-step other_at other_top (a +ℤ pos k)) in
-            omega (arith, ints);
-      };
+      record { small = omega (arith, ints); steps = λ k few. rw (← same) (hills-step at top other_at other_top rate (a +ℤ pos k) gentle) };
 }

@@ -25,4 +25,15 @@ returns-clause-stands g c =
     given-stands (g.C.Curve.meaning c.args.curve.now) _ c.args.walk.now.end c.args.walk.now.at _ _ stands
 
 pub returns-clause-found : goal.returns-clause-found
-returns-clause-found g c = ?
+returns-clause-found g c =
+    let end : FitsSigned w64 c.args.walk.now.end = search rules in
+    let meaning = g.C.Curve.meaning c.args.curve.now in
+    let stands = simp (to_z-of_z, c.nearest_end-near.ensures.same) at c.nearest_step-step.ensures.stands in
+    let cell = rw c.nearest_end-near.ensures.same at c.nearest_step-step.ensures.cell in
+    let begun = simp to_z-of_z at (c.nearest_end-near.ensures.cells c.args.highest) in
+    let halved = simp (to_z-of_z, c.nearest_end-near.ensures.same) at c.nearest_step-step.ensures.cells in
+    let given = given-cells meaning c.args.highest c.args.walk.now.end c.args.walk.now.at.minute c.nearest_step-step.result.end c.nearest_step-step.new.waiting c.nearest_step-step.result.cell cell in
+    let onward = given-onward meaning c.args.highest _ c.args.walk.now.end c.args.walk.now.at _ _ _ stands cell in
+    let right = given-right meaning c.args.highest _ c.args.walk.now.end c.args.walk.now.at _ _ _ stands cell in
+    let left = given-stands meaning _ c.args.walk.now.end c.args.walk.now.at _ _ stands in
+    (refl {a = c.args.walk.now.at}, sym begun ∙ sym halved ∙ given, onward, right, pieces-end meaning c.args.walk.now.end _ _ left.pieces)

@@ -1,0 +1,120 @@
+-- The highest point so far, cell by cell.
+use Rattle.std.proofs.Common.{◌≡◌, ℕ, ◌+◌, ◌≤◌, ◌<◌, ◌^◌, ℤ, pos, ◌+ℤ◌, ◌-ℤ◌, ◌≤ℤ◌, ◌<ℤ◌, int_lt, unsigned_abs, true, false, cond, List, refl, sym, ap, ◌∙◌, arith}
+use Rattle.std.proofs.lemmas.Int.{ints}
+use Rattle.curve_law.specs.declared.point.Point.{Point}
+use Rattle.curve_law.specs.Meaning.{Meaning, IsSpan, IsLawful}
+use Rattle.curve_law.proofs.CoverLemmas.{by_test}
+use Rattle.highest_water.specs.declared.peak_cell.PeakCell.{PeakCell}
+use Rattle.highest_water.specs.declared.peak_cell.PeakCell.TheVariants.{Under, Single}
+use Rattle.highest_water.specs.Peaks.{IsHighest, is_higher}
+use Rattle.highest_water.specs.Covers.{minutes_of, peak_cover, peak_of}
+use Rattle.highest_water.specs.Workings.Below.{AreBelow, IsPoint, IsHighestSoFar}
+use Rattle.highest_water.specs.Workings.Walk.{IsRight, higher_of, raised_at}
+use Rattle.highest_water.proofs.UnderLemmas.{int_lt-true, under-two, under-below}
+use Rattle.highest_water.proofs.HighestLemmas.{int_lt-false, highest-one, minute-highest}
+use Rattle.highest_water.proofs.VerdictLemmas.{below-append, below-none, below-one, below-at}
+
+-- a point that the curve was asked for
+pub asked-point : (c : Meaning) (begin end m : ℤ) (p : Point) → begin ≤ℤ m → m <ℤ end → p ≡ record { minute = m; value = c.track.value m } → IsPoint c begin end p
+asked-point c begin end m p from before is = rw is (record { from = from; before = before; value = refl })
+
+-- the higher one of two points
+pub higher-point : (c : Meaning) (begin end : ℤ) (h p : Point) → IsPoint c begin end h → IsPoint c begin end p → IsPoint c begin end (higher_of h p)
+higher-point c begin end h p first second = by_test (is_higher h.minute h.value p.minute p.value)
+    (λ higher. rw higher second)
+    (λ other. rw other first)
+
+pub first-so_far : (c : Meaning) (begin end : ℤ) (h : Point) → IsPoint c begin end h → IsHighestSoFar c begin end begin h
+first-so_far c begin end h point = record { point = point; below = below-none c h.minute h.value begin }
+
+-- what is below a point is below a higher one
+is_higher-value : (at value m v : ℤ) → is_higher at value m v ≡ true → value ≤ℤ v
+is_higher-value at value m v h = grind (arith, ints)
+
+is_higher-earlier : (at value m v : ℤ) → is_higher at value m v ≡ true → v ≤ℤ value → m <ℤ at
+is_higher-earlier at value m v h less = grind (arith, ints)
+
+least-higher : (at value m v k x : ℤ) → is_higher at value m v ≡ true → x ≤ℤ value → (k <ℤ at → x <ℤ value) → k <ℤ m → x <ℤ v
+least-higher at value m v k x h most least earlier = by_test (int_lt value v)
+    (λ more. let g = int_lt-true value v more in omega (arith, ints))
+    (λ same.
+    let g = int_lt-false value v same in
+    let before = is_higher-earlier at value m v h g in
+    let less = least (omega (arith, ints)) in
+    let up = is_higher-value at value m v h in
+    omega (arith, ints))
+
+below-higher : (c : Meaning) (at value m v begin end : ℤ) → is_higher at value m v ≡ true → AreBelow c at value begin end → AreBelow c m v begin end
+below-higher c at value m v begin end h below = record {
+  greatest = λ k from before. let g = below.greatest k from before in let w = is_higher-value at value m v h in omega (arith, ints);
+  first = λ k from before earlier. least-higher at value m v k (c.track.value k) h (below.greatest k from before) (below.first k from before) earlier;
+}
+
+-- one more minute
+higher-so_far : (c : Meaning) (begin end to : ℤ) (h p : Point) → IsHighestSoFar c begin end to h → begin ≤ℤ to → to <ℤ end → p.minute ≡ to → p.value ≡ c.track.value p.minute → IsHighestSoFar c begin end (to +ℤ pos 1) (higher_of h p)
+higher-so_far c begin end to h p so_far from before at value =
+    let point : IsPoint c begin end p = record { from = omega (arith, ints); before = omega (arith, ints); value = value } in
+    by_test (is_higher h.minute h.value p.minute p.value)
+    (λ higher. rw higher (record {
+      point = point;
+      below = below-append c p.minute p.value begin to (to +ℤ pos 1)
+          (below-higher c h.minute h.value p.minute p.value begin to higher so_far.below)
+          (below-at c p.minute p.value to (sym at) (sym (value ∙ ap c.track.value at)));
+    }))
+    (λ other.
+    let low : is_higher h.minute h.value to (c.track.value to) ≡ false = rw (← at, ← value) other in
+    rw other (record {
+      point = so_far.point;
+      below = below-append c h.minute h.value begin to (to +ℤ pos 1) so_far.below (below-one c h.minute h.value to low);
+    }))
+
+-- one more cell
+pub cell-so_far : (c : Meaning) (begin end to : ℤ) (h p : Point) (cell : PeakCell) → IsLawful c → c.first ≤ℤ begin → end ≤ℤ c.last → IsHighestSoFar c begin end to h → begin ≤ℤ to → p.minute ≡ to → p.value ≡ c.track.value p.minute → IsRight c h to cell → (to +ℤ pos (minutes_of cell)) ≤ℤ end → IsHighestSoFar c begin end (to +ℤ pos (minutes_of cell)) (raised_at h p cell)
+cell-so_far c begin end to h p (Under n) lawful first last so_far from at value under within = record {
+  point = so_far.point;
+  below = below-append c h.minute h.value begin to (to +ℤ pos n) so_far.below
+      (under-below c h.minute h.value to n lawful (record { first = omega (arith, ints); last = omega (arith, ints) }) under);
+}
+cell-so_far c begin end to h p Single lawful first last so_far from at value right within =
+    higher-so_far c begin end to h p so_far from (omega (arith, ints)) at value
+
+-- all minutes
+pub all-so_far : (c : Meaning) (begin end to : ℤ) (h : Point) → to ≡ end → IsHighestSoFar c begin end to h → IsHighest c begin end h.minute h.value
+all-so_far c begin end to h all so_far =
+    let before = so_far.point.before in
+    record {
+      from = so_far.point.from;
+      before = before;
+      has = sym so_far.point.value;
+      greatest = (rw all at so_far.below).greatest;
+      first = λ m from earlier. (rw all at so_far.below).first m from (omega (arith, ints)) earlier;
+    }
+
+-- a cell has some minutes
+pub right-some : (c : Meaning) (h : Point) (a : ℤ) (cell : PeakCell) → IsRight c h a cell → 1 ≤ minutes_of cell
+right-some c h a (Under n) right = let two = under-two c h.minute h.value a n right in omega arith
+right-some c h a Single right = omega arith
+
+-- the value of a point, and that of the highest water, are small
+pub point-small : (c : Meaning) (begin end : ℤ) (p : Point) → IsLawful c → c.first ≤ℤ begin → end ≤ℤ c.last → IsPoint c begin end p → unsigned_abs p.value < 10 ^ 37
+point-small c begin end p lawful first last point =
+    let from = point.from in
+    let before = point.before in
+    rw point.value (lawful.values p.minute (record { first = omega (arith, ints); last = omega (arith, ints) }))
+
+pub highest-small : (c : Meaning) (begin end at value : ℤ) → IsLawful c → c.first ≤ℤ begin → end ≤ℤ c.last → IsHighest c begin end at value → unsigned_abs value < 10 ^ 37
+highest-small c begin end at value lawful first last peak =
+    let from = peak.from in
+    let before = peak.before in
+    rw (← peak.has) (lawful.values at (record { first = omega (arith, ints); last = omega (arith, ints) }))
+
+-- the highest water with its cells is that of a look at each minute
+pub highest-peak_of : (c : Meaning) (begin end at value : ℤ) (cells : List PeakCell) → IsHighest c begin end at value → cells ≡ peak_cover c at value begin (unsigned_abs (end -ℤ begin)) → record { at = at; value = value; cells = cells } ≡ peak_of c begin (unsigned_abs (end -ℤ begin))
+unfolding peak_of
+highest-peak_of c begin end at value cells peak is =
+    let from = peak.from in
+    let before = peak.before in
+    let all : begin +ℤ pos (unsigned_abs (end -ℤ begin)) ≡ end = omega (arith, ints) in
+    let looked = rw all at (minute-highest c begin (unsigned_abs (end -ℤ begin)) (omega (arith, ints))) in
+    let one = highest-one c begin end at value _ _ peak looked in
+    rw (is, one.1, one.0) refl

@@ -1,0 +1,19 @@
+use Rattle.std.proofs.Common.{◌≡◌, ◌+◌, drop}
+use Rattle.curve_law.specs.Meaning.{IsSpan}
+use Rattle.highest_water.specs.Covers.{all_minutes}
+use Rattle.highest_water.specs.Verdicts.{cells_verdict}
+use Rattle.highest_water.proofs.checking.first_finding.Given as goal
+
+-- nothing was wrong so far, and the cells that are left lie from here on
+abbrev pub invariant-loop-cell : goal.invariant-loop-cell
+invariant-loop-cell g l =
+    let meaning = g.C.Curve.meaning l.fn.curve in
+    record {
+      same : g.C.Curve.meaning l.curve ≡ meaning;
+      numbered : l.number ≡ l.cell-index;
+      counted : g.C.Curve.count l.curve ≡ g.C.Curve.count l.fn.curve + l.cell-index + 1;
+      value : l.at.value ≡ meaning.track.value l.at.minute;
+      span : IsSpan meaning l.at.minute (all_minutes (drop l.cell-index l.cells));
+      left : cells_verdict meaning l.highest.minute l.highest.value l.begin 1 l.cells
+          ≡ cells_verdict meaning l.highest.minute l.highest.value l.at.minute (l.number + 1) (drop l.cell-index l.cells);
+    }

@@ -1,0 +1,20 @@
+use Rattle.std.proofs.Common.{◌≡◌, ◌+◌, ◌≤◌, ◌++◌, length}
+use Rattle.std.specs.Prelude.{unsigned_abs, ◌-ℤ◌}
+use Rattle.highest_water.specs.Covers.{peak_cover}
+use Rattle.highest_water.specs.Workings.Walk.{cells_ahead, Stands}
+use Rattle.highest_water.proofs.covering.cells_by.Given as goal
+
+-- the cells so far and those that are ahead are all cells
+abbrev pub invariant-loop-found : goal.invariant-loop-found
+invariant-loop-found g l =
+    let meaning = g.C.Curve.meaning l.fn.curve in
+    record {
+      same : g.C.Curve.meaning l.curve ≡ meaning;
+      stands : Stands meaning (g.C.Curve.count l.curve) l.walk.end l.walk.at l.walk.waiting;
+      cells : l.cells.items ++ cells_ahead meaning l.highest l.walk.end l.walk.at.minute l.walk.waiting
+          ≡ peak_cover meaning l.highest.minute l.highest.value l.begin (unsigned_abs (l.end -ℤ l.begin));
+      counted : g.C.Curve.count l.curve ≤ g.C.Curve.count l.fn.curve + length l.cells.items + length l.walk.waiting + 1;
+    }
+
+abbrev pub decreases-loop-found : goal.decreases-loop-found
+decreases-loop-found g l = length (cells_ahead (g.C.Curve.meaning l.curve) l.highest l.walk.end l.walk.at.minute l.walk.waiting)

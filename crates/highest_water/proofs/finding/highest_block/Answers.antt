@@ -1,0 +1,36 @@
+use Rattle.std.proofs.Common.{w64, to_z, of_z, FitsSigned, rules, arith, ◌∙◌}
+use Rattle.std.proofs.lemmas.Int.{ints, to_z-of_z}
+use Rattle.highest_water.proofs.UnderLemmas.{int_lt-true}
+use Rattle.highest_water.proofs.FindingLemmas.{asked-point, higher-point}
+use Rattle.highest_water.proofs.finding.highest_block.Goals as goal
+
+pub point_at-requires-clause-few : goal.point_at-requires-clause-few
+point_at-requires-clause-few g c =
+    let lawful = g.met.C.Curve.lawful c.args.curve.now in
+    omega (arith, ints, lawful.early, lawful.late, c.requires.first, c.requires.last, c.loop-at.invariant.counted)
+
+pub block_end-at-requires-in-loop-at-clause-near : goal.block_end-at-requires-in-loop-at-clause-near
+block_end-at-requires-in-loop-at-clause-near g c =
+    let lawful = g.met.C.Curve.lawful c.args.curve.now in
+    omega (arith, ints, lawful.early, lawful.late, c.requires.first, c.requires.last, c.loop-at.invariant.from, c.loop-at.invariant.within)
+
+pub loop-at-smaller : goal.loop-at-smaller
+loop-at-smaller g c =
+    let less = int_lt-true (to_z w64 c.loop-at.at-bits) (to_z w64 (of_z w64 c.args.end)) c.loop-at-test.true in
+    let next : FitsSigned w64 c.block_end-at-in-loop-at.result = search rules in
+    omega (arith, ints, c.block_end-at-in-loop-at.ensures)
+
+pub loop-at-preserved : goal.loop-at-preserved
+loop-at-preserved g c =
+    let meaning = g.C.Curve.meaning c.args.curve.now in
+    let invariant = c.loop-at.invariant in
+    let less = int_lt-true (to_z w64 c.loop-at.at-bits) (to_z w64 (of_z w64 c.args.end)) c.loop-at-test.true in
+    let next : FitsSigned w64 c.block_end-at-in-loop-at.result = search rules in
+    let point = rw invariant.same at c.point_at.ensures.point in
+    record {
+      same = c.point_at.ensures.same ∙ invariant.same;
+      from = omega (arith, ints, c.block_end-at-in-loop-at.ensures, invariant.from);
+      within = omega (arith, ints, c.block_end-at-in-loop-at.ensures, invariant.within);
+      point = rw c.higher_of-highest.ensures (higher-point meaning _ _ c.loop-at.highest c.point_at.result invariant.point (asked-point meaning _ _ _ c.point_at.result invariant.from less point));
+      counted = omega (arith, ints, c.block_end-at-in-loop-at.ensures, c.point_at.ensures.counted, invariant.counted);
+    }

@@ -1,0 +1,20 @@
+use Rattle.std.proofs.Common.{◌≡◌, ◌+◌, ◌≤◌}
+use Rattle.std.specs.Prelude.{◌≤ℤ◌}
+use Rattle.interval_search.specs.Workings.Ahead.{minutes_to}
+use Rattle.highest_water.specs.Workings.Below.{IsPoint}
+use Rattle.highest_water.proofs.finding.highest_block.Given as goal
+
+-- the highest point so far is one of the span
+abbrev pub invariant-loop-at : goal.invariant-loop-at
+invariant-loop-at g l =
+    let meaning = g.C.Curve.meaning l.fn.curve in
+    record {
+      same : g.C.Curve.meaning l.curve ≡ meaning;
+      from : l.begin ≤ℤ l.at;
+      within : l.at ≤ℤ l.end;
+      point : IsPoint meaning l.begin l.end l.highest;
+      counted : g.C.Curve.count l.curve + minutes_to l.at l.end ≤ g.C.Curve.count l.fn.curve + minutes_to l.begin l.end;
+    }
+
+abbrev pub decreases-loop-at : goal.decreases-loop-at
+decreases-loop-at g l = minutes_to l.at l.end

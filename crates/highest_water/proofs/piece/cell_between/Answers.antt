@@ -1,0 +1,20 @@
+use Rattle.std.proofs.Common.{w64, FitsSigned, rules, sym, ap, ◌∙◌}
+use Rattle.std.proofs.lemmas.Int.{to_z-of_z}
+use Rattle.highest_water.specs.Covers.{peak_split}
+use Rattle.highest_water.proofs.CoverLemmas.{split-single, split-under}
+use Rattle.highest_water.proofs.piece.cell_between.Goals as goal
+
+pub returns-then-n-eq1 : goal.returns-then-n-eq1
+returns-then-n-eq1 g c =
+    let begin : FitsSigned w64 c.args.begin.minute = search rules in
+    let end : FitsSigned w64 c.args.end.minute = search rules in
+    let n = simp to_z-of_z at c.minutes-n.ensures in
+    split-single (g.C.Curve.meaning c.args.curve.now) c.args.highest.minute c.args.highest.value c.args.begin.minute _ (sym n ∙ c.if-n-eq1.true)
+
+pub returns-then-is_under : goal.returns-then-is_under
+returns-then-is_under g c =
+    let begin : FitsSigned w64 c.args.begin.minute = search rules in
+    let end : FitsSigned w64 c.args.end.minute = search rules in
+    let n = simp to_z-of_z at c.minutes-n.ensures in
+    ap (peak_split (g.C.Curve.meaning c.args.curve.now) c.args.highest.minute c.args.highest.value c.args.begin.minute) (sym n)
+    ∙ split-under (g.C.Curve.meaning c.args.curve.now) c.args.highest.minute c.args.highest.value c.args.begin.minute c.minutes-n.result (sym c.is_under.ensures ∙ c.if-is_under.true)
