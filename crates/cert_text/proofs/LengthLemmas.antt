@@ -3,7 +3,6 @@ use Rattle.std.proofs.Common.{◌≡◌, ℕ, suc, ◌+◌, ◌*◌, ◌<◌, �
 use Rattle.std.specs.Prelude.{unsigned_abs, unwrap_or, decimal, All, IfSome}
 use Rattle.std.specs.Fmt.{signed_decimal}
 use Rattle.std.specs.List.{AllByRecursion}
-use Rattle.std.proofs.lemmas.Fmt.{length-decimal-le}
 use Rattle.std.proofs.lemmas.List.Concat.{flat_map-append}
 use Rattle.std.proofs.lemmas.List.Elements.{recursion_from_All}
 use Rattle.curve_law.specs.declared.cell.Cell.{Cell}
@@ -17,7 +16,7 @@ use Rattle.cert_text.specs.declared.track_name.TrackName.TheVariants.{Turn, Slac
 use Rattle.cert_text.specs.Tracks.{track_word, kind_word}
 use Rattle.cert_text.specs.Certificates.{IsMark, IsCell, IsCellOf, IsCertificate, HasUsualLevel, HasUsualLevels, cell_count}
 use Rattle.cert_text.specs.Lines.{title_of, station_line_of, begin_line_of, end_line_of, mark_line_of, heading_of, front_of, cell_line_of, last_line, head_lines_of, track_lines_of, lines_if_there, ended, joined, certificate_text}
-use Rattle.cert_text.proofs.NumberLemmas.{length-signed}
+use Rattle.cert_text.proofs.NumberLemmas.{length-number, length-signed}
 use Rattle.cert_text.proofs.TextLemmas.{length-moment_text}
 
 -- ---- parts
@@ -162,8 +161,7 @@ text_short c h =
 -- ---- of usual ones
 
 length-level : (z : ℤ) → unsigned_abs z ≤ 11000000000 → length (signed_decimal z) ≤ 12
-length-level (pos n) h = omega (arith, length-decimal-le 11 n (lit< tt) (omega arith) (omega arith))
-length-level (negsuc n) h = omega (arith, length-decimal-le 11 (suc n) (lit< tt) (omega arith) (omega arith))
+length-level z h = length-number 11 z (lit< tt) (omega arith) (omega (arith, h))
 
 pub usual_cell_short : (c : Cell) → IsCell c → HasUsualLevel c → length (ended (cell_line_of c)) ≤ 21
 unfolding cell_line_of

@@ -1,10 +1,12 @@
 mod OptionLemmas
-mod NumberLemmas
-mod LineLemmas
+pub mod NumberLemmas
+pub mod LineLemmas
 mod TextLemmas
 mod LengthLemmas
 mod DraftLemmas
 mod RunLemmas
-mod CutLemmas
+pub mod CutLemmas
+pub mod FreeLemmas
+pub mod ByLineLemmas
 mod GrammarLemmas
 mod ReadingLemmas

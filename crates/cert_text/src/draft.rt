@@ -3,10 +3,11 @@
 ghost use Rattle.std.specs.Prelude.{◌≡◌};
 ghost use Rattle.cert_text.specs.Workings.Drafts.{if_there};
 
+use crate::by_line::LineDraft;
 use crate::cell_list::CellList;
 use crate::cell_reading::cell_of;
 use crate::certificate::Certificate;
-use crate::fault::{CertFault, LineFault};
+use crate::fault::LineFault;
 use crate::line_reading::{mark_of, moment_after, station_of, version_of};
 use crate::part::Part;
 use crate::track_name::TrackName;
@@ -30,7 +31,8 @@ pub struct Draft {
 }
 
 impl Draft {
-    ghost use Rattle.cert_text.specs.Workings.Drafts.{start, next, next_at, after_heading, after_last, after_slack, after_turn, with_turn, with_slack, with_crossing, is_done, certificate_in, finished, Takes};
+    ghost use Rattle.cert_text.specs.ByLine.{Takes};
+    ghost use Rattle.cert_text.specs.Workings.Drafts.{start, next_at, after_heading, after_last, after_slack, after_turn, with_turn, with_slack, with_crossing, is_done, certificate_in};
 
     /// Before the first line. It takes no memory.
     pub fn new(alloc: Global) -> Draft
@@ -47,25 +49,6 @@ impl Draft {
             has_slack: false,
             slack: CellList::new(alloc),
             crossings: CellList::new(alloc),
-        }
-    }
-
-    /// Takes the next line.
-    #[tactic(auto, unfolding(crate::specs::Workings::Drafts::next))]
-    pub fn take_line(&mut self, alloc: Global, line: &[u8]) -> Result<(), LineFault>
-        ensures { Takes (next self.old line.now) self.new result }
-    {
-        match self.part {
-            Part::Title => self.take_title(line),
-            Part::Station => self.take_station(alloc, line),
-            Part::Begin => self.take_begin(line),
-            Part::End => self.take_end(line),
-            Part::Mark => self.take_mark(line),
-            Part::Heading => self.take_heading(line),
-            Part::Turn => self.take_turn(line),
-            Part::Slack => self.take_slack(line),
-            Part::Crossings => self.take_crossing(line),
-            Part::Done => Err(LineFault::Bad),
         }
     }
 
@@ -194,18 +177,6 @@ impl Draft {
         Ok(())
     }
 
-    /// The certificate, where the last line has come and nothing is left. `number` is the number of
-    /// the line that would come next, and `rest` the bytes after the last LF.
-    pub fn finish(self, number: u32, rest: &[u8]) -> Result<Certificate, CertFault>
-        ensures { result ≡ finished self number rest.now }
-    {
-        if self.is_done() && rest.is_empty() {
-            Ok(self.into_certificate())
-        } else {
-            Err(CertFault::NotACertificate { line: number })
-        }
-    }
-
     fn is_done(&self) -> bool
         ensures { result ≡ is_done self.now.part }
     {
@@ -227,6 +198,40 @@ impl Draft {
             end: self.end,
             mark: self.mark,
             tracks,
+        }
+    }
+}
+
+impl LineDraft for Draft {
+    ghost use Rattle.cert_text.specs.Workings.Drafts.{next, whole};
+
+    type Whole = Certificate;
+
+    ghost draft_after = { next };
+
+    ghost said = { whole };
+
+    #[tactic(auto, unfolding(crate::specs::Workings::Drafts::next))]
+    fn take_line(&mut self, alloc: Global, line: &[u8]) -> Result<(), LineFault> {
+        match self.part {
+            Part::Title => self.take_title(line),
+            Part::Station => self.take_station(alloc, line),
+            Part::Begin => self.take_begin(line),
+            Part::End => self.take_end(line),
+            Part::Mark => self.take_mark(line),
+            Part::Heading => self.take_heading(line),
+            Part::Turn => self.take_turn(line),
+            Part::Slack => self.take_slack(line),
+            Part::Crossings => self.take_crossing(line),
+            Part::Done => Err(LineFault::Bad),
+        }
+    }
+
+    fn finish(self) -> Option<Certificate> {
+        if self.is_done() {
+            Some(self.into_certificate())
+        } else {
+            None
         }
     }
 }
