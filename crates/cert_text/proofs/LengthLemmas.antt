@@ -35,7 +35,7 @@ joined-parts c =
 
 -- ---- lengths of lines
 
-length-ended : (line : List ℕ) → length (ended line) ≡ length line + 1
+pub length-ended : (line : List ℕ) → length (ended line) ≡ length line + 1
 length-ended line = length-append line (10 ∷ [])
 
 title_short : (v : ℕ) → (v ≡ 1) ⊎ (v ≡ 2) → length (title_of v) ≡ 18
@@ -43,15 +43,15 @@ unfolding title_of
 title_short v (inl one) = rw one refl
 title_short v (inr two) = rw two refl
 
-station_short : (name : List ℕ) → length name ≤ 400 → length (station_line_of name) ≤ 408
+pub station_short : (name : List ℕ) → length name ≤ 400 → length (station_line_of name) ≤ 408
 unfolding station_line_of
 station_short name h = omega (arith, length-append (codes "station ") name, h)
 
-begin_short : (m : ℤ) → length (begin_line_of m) ≡ 23
+pub begin_short : (m : ℤ) → length (begin_line_of m) ≡ 23
 unfolding begin_line_of
 begin_short m = omega (arith, length-append (codes "begin ") (moment_text m), length-moment_text m)
 
-end_short : (m : ℤ) → length (end_line_of m) ≡ 21
+pub end_short : (m : ℤ) → length (end_line_of m) ≡ 21
 unfolding end_line_of
 end_short m = omega (arith, length-append (codes "end ") (moment_text m), length-moment_text m)
 
@@ -83,7 +83,7 @@ cell_short (cells.Turn kind level) h = omega (arith, length-ended (front_of kind
 
 -- ---- and of texts
 
-joined-cons : (line : List ℕ) (lines : List (List ℕ)) → length (joined (line ∷ lines)) ≡ length line + 1 + length (joined lines)
+pub joined-cons : (line : List ℕ) (lines : List (List ℕ)) → length (joined (line ∷ lines)) ≡ length line + 1 + length (joined lines)
 joined-cons line lines = omega (arith, length-append (ended line) (joined lines), length-ended line)
 
 -- a cell whose line has at most so many bytes
@@ -119,7 +119,7 @@ head_short c h =
       mark_short c.mark h.mark,
     )
 
-last_short : length (ended last_line) ≡ 5
+pub last_short : length (ended last_line) ≡ 5
 unfolding last_line
 last_short = refl
 

@@ -1,8 +1,8 @@
-mod OptionLemmas
+pub mod OptionLemmas
 pub mod NumberLemmas
 pub mod LineLemmas
-mod TextLemmas
-mod LengthLemmas
+pub mod TextLemmas
+pub mod LengthLemmas
 mod DraftLemmas
 mod RunLemmas
 pub mod CutLemmas

@@ -1,16 +1,18 @@
 -- What is read of a line is what the line says, and no other line says it.
-use Rattle.std.proofs.Common.{◌≡◌, ◌≢◌, ℕ, ◌<◌, ◌≤◌, Bool, true, false, cond, List, [], ◌∷◌, ◌++◌, codes, length, get_or, take, drop, Option, Some, None, ℤ, pos, negsuc, ◌⊎◌, inl, inr, refl, sym, ap, ◌∙◌, subst, take-append-drop, lit<, lit≤, arith}
+use Rattle.std.proofs.Common.{◌≡◌, ◌≢◌, ℕ, zero, suc, ◌<◌, ◌≤◌, Bool, true, false, cond, List, [], ◌∷◌, ◌++◌, codes, length, get_or, take, drop, Option, Some, None, ℤ, pos, negsuc, ◌⊎◌, inl, inr, refl, sym, ap, ◌∙◌, subst, take-append-drop, lit<, lit≤, arith}
 use Rattle.std.specs.Prelude.{unsigned_abs, decimal, ◌&&◌, IfSome, option_and_then}
 use Rattle.std.specs.Fmt.{signed_decimal}
 use Rattle.std.specs.List.{list_all}
 use Rattle.std.specs.Option.{option_or}
 use Rattle.std.specs.Str.{IsUtf8, is_utf8, bytes_eq}
 use Rattle.std.proofs.lemmas.Bool.{ltb-true, leb-true, lt-ltb, le-leb, and_parts, and_from, eqb-false, ne_eqb, not-true, not_from_false}
+use Rattle.std.proofs.lemmas.Int.{ints}
 use Rattle.std.proofs.lemmas.List.{take_at, drop_at}
+use Rattle.std.proofs.lemmas.List.Elements.{All-from_recursion}
 use Rattle.std.proofs.lemmas.List.Sums.{AllPass-from_list_all, list_all-from_AllPass}
 use Rattle.std.proofs.lemmas.Option.{cond_some, same_Some, option_and_then_some}
 use Rattle.std.proofs.lemmas.Slice.Eq.{bytes_eq-Decides}
-use Rattle.std.proofs.lemmas.Str.{IsUtf8-from_is_utf8, is_utf8-from_IsUtf8}
+use Rattle.std.proofs.lemmas.Str.{IsUtf8-from_ascii, IsUtf8-from_is_utf8, is_utf8-from_IsUtf8}
 use Rattle.curve_law.specs.declared.cell.Cell.{Cell}
 use Rattle.curve_law.specs.declared.cell.Cell.TheVariants as cells
 use Rattle.curve_law.specs.declared.kind.Kind.{Kind}
@@ -128,7 +130,23 @@ station_of-line name h =
     let printed : list_all is_name_byte name ≡ true = list_all-from_AllPass is_name_byte name (λ k d lt. name_byte-from _ (h.printed k d lt)) in
     rw (after-append (codes "station ") name) (named_yes name h.some h.short printed h.text)
 
+-- some name
+x_is_ascii : (i : ℕ) → get_or (codes "x") i 0 < 128
+x_is_ascii zero = lit< tt
+x_is_ascii (suc i) = lit< tt
+
+pub x_is_name : IsStationName (codes "x")
+x_is_name = record {
+  text = IsUtf8-from_ascii (codes "x") x_is_ascii;
+  some = lit≤ tt;
+  short = lit≤ tt;
+  printed = All-from_recursion (λ (b : ℕ). (32 ≤ b) × (b ≢ 127)) (codes "x") ((lit≤ tt, λ e. absurd (omega (arith, e))), tt);
+}
+
 -- ---- moments
+
+pub moment_zero : IsMoment (pos 0)
+moment_zero = record { first = omega (arith, ints); last = omega (arith, ints) }
 
 pub moment_is : (word line : List ℕ) (m : ℤ) → moment_after word line ≡ Some m → IsMoment m × (word ++ moment_text m ≡ line)
 unfolding moment_after

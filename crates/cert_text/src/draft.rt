@@ -4,14 +4,14 @@ ghost use Rattle.std.specs.Prelude.{◌≡◌};
 ghost use Rattle.cert_text.specs.Workings.Drafts.{if_there};
 
 use crate::by_line::LineDraft;
-use crate::cell_list::CellList;
 use crate::cell_reading::cell_of;
 use crate::certificate::Certificate;
 use crate::fault::LineFault;
+use crate::item_list::ItemList;
 use crate::line_reading::{mark_of, moment_after, station_of, version_of};
 use crate::part::Part;
 use crate::track_name::TrackName;
-use curve_law::{Cells, Tracks};
+use curve_law::{Cell, Cells, Tracks};
 use decimal_text::Text;
 use std::alloc::Global;
 
@@ -24,10 +24,10 @@ pub struct Draft {
     begin: i64,
     end: i64,
     mark: Option<i64>,
-    turn: CellList,
+    turn: ItemList<Cell>,
     has_slack: bool,
-    slack: CellList,
-    crossings: CellList,
+    slack: ItemList<Cell>,
+    crossings: ItemList<Cell>,
 }
 
 impl Draft {
@@ -45,10 +45,10 @@ impl Draft {
             begin: 0,
             end: 0,
             mark: None,
-            turn: CellList::new(alloc),
+            turn: ItemList::new(alloc),
             has_slack: false,
-            slack: CellList::new(alloc),
-            crossings: CellList::new(alloc),
+            slack: ItemList::new(alloc),
+            crossings: ItemList::new(alloc),
         }
     }
 
@@ -187,7 +187,7 @@ impl Draft {
         ensures { result ≡ certificate_in self }
     {
         let tracks = Tracks {
-            turn: self.turn.into_cells(),
+            turn: Cells::from_vec(self.turn.into_vec()),
             slack: if_there(self.has_slack, self.slack),
             mark: if_there(self.mark.is_some(), self.crossings),
         };
@@ -237,11 +237,11 @@ impl LineDraft for Draft {
 }
 
 /// The cells of a track that may be left out.
-fn if_there(there: bool, cells: CellList) -> Option<Cells>
+fn if_there(there: bool, cells: ItemList<Cell>) -> Option<Cells>
     ensures { result ≡ if_there there cells }
 {
     if there {
-        Some(cells.into_cells())
+        Some(Cells::from_vec(cells.into_vec()))
     } else {
         None
     }

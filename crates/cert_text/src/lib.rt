@@ -7,11 +7,11 @@
 #![tactic(auto)]
 
 mod by_line;
-mod cell_list;
 mod cell_reading;
 mod certificate;
 mod draft;
 mod fault;
+mod item_list;
 mod laws;
 mod line_reading;
 mod line_writing;
@@ -27,6 +27,7 @@ mod writing;
 pub use by_line::{LineDraft, read_lines};
 pub use certificate::Certificate;
 pub use fault::{CertFault, LineFault};
+pub use item_list::ItemList;
 pub use laws::{
     certificates_are_short, certificates_have_one_text, readings_go_by_the_grammar,
     texts_come_in_parts,

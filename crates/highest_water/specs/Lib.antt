@@ -1,1 +1,5 @@
-
+pub mod PeakTexts
+pub mod PeakSpelling
+pub mod PeakDrafts
+pub mod PeakReadings
+pub mod PeakRows

@@ -1,0 +1,6 @@
+mod PeakLineLemmas
+mod PeakGrammarLemmas
+mod PeakDraftLemmas
+mod PeakRunLemmas
+mod PeakReadingLemmas
+mod PeakLengthLemmas
