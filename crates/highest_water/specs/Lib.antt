@@ -1,4 +1,9 @@
 pub mod Covers
+pub mod PeakDrafts
+pub mod PeakReadings
+pub mod PeakRows
+pub mod PeakSpelling
+pub mod PeakTexts
 pub mod Peaks
 pub mod Samples
 pub mod Telling
