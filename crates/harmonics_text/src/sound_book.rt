@@ -35,7 +35,7 @@ impl<'a> SoundBook<'a> {
     }
 
     /// The book, lent.
-    pub fn book(&self) -> &'a Book
+    pub fn get(&self) -> &'a Book
         ensures exact { result.now ≡ self.now }
         ensures sound { IsBook self.now }
     {

@@ -2,7 +2,8 @@
 //!
 //! [`pairs_of_words`] cuts words at their first `=`, and [`read_question`] makes a [`Question`] of
 //! such pairs or tells the first thing that is wrong with them. The table of keys that both go by
-//! is in `specs/Keys.antt`; what is known of each question that was read, in `specs/Asked.antt`.
+//! is in `specs/Keys.antt`; what is known of each question that was read, in `specs/Asked.antt`. A
+//! [`SoundQuestion`] is one of which that is known.
 #![tactic(auto)]
 
 mod command;
@@ -14,6 +15,7 @@ mod pairs;
 mod question;
 mod reading;
 mod sheets;
+mod sound_question;
 mod table;
 mod values;
 mod words;
@@ -27,6 +29,7 @@ pub use origin::Origin;
 pub use pairs::{Item, Items, Pairs};
 pub use question::{Layout, Question, ZoneWord};
 pub use reading::read_question;
+pub use sound_question::SoundQuestion;
 pub use words::pairs_of_words;
 pub use worked::{
     worked_faults, worked_query_faults, worked_questions, worked_values, worked_words,

@@ -49,7 +49,7 @@ pub fn calendar_year(book: &SoundBook<'_>, year: u32) -> i32
     ensures value { result ≡ book.now.first_year +ℤ pos year }
     ensures reach { IsYearInReach result }
 {
-    book.book().first_year + year as i32
+    book.get().first_year + year as i32
 }
 
 /// How many constituents a book has.
@@ -57,7 +57,7 @@ fn count(book: &SoundBook<'_>) -> usize
     ensures value { result ≡ length book.now.constituents }
     ensures few { result ≤ 500 }
 {
-    book.book().constituents.as_slice().len()
+    book.get().constituents.as_slice().len()
 }
 
 /// The sum of the amplitudes' sizes in a year, and of each size times the speed.
@@ -111,7 +111,7 @@ fn amplitude(book: &SoundBook<'_>, station: &Station, year: u32, k: usize) -> i6
     if amplitude == 0 {
         return 0;
     }
-    let factor = book.book().factors.as_slice()[place_in_table(book, year, k)];
+    let factor = book.get().factors.as_slice()[place_in_table(book, year, k)];
     effective(amplitude, factor)
 }
 
@@ -132,7 +132,7 @@ fn place_in_table(book: &SoundBook<'_>, year: u32, k: usize) -> usize
     ensures value { result ≡ k * book.now.years + year }
     ensures within { result < length book.now.constituents * book.now.years }
 {
-    k * book.book().years as usize + year as usize
+    k * book.get().years as usize + year as usize
 }
 
 /// A constituent's speed, in units of the circle a minute.
@@ -141,7 +141,7 @@ fn speed(book: &SoundBook<'_>, k: usize) -> u64
     ensures value { pos result ≡ speed_of book.now k }
     ensures size { result ≤ 3600000000 }
 {
-    let constituent = &book.book().constituents.as_slice()[k];
+    let constituent = &book.get().constituents.as_slice()[k];
     constituent.speed as u64
 }
 
@@ -153,7 +153,7 @@ fn phase(book: &SoundBook<'_>, station: &Station, year: u32, k: usize) -> u64
     ensures value { result ≡ phase_of book.now station.now year (start_of book.now.first_year year -ℤ pos 60) k }
     ensures turn { result < circle }
 {
-    let argument = book.book().angles.as_slice()[place_in_table(book, year, k)];
+    let argument = book.get().angles.as_slice()[place_in_table(book, year, k)];
     let epoch = station.epoch.as_slice()[k];
     let minutes = i64::from(station.meridian) - 60;
     let angle = angle(speed(book, k) as i64, minutes, argument, epoch);

@@ -105,7 +105,7 @@ impl StationCurve {
         ensures predicts { Predicts book.now station.now result }
     {
         StationCurve {
-            first_year: book.book().first_year,
+            first_year: book.get().first_year,
             datum: station.datum,
             years,
         }

@@ -63,7 +63,7 @@ pub fn years_of(
         (λ fault. (fault ≡ NoMemory) ⊎ (first_fault book.now station.now book.now.years ≡ Some fault)) }
 {
     let mut years = Vec::new(alloc);
-    for year in 0..book.book().years {
+    for year in 0..book.get().years {
         if let Err(fault) = check_year(book, station, year) {
             return Err(fault);
         }

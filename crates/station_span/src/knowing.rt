@@ -25,7 +25,7 @@ pub fn find_known(
     ensures told { IfErr result (IsToldRefusal table.now) }
 {
     let basis = find_basis(book, table, name)?;
-    let station = station_at(book.book(), basis.station);
+    let station = station_at(book.get(), basis.station);
     let units = level_units(station.units)?;
     let curve = curve_at(alloc, book, basis.station, station)?;
     Ok(Found {

@@ -52,7 +52,7 @@ pub fn find_station(
     ensures told { IfErr result (IsToldRefusal table.now) }
 {
     let basis = find_basis(book, table, name)?;
-    let station = station_at(book.book(), basis.station);
+    let station = station_at(book.get(), basis.station);
     find_at(alloc, book, reach, basis, station, asked)
 }
 
@@ -61,7 +61,7 @@ pub fn find_basis(book: &SoundBook<'_>, table: &OffsetTable, name: &Text) -> Res
     ensures sound { IfOk result (IsBasis (length book.now.stations)) }
     ensures told { IfErr result (IsToldRefusal table.now) }
 {
-    match find(book.book(), table, name) {
+    match find(book.get(), table, name) {
         Ok(basis) => Ok(basis),
         Err(fault) => Err(Refusal::from(fault)),
     }
@@ -230,7 +230,7 @@ fn first_minute(book: &SoundBook<'_>) -> i64
     ensures value { result ≡ year_start_of book.now.first_year }
     ensures moment { IsMoment result }
 {
-    year_start(book.book().first_year)
+    year_start(book.get().first_year)
 }
 
 // The begin of the year after the last.
@@ -238,7 +238,7 @@ fn last_minute(book: &SoundBook<'_>) -> i64
     ensures value { result ≡ year_start_of (book.now.first_year +ℤ pos book.now.years) }
     ensures moment { IsMoment result }
 {
-    let book = book.book();
+    let book = book.get();
     year_start(book.first_year + book.years as i32)
 }
 
@@ -255,7 +255,7 @@ pub fn curve_at(
     ensures years { AreYears book.now.first_year book.now.years }
     ensures told { IfErr result (IsToldRefusal []) }
 {
-    match StationCurve::new(alloc, book.book(), place) {
+    match StationCurve::new(alloc, book.get(), place) {
         Ok(curve) => {
             curve.known();
             Ok(curve)

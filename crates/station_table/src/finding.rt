@@ -64,7 +64,7 @@ fn basis_over(book: &SoundBook<'_>, row: u32, offsets: &Offsets) -> Result<Basis
     ensures sound { IfOk result (IsBasis (length book.now.stations)) }
     ensures row { IfErr result (λ fault. fault ≡ FindFault.NoReference row) }
 {
-    match station_place(book.book(), &offsets.reference) {
+    match station_place(book.get(), &offsets.reference) {
         Some(station) => Ok(Basis {
             station: station as u32,
             row: Some(row),

@@ -29,7 +29,7 @@ pub fn tell_about(
     ensures told { IfErr result (IsToldRefusal table.now) }
 {
     let found = find_known(alloc, book, table, name)?;
-    let station = &book.book().stations.as_slice()[found.basis.station as usize];
+    let station = &book.get().stations.as_slice()[found.basis.station as usize];
     let bound = agreement(&found.curve);
     let text = about_text(
         alloc,

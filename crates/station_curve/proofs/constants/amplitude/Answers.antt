@@ -18,9 +18,9 @@ returns-clause-value c =
     let place = c.place_in_table.result in
     let factor = get_or c.args.book.now.factors place (pos 0) in
     let h = station_amplitude (length c.args.book.now.constituents) c.args.station.now c.args.k c.requires.station c.requires.place in
-    let k = book_factor c.args.book.now place c.book.ensures.sound c.place_in_table.ensures.within in
+    let k = book_factor c.args.book.now place c.get.ensures.sound c.place_in_table.ensures.within in
     let a : to_z w64 (of_z w64 amplitude) ≡ amplitude = cast_small w64 amplitude (10 ^ 10) h (lit< tt) in
     let f : to_z w64 (of_z w64 factor) ≡ factor = cast_small w64 factor (10 ^ 7) k (lit< tt) in
     cast_small w64 c.effective.result (10 ^ 11) c.effective.ensures.size (lit< tt)
-    ∙ simp (c.as_slice.ensures, c.as_slice-2.ensures, c.book.ensures.exact, a, f) at c.effective.ensures.value
+    ∙ simp (c.as_slice.ensures, c.as_slice-2.ensures, c.get.ensures.exact, a, f) at c.effective.ensures.value
     ∙ ap (λ p. rounded_of (amplitude *ℤ get_or c.args.book.now.factors p (pos 0)) 1000000) c.place_in_table.ensures.value

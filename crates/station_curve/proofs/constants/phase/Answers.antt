@@ -26,7 +26,7 @@ returns-clause-value c =
     let minutes : to_z w64 (of_z w64 (to_z w64 (of_z w64 c.from-minutes.result) -ℤ pos 60)) ≡ s.meridian -ℤ pos 60 =
     omega (arith, ints, c.from-minutes.ensures, c.requires.station.meridian.least, c.requires.station.meridian.most) in
     let argument : to_z w64 (of_z w64 (get_or c.as_slice.result.now place (pos 0))) ≡ get_or b.angles (k * b.years + c.args.year) (pos 0) =
-    rw (c.as_slice.ensures, c.book.ensures.exact) (cast_small w64 (get_or b.angles place (pos 0)) 7200000000 (book_angle b place c.book.ensures.sound c.place_in_table.ensures.within) (lit< tt))
+    rw (c.as_slice.ensures, c.get.ensures.exact) (cast_small w64 (get_or b.angles place (pos 0)) 7200000000 (book_angle b place c.get.ensures.sound c.place_in_table.ensures.within) (lit< tt))
     ∙ ap (λ p. get_or b.angles p (pos 0)) c.place_in_table.ensures.value in
     let epoch : to_z w64 (of_z w64 (get_or c.as_slice-2.result.now k (pos 0))) ≡ get_or s.epoch k (pos 0) =
     rw c.as_slice-2.ensures (cast_small w64 (get_or s.epoch k (pos 0)) 7200000000 (station_epoch (length b.constituents) s k c.requires.station c.requires.place) (lit< tt)) in

@@ -32,4 +32,4 @@ sums_of_waves-sums-requires-clause-steepness c =
 pub returns-in-Err : goal.returns-in-Err
 returns-in-Err c =
     inr (fault_stays c.args.book.now c.args.station.now c.loop-year.year c.args.book.now.years c.in-Err.fault
-    (some_more c.args.book.now c.args.station.now c.loop-year.year c.in-Err.fault c.loop-year.invariant.within c.in-Err.ensures) (rw c.book.ensures.exact at c.loop-year-test.true))
+    (some_more c.args.book.now c.args.station.now c.loop-year.year c.in-Err.fault c.loop-year.invariant.within c.in-Err.ensures) (rw c.get.ensures.exact at c.loop-year-test.true))

@@ -27,9 +27,9 @@ pub invariant_of-result : goal.invariant_of-result
 invariant_of-result c =
     let b = c.args.book.now in
     let s = c.args.station.now in
-    let sound = c.book.ensures.sound in
+    let sound = c.get.ensures.sound in
     let first = first_cast b sound in
-    rw c.book.ensures.exact record {
+    rw c.get.ensures.exact record {
       gentle = subst IsGentle (sym (kept b s c.args.years.items sound c.requires.station c.requires.years)) (gentle_tide b s sound c.requires.station c.requires.years.within);
       starts = λ k d h. c.requires.years.starts k d (omega (arith, h, c.requires.years.counted)) ∙ ap (λ f. start_of f k) (sym first);
       ends = λ k d h. c.requires.years.ends k d (omega (arith, h, c.requires.years.counted)) ∙ ap (λ f. start_of f (suc k)) (sym first);
@@ -38,11 +38,11 @@ invariant_of-result c =
 
 pub returns-clause-exact : goal.returns-clause-exact
 returns-clause-exact c =
-    rw c.book.ensures.exact (kept c.args.book.now c.args.station.now c.args.years.items c.book.ensures.sound c.requires.station c.requires.years)
+    rw c.get.ensures.exact (kept c.args.book.now c.args.station.now c.args.years.items c.get.ensures.sound c.requires.station c.requires.years)
 
 pub returns-clause-predicts : goal.returns-clause-predicts
 returns-clause-predicts c =
     let b = c.args.book.now in
     let s = c.args.station.now in
-    let sound = c.book.ensures.sound in
-    rw c.book.ensures.exact (subst (Predicts b s) (sym (kept b s c.args.years.items sound c.requires.station c.requires.years)) (predicts_tide b s sound))
+    let sound = c.get.ensures.sound in
+    rw c.get.ensures.exact (subst (Predicts b s) (sym (kept b s c.args.years.items sound c.requires.station c.requires.years)) (predicts_tide b s sound))
