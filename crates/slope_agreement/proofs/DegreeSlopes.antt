@@ -28,24 +28,17 @@ greatest_product x y sum =
           let most = rw (whole, ← e) at square in omega (arith, most))
     ]
 
--- the formula's rise over one unit, with q units left after it
-formula-unit : (s u c r q : ℕ) → r + q + 1 ≡ 600000000 → formula s u c (r + 1) + (r + 1) * c ≡ formula s u c r + 2400000000 * u + (q + 1) * c
+-- the formula by both distances, from the degree's begin and to its end
+formula-at : (s u c r p : ℕ) → r + p ≡ 600000000 → formula s u c r ≡ 1440000000000000000 * s + 2400000000 * (r * u) + r * p * c
 unfolding formula
-formula-unit s u c r q sum =
-    let here : r * (600000000 - r) * c ≡ r * q * c + r * c =
-    ap (λ n. r * n * c) (let e : 600000000 - r ≡ q + 1 = omega arith in e) ∙ (omega arith)
-    in
-    let there : (r + 1) * (600000000 - (r + 1)) * c ≡ r * q * c + q * c =
-    ap (λ n. (r + 1) * n * c) (let e : 600000000 - (r + 1) ≡ q = omega arith in e) ∙ (omega arith)
-    in
+formula-at s u c r p sum =
+    let bent : r * (600000000 - r) * c ≡ r * p * c = ap (λ n. r * n * c) (let e : 600000000 - r ≡ p = omega arith in e) in
     omega arith
 
--- the formula as far before a degree's end
-formula-back : (s u c r p : ℕ) → r + p ≡ 600000000 → formula s u c p ≡ 1440000000000000000 * s + 2400000000 * (p * u) + p * r * c
-unfolding formula
-formula-back s u c r p sum =
-    let bent : p * (600000000 - p) * c ≡ p * r * c = ap (λ n. p * n * c) (let e : 600000000 - p ≡ r = omega arith in e) in
-    omega arith
+-- its rise over one unit, with q units left after it
+formula-unit : (s u c r q : ℕ) → r + q + 1 ≡ 600000000 → formula s u c (r + 1) + (r + 1) * c ≡ formula s u c r + 2400000000 * u + (q + 1) * c
+formula-unit s u c r q sum =
+    omega (arith, formula-at s u c r (q + 1) (omega arith), formula-at s u c (r + 1) q (omega arith))
 
 -- between the ends of a degree, r units past the one and p before the other: the slope is linear, and so is the cosine but for its
 -- own correction
@@ -75,7 +68,7 @@ num-slope i h =
     let back : num (54000000000 - i) ≡ in_degree (89 - k) p = ap num (omega arith) ∙ num-formula (89 - k) p (omega arith) (omega arith) in
     let left : p - 1 + 1 ≡ p = omega arith in
     let rise = rw left at (formula-unit (get_or sines k 0) (get_or sines (k + 1) 0 - get_or sines k 0) (unsigned_abs (correction k)) r (p - 1) (omega arith)) in
-    let cosine = formula-back (get_or sines (89 - k) 0) (get_or sines (89 - k + 1) 0 - get_or sines (89 - k) 0) (unsigned_abs (correction (89 - k))) r p (omega arith) in
+    let cosine = formula-at (get_or sines (89 - k) 0) (get_or sines (89 - k + 1) 0 - get_or sines (89 - k) 0) (unsigned_abs (correction (89 - k))) p r (omega arith) in
     rw (here, there, back)
     (slope_inside r p _ _ _ _ (unsigned_abs (correction (89 - k))) _ _ _ (omega arith) (near_cosine k (omega arith)) (near_cosine (89 - k) (omega arith)).small rise cosine)
 

@@ -13,7 +13,7 @@ use Rattle.year_blend.specs.Weights.{total_weight}
 use Rattle.year_blend.proofs.PlaceLemmas.{place_of-rule}
 use Rattle.station_curve.specs.Waves.{Tide, heights_of, falls_of, amount_of, steepness_of}
 use Rattle.station_curve.specs.Sums.{far_of}
-use Rattle.station_curve.specs.Levels.{blended, drift, minutes_into, waves_in, place_in_tide, year_level, year_slope, level_of, slope_of}
+use Rattle.station_curve.specs.Levels.{minutes_into, waves_in, place_in_tide, year_level, year_slope, level_of, slope_of}
 use Rattle.station_curve.specs.Curves.{first_fault, tide_of, Predicts}
 use Rattle.station_curve.specs.Limits.{IsGentle}
 use Rattle.station_curve.proofs.Gentle.{gentle_tide}
@@ -43,24 +43,13 @@ year_level_gap tide m year begun =
     (year_slope_from (pos (10 ^ 9) *ℤ tide.datum) (heights_of (t + 1) hs) (heights_of t hs) (falls_of t hs) (year_gap tide year) (heights_gap t hs))
 
 -- by the whole weight
-level_plain : (tide : Tide) (m : ℤ) (year : ℕ) → place_in_tide tide m ≡ Plain year → level_of tide m ≡ pos total_weight *ℤ year_level tide m year
-unfolding level_of
-level_plain tide m year plain = ap (blended (year_level tide m)) plain
-
-no_drift : (z : ℤ) → z +ℤ pos 0 ≡ z
-no_drift z = omega (arith, ints)
-
-slope_plain : (tide : Tide) (m : ℤ) (year : ℕ) → place_in_tide tide m ≡ Plain year → slope_of tide m ≡ pos total_weight *ℤ year_slope tide m year
-unfolding slope_of
-slope_plain tide m year plain =
-    ap (λ p. blended (year_slope tide m) p +ℤ drift (year_level tide m) p) plain ∙ no_drift (pos total_weight *ℤ year_slope tide m year)
-
-weighted_gap : (a b s : ℤ) (m : ℕ) → unsigned_abs ((pos 34377467708 *ℤ (a -ℤ b)) -ℤ s) ≤ m → unsigned_abs ((pos 34377467708 *ℤ ((pos total_weight *ℤ a) -ℤ (pos total_weight *ℤ b))) -ℤ (pos total_weight *ℤ s)) ≤ total_weight * m
+weighted_gap : (a b s : ℤ) (m : ℕ) → unsigned_abs ((pos 34377467708 *ℤ (a -ℤ b)) -ℤ s) ≤ m → unsigned_abs ((pos 34377467708 *ℤ ((pos total_weight *ℤ a) -ℤ (pos total_weight *ℤ b))) -ℤ ((pos total_weight *ℤ s) +ℤ pos 0)) ≤ total_weight * m
 weighted_gap a b s m near = omega (arith, ints, near)
 
 plain_gap : (tide : Tide) (m : ℤ) (year : ℕ) → start_of tide.first_year year ≤ℤ m → place_in_tide tide m ≡ Plain year → place_in_tide tide (m +ℤ pos 1) ≡ Plain year → gap_of tide m ≤ total_weight * year_gap tide year
+unfolding level_of slope_of
 plain_gap tide m year begun here there =
-    rw (level_plain tide (m +ℤ pos 1) year there, level_plain tide m year here, slope_plain tide m year here)
+    rw (there, here)
     (weighted_gap (year_level tide (m +ℤ pos 1) year) (year_level tide m year) (year_slope tide m year) (year_gap tide year) (year_level_gap tide m year begun))
 
 -- the greatest of the years
