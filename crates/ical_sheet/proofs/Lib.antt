@@ -1,0 +1,3 @@
+mod EscapingLemmas
+mod PieceLemmas
+mod UnfoldingLemmas

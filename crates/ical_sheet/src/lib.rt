@@ -1,0 +1,14 @@
+//! The events of a station as a calendar that other programs take in (RFC 5545).
+//!
+//! A calendar is made of content lines. [`fold`] cuts one into physical lines of at most 75 octets,
+//! [`unfold`] puts the lines of a text together again, and [`escape`] marks the signs of a text that
+//! have a meaning of their own. `specs/` has the rules and the lines.
+#![tactic(auto)]
+
+mod escaping;
+mod folding;
+mod unfolding;
+
+pub use escaping::escape;
+pub use folding::fold;
+pub use unfolding::unfold;
