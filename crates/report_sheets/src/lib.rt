@@ -1,0 +1,14 @@
+//! Sheets: listings of one station's events, each in a layout of its own, joined into a report.
+//!
+//! A [`Sheet`] has a word, is opened with a [`Head`], takes the events one by one up to its limit, and
+//! writes its text. The crate has three of them: how many events of each name there are, the highest
+//! and the lowest water, and the first events.
+#![tactic(auto)]
+
+mod head;
+mod sheet;
+mod taken;
+
+pub use head::Head;
+pub use sheet::Sheet;
+pub use taken::Taken;
