@@ -1,12 +1,12 @@
 -- Where a text is cut: the longest prefix that ends where a character does.
-use Rattle.std.proofs.Common.{◌≡◌, ◌≢◌, ℕ, zero, suc, ◌+◌, ◌-◌, ◌<◌, ◌≤◌, Bool, true, false, cond, not, ◌&&◌, nat_le, nat_lt, min, List, [], ◌∷◌, ◌++◌, length, get_or, take, drop, slice_index, refl, sym, ap, ◌∙◌, subst, arith, zero-add, length-drop}
+use Rattle.std.proofs.Common.{◌≡◌, ◌≢◌, ℕ, zero, suc, ◌+◌, ◌-◌, ◌<◌, ◌≤◌, Bool, true, false, cond, not, ◌&&◌, nat_le, nat_lt, min, List, [], ◌∷◌, ◌++◌, length, get_or, take, drop, slice_index, refl, sym, ap, ◌∙◌, subst, arith, append-nil, codes, zero-add, length-drop}
 use Rattle.std.proofs.lemmas.Bool.Decides.{nat_tests}
-use Rattle.std.proofs.lemmas.List.{get_or_past}
+use Rattle.std.proofs.lemmas.List.{drop_all, get_or_past, take_all}
 use Rattle.std.proofs.Math.Utf8.{scalars, encodes, encode}
 use Rattle.std.specs.Char.{len_utf8}
 use Rattle.std.specs.Str.{IsUtf8, IsCharBoundary}
-use Rattle.std.proofs.lemmas.Str.{IsUtf8-drop, IsCharBoundary-start, IsCharBoundary-from_take, IsCharBoundary-past_char, len_utf8_bounds}
-use Rattle.ical_sheet.specs.Folding.{ends_at, is_inner, greatest, prefix_length, cut_up, further_pieces}
+use Rattle.std.proofs.lemmas.Str.{IsUtf8-drop, IsCharBoundary-end, IsCharBoundary-start, IsCharBoundary-from_take, IsCharBoundary-past_char, len_utf8_bounds}
+use Rattle.ical_sheet.specs.Folding.{ends_at, is_inner, folded, greatest, prefix_length, cut_up, further_pieces}
 
 pub greatest-le : (passes : ℕ → Bool) (n : ℕ) → greatest passes n ≤ n
 unfolding greatest
@@ -117,3 +117,13 @@ further_pieces-step (octet ∷ rest) utf8 h =
       cut_up-enough (length rest) (length (drop (prefix_length 74 text) text)) (drop (prefix_length 74 text) text) (rest-text 74 text utf8)
       (shorter text (length rest) utf8 (omega arith) (omega arith)) (omega arith)
     )
+
+-- a line of at most 75 octets is one piece
+pub folded-short : (line : List ℕ) → length line ≤ 75 → folded line ≡ line ++ codes "\r\n"
+unfolding folded cut_up
+folded-short line short =
+    let least : min 75 (length line) ≡ length line = omega (arith, short) in
+    let whole : prefix_length 75 line ≡ length line =
+        greatest-min line 75 ∙ ap (greatest (ends_at line)) least ∙ greatest-at (ends_at line) (length line) (end_from_boundary line (length line) (IsCharBoundary-end line))
+    in
+    rw (whole, take_all (length line) line (omega arith), drop_all (length line) line (omega arith), append-nil) refl

@@ -37,6 +37,15 @@ pub(crate) fn push_folded(text: &mut Vec<u8>, line: &[u8]) -> Result<(), AllocEr
     text.extend_from_slice(b"\r\n")
 }
 
+/// Appends a line of at most 75 octets, which is written as it is.
+pub(crate) fn push_short(text: &mut Vec<u8>, line: &[u8]) -> Result<(), AllocError>
+    requires { length line.now ≤ 75 }
+    ensures { OnOk result (text.new.items ≡ text.old.items ++ folded line.now) }
+{
+    text.extend_from_slice(line)?;
+    text.extend_from_slice(b"\r\n")
+}
+
 /// Appends the pieces after the first, each with a CR LF and a space before it.
 fn push_further(text: &mut Vec<u8>, further: &[u8]) -> Result<(), AllocError>
     requires { IsUtf8 further.now }

@@ -5,8 +5,12 @@
 //! have a meaning of their own. `specs/` has the rules and the lines.
 #![tactic(auto)]
 
+mod calendar;
 mod escaping;
+mod event_lines;
 mod folding;
+mod shared;
+mod stamp;
 mod unfolding;
 
 pub use escaping::escape;
