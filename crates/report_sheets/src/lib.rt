@@ -5,10 +5,14 @@
 //! and the lowest water, and the first events.
 #![tactic(auto)]
 
+mod collected;
 mod head;
+mod pages;
 mod sheet;
 mod taken;
 
+pub use collected::Collected;
 pub use head::Head;
+pub use pages::{fill, missing};
 pub use sheet::Sheet;
 pub use taken::Taken;
