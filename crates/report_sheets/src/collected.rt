@@ -1,6 +1,6 @@
 //! What a sheet collects.
 
-ghost use Rattle.std.specs.Prelude.{All};
+ghost use Rattle.std.specs.Prelude.{◌≤◌, length, All};
 ghost use Rattle.event_text.specs.Lines.{IsListed};
 ghost use Rattle.report_sheets.specs.Sheets.{IsLimit, IsHead};
 
@@ -22,12 +22,12 @@ pub struct Collected {
     pub events: Vec<Event>,
     pub ghost limited: { IsLimit limit },
     pub ghost headed: { IsHead head },
+    pub ghost within: { length events.items ≤ limit },
     pub ghost listed: { All (IsListed head.units) events.items },
 }
 
 impl Collected {
-    ghost use Rattle.std.specs.Prelude.{◌≡◌, [], pos, IfOk, OnOk, OnErr};
-    ghost use Rattle.harmonics_text.specs.declared.book.Units.{Units};
+    ghost use Rattle.std.specs.Prelude.{◌≡◌, [], ◌++◌, codes, IfOk, OnOk, OnErr};
     ghost use Rattle.report_sheets.specs.Sheets.{first_head, taken_of, list_after};
 
     /// No event, and a head of an empty name, feet and minute 0. It takes no memory.
@@ -75,5 +75,15 @@ impl Collected {
         }
         self.events.push(*event)?;
         Ok(Taken::Kept)
+    }
+
+    /// The line of the name, which a page begins with.
+    pub fn page(&self) -> Result<Vec<u8>, AllocError>
+        ensures { IfOk result (λ text. text.items ≡ self.now.head.name ++ codes "\n") }
+    {
+        let alloc = *self.events.allocator();
+        let mut text = Vec::from_slice(alloc, self.head.name.as_str().as_bytes())?;
+        text.push(b'\n')?;
+        Ok(text)
     }
 }
