@@ -1,7 +1,7 @@
 -- What a sheet is, and what it does with an event (this project).
-use Rattle.std.specs.Prelude.{◌≢◌, ℕ, ◌≤◌, ◌==◌, if◌then◌else◌, List, [], ◌∷◌, ◌++◌, length, All}
+use Rattle.std.specs.Prelude.{◌≢◌, ℕ, pos, ◌≤◌, ◌==◌, if◌then◌else◌, List, [], ◌∷◌, ◌++◌, length, All}
 use Rattle.curve_law.specs.declared.event.Event.{Event}
-use Rattle.harmonics_text.specs.declared.book.Units.TheVariants.{KnotsSquared}
+use Rattle.harmonics_text.specs.declared.book.Units.TheVariants.{Feet, KnotsSquared}
 use Rattle.report_sheets.specs.declared.head.Head.{Head}
 use Rattle.report_sheets.specs.declared.taken.Taken.{Taken}
 use Rattle.report_sheets.specs.declared.taken.Taken.TheVariants.{Kept, Full}
@@ -21,6 +21,10 @@ pub record IsLimit (limit : ℕ) : Type 0 where
 pub record IsHead (head : Head) : Type 0 where
   pub printable : All (λ b. (32 ≤ b) × (b ≢ 127)) head.name
   pub named : head.units ≢ KnotsSquared
+
+-- the head of a sheet that was never opened
+abbrev pub first_head : Head
+first_head = record { name = []; units = Feet; now = pos 0 }
 
 -- what a sheet of that limit answers to one more event
 abbrev pub taken_of : ℕ → List Event → Taken

@@ -5,10 +5,21 @@
 //! and the lowest water, and the first events.
 #![tactic(auto)]
 
+mod collected;
+mod extreme;
+mod first_lines;
 mod head;
+mod pages;
+mod ranges;
 mod sheet;
 mod taken;
+mod tally;
 
+pub use collected::Collected;
+pub use first_lines::FirstLines;
 pub use head::Head;
+pub use pages::{fill, missing};
+pub use ranges::Ranges;
 pub use sheet::Sheet;
 pub use taken::Taken;
+pub use tally::Tally;
