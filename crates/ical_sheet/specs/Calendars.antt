@@ -13,6 +13,7 @@ use Rattle.hex.specs.Hex.{encode_lower}
 use Rattle.ical_sheet.specs.Escaping.{escaped}
 use Rattle.ical_sheet.specs.Folding.{folded}
 use Rattle.report_sheets.specs.declared.head.Head.{Head}
+use Rattle.report_sheets.specs.Sheets.{SheetMeaning}
 use Rattle.zone_time.specs.Dates.{date_of, two_digits}
 use Rattle.zone_time.specs.Moments.{day_of, minute_of_day}
 
@@ -71,3 +72,7 @@ content_lines head (event ∷ events) =
 -- the lines as they are written
 unfoldable pub calendar_of : Head → List Event → List ℕ
 calendar_of head events = flat_map folded (content_lines head events)
+
+-- the sheet `ical`
+abbrev pub ical_sheet : ℕ → SheetMeaning
+ical_sheet limit = record { word = codes "ical"; limit = limit; layout = calendar_of }
