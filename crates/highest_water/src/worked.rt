@@ -1,0 +1,92 @@
+//! Highest waters, cells and verdicts that were worked out by hand.
+
+ghost use Rattle.std.specs.Prelude.{◌≡◌, pos, negsuc, true, false, [], ◌∷◌};
+ghost use Rattle.curve_law.specs.Samples.{line, ripple};
+ghost use Rattle.highest_water.specs.declared.peak_cell.PeakCell.{PeakCell};
+ghost use Rattle.highest_water.specs.declared.verdict.PeakVerdict.{PeakVerdict};
+ghost use Rattle.highest_water.specs.Peaks.{highest_minute};
+ghost use Rattle.highest_water.specs.Covers.{is_under, peak_cover};
+ghost use Rattle.highest_water.specs.Samples.{hills};
+ghost use Rattle.highest_water.specs.Verdicts.{peak_verdict};
+
+/// Minutes of highest waters. Of two tops of the same value the first one counts, and the minute at
+/// which a span ends is none of its minutes.
+#[tactic(auto, unfolding(crate::specs::Peaks::highest_minute))]
+pub fn worked_minutes()
+    ensures equal_tops { highest_minute (hills (pos 2) (pos 5) (pos 6) (pos 5) (pos 1)) (pos 0) 8 ≡ pos 2 }
+    ensures second_higher { highest_minute (hills (pos 2) (pos 5) (pos 6) (pos 7) (pos 1)) (pos 0) 8 ≡ pos 6 }
+    ensures second_alone { highest_minute (hills (pos 2) (pos 5) (pos 6) (pos 5) (pos 1)) (pos 3) 5 ≡ pos 6 }
+    ensures before_end { highest_minute (line (pos 1) false (pos 1)) (pos 0) 8 ≡ pos 7 }
+    ensures at_begin { highest_minute (line (pos 1) true (pos 1)) (negsuc 2) 8 ≡ negsuc 2 }
+    ensures one_minute { highest_minute ripple (pos 3) 1 ≡ pos 3 }
+    ensures first_even { highest_minute ripple (pos 3) 6 ≡ pos 4 }
+{}
+
+/// Cells under a value. A bound of exactly the value is low enough after its minute and not before it.
+#[tactic(auto, unfolding(crate::specs::Covers::stays_below, crate::specs::Covers::stays_within, crate::specs::Covers::is_under))]
+pub fn worked_cells_under()
+    ensures exactly_before { is_under (line (pos 0) false (pos 1)) (pos 7) (pos 7) (pos 5) 2 ≡ false }
+    ensures less_before { is_under (line (pos 0) false (pos 1)) (pos 7) (pos 7) (pos 4) 2 ≡ true }
+    ensures exactly_after { is_under (line (pos 0) true (pos 2)) (pos 0) (pos 0) (pos 1) 2 ≡ true }
+    ensures more_after { is_under (line (pos 0) true (pos 3)) (pos 0) (pos 0) (pos 1) 2 ≡ false }
+    ensures holding { is_under (line (pos 0) true (pos 2)) (pos 0) (pos 99) (pos 0) 2 ≡ false }
+    ensures holding_last { is_under (line (pos 0) true (pos 2)) (pos 1) (pos 99) (pos 0) 2 ≡ false }
+    ensures beside { is_under (line (pos 0) true (pos 2)) (pos 2) (pos 99) (pos 0) 2 ≡ true }
+    ensures one_minute { is_under (line (pos 0) true (pos 1)) (pos 9) (pos 99) (pos 0) 1 ≡ false }
+    ensures no_rate { is_under ripple (pos 9) (pos 99) (pos 0) 2 ≡ false }
+    ensures longest { is_under (line (pos 0) true (pos 1)) (negsuc 0) (pos 99) (pos 0) 1024 ≡ true }
+    ensures too_long { is_under (line (pos 0) true (pos 1)) (negsuc 0) (pos 99) (pos 0) 1025 ≡ false }
+{}
+
+/// The cells of highest waters: halved until they are under it, the first half of an odd number of
+/// minutes the shorter one, down to single minutes around it, and in blocks of 1,024 minutes.
+#[tactic(auto, unfolding(crate::specs::Covers::stays_below, crate::specs::Covers::stays_within, crate::specs::Covers::is_under, crate::specs::Covers::split_within, crate::specs::Covers::peak_split, crate::specs::Covers::cover_within, crate::specs::Covers::peak_cover))]
+pub fn worked_covers()
+    ensures first_top { peak_cover (hills (pos 2) (pos 5) (pos 6) (pos 5) (pos 1)) (pos 2) (pos 5) (pos 0) 8
+        ≡ PeakCell.Single ∷ PeakCell.Single ∷ PeakCell.Single ∷ PeakCell.Single ∷ PeakCell.Under 4 ∷ [] }
+    ensures odd { peak_cover (line (pos 0) true (pos 1)) (pos 0) (pos 0) (pos 0) 5
+        ≡ PeakCell.Single ∷ PeakCell.Single ∷ PeakCell.Under 3 ∷ [] }
+    ensures last_minute { peak_cover (line (pos 0) false (pos 1)) (pos 7) (pos 7) (pos 0) 8
+        ≡ PeakCell.Under 4 ∷ PeakCell.Under 2 ∷ PeakCell.Single ∷ PeakCell.Single ∷ [] }
+    ensures no_rate { peak_cover ripple (pos 4) (pos 1) (pos 4) 2 ≡ PeakCell.Single ∷ PeakCell.Single ∷ [] }
+    ensures longest_cell { peak_cover (line (pos 0) false (pos 1)) (pos 1025) (pos 1025) (pos 0) 1026
+        ≡ PeakCell.Under 1024 ∷ PeakCell.Single ∷ PeakCell.Single ∷ [] }
+    ensures two_blocks { peak_cover (line (pos 0) true (pos 1)) (pos 0) (pos 0) (pos 0) 1025
+        ≡ PeakCell.Single ∷ PeakCell.Single ∷ PeakCell.Under 2 ∷ PeakCell.Under 4 ∷ PeakCell.Under 8 ∷ PeakCell.Under 16 ∷ PeakCell.Under 32
+        ∷ PeakCell.Under 64 ∷ PeakCell.Under 128 ∷ PeakCell.Under 256 ∷ PeakCell.Under 512 ∷ PeakCell.Single ∷ [] }
+{}
+
+/// Verdicts on highest waters of two tops of the value 5, at the minutes 2 and 6, over the minutes
+/// from 0 to 8.
+#[tactic(auto, unfolding(crate::specs::Covers::all_minutes, crate::specs::Covers::stays_below, crate::specs::Covers::stays_within, crate::specs::Covers::is_under, crate::specs::Verdicts::cell_verdict, crate::specs::Verdicts::cells_verdict, crate::specs::Verdicts::peak_verdict))]
+pub fn worked_verdicts()
+    ensures by_halves { peak_verdict (hills (pos 2) (pos 5) (pos 6) (pos 5) (pos 1)) (pos 0) 8 (record { at = pos 2; value = pos 5;
+        cells = PeakCell.Single ∷ PeakCell.Single ∷ PeakCell.Single ∷ PeakCell.Single ∷ PeakCell.Under 4 ∷ [] }) ≡ PeakVerdict.Accepted }
+    ensures each_minute { peak_verdict (hills (pos 2) (pos 5) (pos 6) (pos 5) (pos 1)) (pos 0) 8 (record { at = pos 2; value = pos 5;
+        cells = PeakCell.Single ∷ PeakCell.Single ∷ PeakCell.Single ∷ PeakCell.Single ∷ PeakCell.Single ∷ PeakCell.Single ∷ PeakCell.Single ∷ PeakCell.Single ∷ [] })
+        ≡ PeakVerdict.Accepted }
+    ensures short { peak_verdict (hills (pos 2) (pos 5) (pos 6) (pos 5) (pos 1)) (pos 0) 8 (record { at = pos 9; value = pos 5;
+        cells = PeakCell.Single ∷ PeakCell.Under 4 ∷ [] }) ≡ PeakVerdict.WrongLength (pos 5) (pos 8) }
+    ensures long { peak_verdict (hills (pos 2) (pos 5) (pos 6) (pos 5) (pos 1)) (pos 0) 8 (record { at = pos 2; value = pos 5;
+        cells = PeakCell.Under 4294967295 ∷ PeakCell.Under 4294967295 ∷ [] }) ≡ PeakVerdict.WrongLength (pos 8589934590) (pos 8) }
+    ensures at_end { peak_verdict (hills (pos 2) (pos 5) (pos 6) (pos 5) (pos 1)) (pos 0) 8 (record { at = pos 8; value = pos 3;
+        cells = PeakCell.Under 8 ∷ [] }) ≡ PeakVerdict.Outside }
+    ensures before_begin { peak_verdict (hills (pos 2) (pos 5) (pos 6) (pos 5) (pos 1)) (pos 0) 8 (record { at = negsuc 0; value = pos 2;
+        cells = PeakCell.Under 8 ∷ [] }) ≡ PeakVerdict.Outside }
+    ensures holding { peak_verdict (hills (pos 2) (pos 5) (pos 6) (pos 5) (pos 1)) (pos 0) 8 (record { at = pos 2; value = pos 99;
+        cells = PeakCell.Under 2 ∷ PeakCell.Under 6 ∷ [] }) ≡ PeakVerdict.NotUnder 2 }
+    ensures exactly_before { peak_verdict (hills (pos 2) (pos 5) (pos 6) (pos 5) (pos 1)) (pos 0) 3 (record { at = pos 2; value = pos 5;
+        cells = PeakCell.Under 2 ∷ PeakCell.Single ∷ [] }) ≡ PeakVerdict.NotUnder 1 }
+    ensures too_short { peak_verdict (hills (pos 2) (pos 5) (pos 6) (pos 5) (pos 1)) (pos 2) 2 (record { at = pos 2; value = pos 5;
+        cells = PeakCell.Single ∷ PeakCell.Under 1 ∷ [] }) ≡ PeakVerdict.NotUnder 2 }
+    ensures too_long { peak_verdict (line (pos 0) true (pos 1)) (pos 0) 1026 (record { at = pos 0; value = pos 0;
+        cells = PeakCell.Single ∷ PeakCell.Under 1025 ∷ [] }) ≡ PeakVerdict.NotUnder 2 }
+    ensures other_value { peak_verdict (hills (pos 2) (pos 5) (pos 6) (pos 5) (pos 1)) (pos 0) 4 (record { at = pos 2; value = pos 6;
+        cells = PeakCell.Single ∷ PeakCell.Single ∷ PeakCell.Single ∷ PeakCell.Single ∷ [] }) ≡ PeakVerdict.WrongValue (pos 6) (pos 5) }
+    ensures second_top { peak_verdict (hills (pos 2) (pos 5) (pos 6) (pos 5) (pos 1)) (pos 2) 5 (record { at = pos 6; value = pos 5;
+        cells = PeakCell.Single ∷ PeakCell.Single ∷ PeakCell.Single ∷ PeakCell.Single ∷ PeakCell.Single ∷ [] }) ≡ PeakVerdict.Above 1 }
+    ensures above { peak_verdict (hills (pos 2) (pos 5) (pos 6) (pos 5) (pos 1)) (pos 0) 3 (record { at = pos 1; value = pos 4;
+        cells = PeakCell.Single ∷ PeakCell.Single ∷ PeakCell.Single ∷ [] }) ≡ PeakVerdict.Above 3 }
+    ensures above_before_value { peak_verdict (hills (pos 2) (pos 5) (pos 6) (pos 5) (pos 1)) (pos 0) 3 (record { at = pos 2; value = pos 4;
+        cells = PeakCell.Single ∷ PeakCell.Single ∷ PeakCell.Single ∷ [] }) ≡ PeakVerdict.Above 2 }
+{}
