@@ -29,12 +29,9 @@ mod under;
 mod verdict;
 mod waiting;
 mod walk;
-<<<<<<< HEAD
+mod worked;
 mod worked_texts;
 mod writing;
-=======
-mod worked;
->>>>>>> 72aefa0852f2d1fcfe4f801d1ec93e4f234dd34a
 
 pub use certificate::PeakCertificate;
 pub use checking::check_peak;
@@ -55,12 +52,9 @@ pub use text_laws::{
     peak_certificates_have_one_text, peak_readings_go_by_the_grammar, peak_texts_are_short,
 };
 pub use verdict::PeakVerdict;
-<<<<<<< HEAD
+pub use worked::{worked_cells_under, worked_covers, worked_minutes, worked_verdicts};
 pub use worked_texts::{worked_peak_readings, worked_peak_texts};
 pub use writing::write_peak;
-=======
-pub use worked::{worked_cells_under, worked_covers, worked_minutes, worked_verdicts};
->>>>>>> 72aefa0852f2d1fcfe4f801d1ec93e4f234dd34a
 
 #[cfg(test)]
 mod hills;
