@@ -1,6 +1,6 @@
 -- A draft after many lines: reading the lines of a certificate leaves the certificate.
 use Rattle.std.proofs.Common.{◌≡◌, ℕ, Bool, true, false, List, [], ◌∷◌, ◌++◌, codes, map, Option, Some, None, ℤ, refl, sym, ap, ◌∙◌, subst, append-nil, append_assoc}
-use Rattle.std.specs.Prelude.{is_some, unwrap_or, All, IfSome, option_and_then}
+use Rattle.std.specs.Prelude.{is_some, unwrap_or, All, IfSome}
 use Rattle.std.specs.List.{AllByRecursion}
 use Rattle.std.specs.Str.{bytes_eq}
 use Rattle.std.proofs.lemmas.List.Elements.{recursion_from_All}

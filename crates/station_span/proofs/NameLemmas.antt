@@ -140,7 +140,7 @@ of_station book table name basis (Some place) is rows found ok =
     named_at Station (λ (s : Station). s.name) name book.stations place (stations_named _ book.stations is.stations) found
 of_station book table name basis None is rows found ok = of_row book table name basis (row_at table name) rows refl ok
 
-of_basis : (book : Book) (table : List Offsets) (name : List ℕ) (basis : Basis) → IsBook book → IsTable table → basis_of book table name ≡ Ok basis → IsStationName name
+pub of_basis : (book : Book) (table : List Offsets) (name : List ℕ) (basis : Basis) → IsBook book → IsTable table → basis_of book table name ≡ Ok basis → IsStationName name
 unfolding basis_of
 of_basis book table name basis is rows ok = of_station book table name basis (station_at book name) is rows refl ok
 

@@ -2,6 +2,7 @@
 
 ghost use Rattle.std.specs.Prelude.{◌≡◌, ℕ, ◌<◌, ◌≤◌, pos, ◌+ℤ◌, ◌-ℤ◌, ◌≤ℤ◌, [], length, unsigned_abs, int_lt, IsTrue, Some, IfOk, IfErr, OnOk, slice_get};
 ghost use Rattle.std.specs.Option.{ForSome};
+ghost use Rattle.cert_text.specs.Certificates.{IsStationName};
 ghost use Rattle.decimal_text.specs.Expected.{Gives};
 ghost use Rattle.event_list.specs.Shifts.{HasOffsets};
 ghost use Rattle.station_curve.specs.Curves.{curve_of, Predicts};
@@ -49,6 +50,7 @@ pub fn find_station(
 ) -> Result<Found, Refusal>
     requires near { IsNear asked.now }
     ensures exact { FindsIn reach book.now asked.now (site_in reach book.now table.now name.now asked.now) result }
+    ensures named { OnOk result (IsStationName name.now) }
     ensures told { IfErr result (IsToldRefusal table.now) }
 {
     let basis = find_basis(book, table, name)?;
@@ -59,8 +61,10 @@ pub fn find_station(
 pub fn find_basis(book: &SoundBook<'_>, table: &OffsetTable, name: &Text) -> Result<Basis, Refusal>
     ensures exact { result ≡ basis_from (basis_of book.now table.now name.now) }
     ensures sound { IfOk result (IsBasis (length book.now.stations)) }
+    ensures named { OnOk result (IsStationName name.now) }
     ensures told { IfErr result (IsToldRefusal table.now) }
 {
+    table.known();
     match find(book.get(), table, name) {
         Ok(basis) => Ok(basis),
         Err(fault) => Err(Refusal::from(fault)),
