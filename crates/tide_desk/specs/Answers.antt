@@ -1,5 +1,5 @@
 -- The answer to the words over files and a clock, with the sheets of a report (this project).
-use Rattle.std.specs.Prelude.{ℕ, ℤ, pos, Bool, true, false, IsTrue, if◌then◌else◌, List, codes, Option, Some, None, Result, Ok, Err, IsOk, IsSome}
+use Rattle.std.specs.Prelude.{ℕ, ℤ, pos, Bool, true, false, IsTrue, if◌then◌else◌, List, [], codes, Option, Some, None, Result, Ok, Err, IsOk, IsSome, slice_get, unwrap_or}
 use Rattle.std.specs.Option.{option_map_or, IsSomeAnd}
 use Rattle.std.specs.Result.{IsOkAnd}
 use Rattle.std.specs.Str.{bytes_eq}
@@ -11,16 +11,22 @@ use Rattle.question.specs.declared.question.Question.{Question}
 use Rattle.question.specs.Questions.{question_of}
 use Rattle.question.specs.Words.{pairs_of}
 use Rattle.tide_fault.specs.declared.fault.Fault.{Fault}
-use Rattle.tide_fault.specs.declared.fault.Fault.TheVariants.{Ask, Refused}
+use Rattle.tide_fault.specs.declared.fault.Fault.TheVariants.{Ask, NoSheet, Refused}
 use Rattle.tide_fault.specs.declared.refusal.Refusal.{Refusal}
+use Rattle.harmonics_text.specs.declared.book.Book.{Book}
+use Rattle.report_sheets.specs.declared.head.Head.{Head}
+use Rattle.report_sheets.specs.Pages.{missing_of, pages_of}
+use Rattle.report_sheets.specs.Sheets.{SheetMeaning}
+use Rattle.station_table.specs.declared.offsets.Offsets.{Offsets}
+use Rattle.tide_answer.specs.declared.listed.Listed.{Listed}
 use Rattle.tide_answer.specs.declared.text.Answer.{Answer}
-use Rattle.tide_answer.specs.Answers.{built, answered, answered_alone}
+use Rattle.tide_answer.specs.Answers.{answered, answered_alone, listed, text_alone}
 use Rattle.named_files.specs.declared.no_answer.NoAnswer.{NoAnswer}
 use Rattle.named_files.specs.NoAnswers.{told, refused_over}
 use Rattle.named_files.specs.declared.materials.Materials.{Materials}
 use Rattle.named_files.specs.Readings.{Folders, files_allowed, files_in}
 use Rattle.question.specs.declared.command.Command.{Command}
-use Rattle.question.specs.declared.command.Command.TheVariants.{Clock}
+use Rattle.question.specs.declared.command.Command.TheVariants.{Clock, Report}
 use Rattle.tide_answer.specs.declared.given.Given.{Given}
 use Rattle.tide_edge.specs.FileStates.{Folder}
 use Rattle.tide_edge.specs.Whole.{Allowance, no_file}
@@ -47,16 +53,20 @@ question_in pairs = if asks_to_serve pairs then Err UnknownCommand else question
 abbrev pub wanted_by : Question → List (List ℕ)
 wanted_by question = unwrap_or question.sheets []
 
+-- the wanted word at a place
+abbrev pub word_at : List (List ℕ) → ℕ → List ℕ
+word_at wanted place = option_map_or (λ word. word) (slice_get wanted place) []
+
 -- each sheet that is wanted is one of those that are there
-abbrev pub known_from : Option (List ℕ) → Result (Unit {0}) Fault
-known_from None = Ok tt
-known_from (Some word) = Err (NoSheet word)
+abbrev pub known_in : List (List ℕ) → Option ℕ → Result (Unit {0}) Fault
+known_in wanted None = Ok tt
+known_in wanted (Some place) = Err (NoSheet (word_at wanted place))
 
 -- what the words ask of these sheets
 unfoldable pub asked_of : List SheetMeaning → List (List ℕ) → Result Question Fault
 asked_of sheets words = do
   question ← ask_from (question_in (pairs_of words))
-  known ← known_from (missing_word sheets (wanted_by question))
+  known ← known_in (wanted_by question) (missing_of sheets (wanted_by question))
   Ok question
 
 -- the words ask a question that names a file
@@ -109,8 +119,8 @@ head_of listed now = record { name = listed.name; units = listed.units; now = no
 -- a report: the pages of the wanted sheets, of the station's events
 unfoldable pub reported : List SheetMeaning → Book → List Offsets → Question → ℤ → Result Answer Refusal
 reported sheets book table question now = do
-  listed ← events_asked book table question
-  Ok (text_alone (report_of sheets (wanted_by question) (head_of listed now) listed.events))
+  events ← listed book table question
+  Ok (text_alone (pages_of sheets (wanted_by question) (head_of events now) events.events))
 
 -- what is asked of a book and a table
 abbrev pub answered_with : Bool → List SheetMeaning → Book → List Offsets → Question → Given → Result Answer Refusal
