@@ -28,7 +28,7 @@ use Rattle.listing.specs.Listings.{plain_events_of, plain_heights_of, clock_text
 use Rattle.listing.specs.Records.{csv_events_of, csv_heights_of}
 use Rattle.listing.specs.StationLists.{stations_text_of}
 use Rattle.question.specs.declared.command.Command.{Command}
-use Rattle.question.specs.declared.command.Command.TheVariants.{Predict, Certify, Check, Heights, Calendar, Clock, Stations, Sample, Trial, Serve, Report, Highest, Peak, PeakCheck, About}
+use Rattle.question.specs.declared.command.Command.TheVariants.{Predict, Certify, Check, Heights, Calendar, Clock, Stations, Sample, Trial, Highest, Peak, PeakCheck, About}
 use Rattle.question.specs.declared.question.Layout.{Layout}
 use Rattle.question.specs.declared.question.Layout.TheVariants.{Plain, Csv}
 use Rattle.question.specs.declared.question.Question.{Question}
@@ -43,11 +43,10 @@ use Rattle.station_span.specs.declared.asked.Asked.{Asked}
 use Rattle.tide_answer.specs.declared.given.Given.{Given}
 use Rattle.station_span.specs.declared.reach.Reach.TheVariants.{Events, Levels}
 use Rattle.tide_fault.specs.declared.refusal.Refusal.{Refusal}
-use Rattle.tide_fault.specs.declared.refusal.Refusal.TheVariants.{NoMemory, NotACertificate, NoStation, TooManyRows}
+use Rattle.tide_fault.specs.declared.refusal.Refusal.TheVariants.{NoMemory, NotACertificate, NotBuilt, NoStation, TooManyRows}
 use Rattle.station_cells.specs.declared.rejection.Rejection.{Rejection}
-use Rattle.tide_answer.specs.declared.listed.Listed.{Listed}
 use Rattle.tide_answer.specs.declared.text.Answer.{Answer}
-use Rattle.tide_answer.specs.Asking.{asked_by, asked_from, asked_in, asked_of_peak}
+use Rattle.tide_answer.specs.Asking.{asked_by, asked_from, asked_in, asked_of_peak, is_built}
 use Rattle.tide_fault.specs.Faults.{refusal_of_cert}
 use Rattle.station_span.specs.Following.{followed_by, events_of, tracks_of, cells_of}
 use Rattle.station_cells.specs.Rejections.{rejection_of, rejection_line}
@@ -55,6 +54,10 @@ use Rattle.station_span.specs.Levels.{is_rising_at, level_at, level_in}
 use Rattle.station_span.specs.Peaks.{highest_of, highest_site, highest_verdict}
 use Rattle.station_span.specs.Sites.{Site, site_in, station_in}
 use Rattle.tide_answer.specs.Trials.{trial_of}
+
+-- directly after the words: what isn't built as yet
+unfoldable pub built : Question → Result (Unit {0}) Refusal
+built question = if is_built question then Ok tt else Err NotBuilt
 
 -- a text for which no cells are counted
 abbrev pub text_alone : List ℕ → Answer
@@ -230,19 +233,11 @@ asks_name question next = do
   name ← named_by question.station
   next name
 
--- the events that a question asks, for whoever lays them out
-unfoldable pub listed : Book → List Offsets → Question → Result Listed Refusal
-listed book table question = do
-  name ← named_by question.station
-  asked ← named_by (asked_by question)
-  site ← site_in Events book table name asked
-  Ok (record { name = name; units = site.station.units; events = events_of book site asked })
-
--- what a command that reads no file gives for a seed; the others are asked of a station
+-- what a command that reads no file gives for a seed
 abbrev pub text_from : Command → Option ℕ → Result Answer Refusal
 text_from Sample (Some seed) = Ok (text_alone (sample_of seed))
 text_from Trial (Some seed) = trial_of seed >>= λ text. Ok (text_alone text)
-text_from _ _ = Err NoStation
+text_from _ _ = Err NotBuilt
 
 -- the answer to a question that names no file, or the first refusal
 unfoldable pub answered_alone : Question → Result Answer Refusal
@@ -267,9 +262,10 @@ text_by Highest book table question given =
 text_by Peak book table question given = asks_span question (λ name asked. peak_certified book table name asked)
 text_by PeakCheck book table question given = peak_checked book table given.certificate
 text_by About book table question given = asks_name question (λ name. known book table name)
-text_by Report book table question given = Err NoStation
-text_by Serve book table question given = Err NoStation
+text_by _ book table question given = Err NotBuilt
 
 -- the answer to a question over a book and a table that were read, or the first refusal
 unfoldable pub answered : Book → List Offsets → Question → Given → Result Answer Refusal
-answered book table question given = text_by question.command book table question given
+answered book table question given = do
+  is ← built question
+  text_by question.command book table question given

@@ -1,8 +1,10 @@
 -- What a question asks of a station: a span, and perhaps a mark (this project).
-use Rattle.std.specs.Prelude.{ℤ, pos, ◌+ℤ◌, Option, None, option_and_then}
+use Rattle.std.specs.Prelude.{ℤ, pos, ◌+ℤ◌, Bool, true, false, Option, None, option_and_then}
 use Rattle.std.specs.Option.{option_map}
 use Rattle.cert_text.specs.declared.certificate.Certificate.{Certificate}
 use Rattle.highest_water.specs.declared.certificate.PeakCertificate.{PeakCertificate}
+use Rattle.question.specs.declared.command.Command.{Command}
+use Rattle.question.specs.declared.command.Command.TheVariants.{Report, Serve}
 use Rattle.question.specs.declared.question.Question.{Question}
 use Rattle.station_span.specs.declared.asked.Asked.{Asked}
 
@@ -22,3 +24,14 @@ asked_in cert = record { begin = cert.begin; end = cert.end; mark = cert.mark }
 -- what a certificate of a highest water speaks of
 abbrev pub asked_of_peak : PeakCertificate → Asked
 asked_of_peak cert = record { begin = cert.begin; end = cert.end; mark = None }
+
+-- ---- What is built as yet
+
+-- every question but one of a report, and the server's
+abbrev pub is_built_command : Command → Bool
+is_built_command Report = false
+is_built_command Serve = false
+is_built_command _ = true
+
+abbrev pub is_built : Question → Bool
+is_built question = is_built_command question.command

@@ -6,6 +6,7 @@
 //! found, without memory. The top call brings these their files and words, and carries the text away.
 #![tactic(auto)]
 
+mod about;
 mod alone;
 mod answering;
 mod asking;
@@ -18,8 +19,10 @@ mod clock;
 mod form;
 mod given;
 mod heights;
+mod highest;
 mod judging;
 mod laws;
+mod peak_check;
 mod predict;
 mod ready;
 mod sample;
