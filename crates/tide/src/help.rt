@@ -19,7 +19,6 @@ Usage: tide COMMAND file=F [KEY=VALUE..]
   calendar  the events day by day
   clock     the level now, and the events of the day to come
   stations  the stations of a file
-  report    sheets of one list: a tally, the range, the first lines, a calendar
   highest   the highest water of a span
   peak      a certificate of it
   peakcheck whether such a certificate holds, whoever wrote it
@@ -36,7 +35,6 @@ Usage: tide COMMAND file=F [KEY=VALUE..]
   mark         a level whose passing is listed, in the station's unit
   zone         UTC, an offset as -05:00, or @F for a time zone's file
   layout       plain or csv
-  sheets       those of a report, as tally,range,first,ical
   step         minutes between heights, 60 if not given
   certificate  the file to check
   seed         a whole number
