@@ -1,13 +1,12 @@
 //! The highest water of a station over a span.
 
-ghost use Rattle.std.specs.Prelude.{◌≡◌, ◌<◌, ◌^◌, ◌+ℤ◌, length, unsigned_abs, IfErr, IfOk};
+ghost use Rattle.std.specs.Prelude.{◌≡◌, ◌<◌, ◌≤◌, ◌^◌, ◌+ℤ◌, length, unsigned_abs, IfErr, IfOk};
 ghost use Rattle.highest_water.specs.declared.verdict.PeakVerdict.{PeakVerdict};
 ghost use Rattle.tide_fault.specs.Faults.{IsToldRefusal};
 ghost use Rattle.station_span.specs.Peaks.{highest_site};
 ghost use Rattle.station_span.specs.Workings.Levels.{HasLevel};
 ghost use Rattle.station_span.specs.Workings.Peaks.{FindsHighest, HasHighest, IsSourceIn, tide_levels, tide_peak, tide_verdict};
 ghost use Rattle.station_span.specs.Workings.Spans.{IsNear};
-ghost use Rattle.zone_time.specs.Zones.{InZoneYears};
 
 use crate::asked::Asked;
 use crate::levels::{check_level, source};
@@ -51,7 +50,8 @@ pub fn find_highest(alloc: Global, found: &Found, asked: &Asked) -> Result<Peak,
 {
     let begin = source(found, asked.begin);
     let end = source(found, asked.end);
-    find_peak(alloc, &mut level_curve(found), begin, end)
+    let peak = find_peak(alloc, &mut level_curve(found), begin, end)?;
+    Ok(peak)
 }
 
 /// What a check finds on a highest water that is written of the span. Its value is below 10^37 in
@@ -75,9 +75,16 @@ pub fn moved_minute(found: &Found, asked: &Asked, at: i64) -> i64
     requires inside { IsSourceIn found.now asked.now at }
     ensures exact { result ≡ at +ℤ found.now.basis.high.add }
     ensures level { HasLevel found.now result }
-    ensures shown { InZoneYears result }
 {
-    at + i64::from(found.basis.high.add)
+    later(at, found.basis.high.add)
+}
+
+fn later(minute: i64, add: i32) -> i64
+    requires minute { unsigned_abs minute ≤ 30000000000 }
+    requires add { unsigned_abs add ≤ 1440 }
+    ensures { result ≡ minute +ℤ add }
+{
+    minute + i64::from(add)
 }
 
 // The level of the reference, of which the highest water is the greatest value.

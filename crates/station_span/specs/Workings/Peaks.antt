@@ -1,5 +1,5 @@
 -- The highest water of a site, by the tide that predicts it.
-use Rattle.std.specs.Prelude.{◌≡◌, ℤ, pos, ◌-ℤ◌, ◌+ℤ◌, ◌≤ℤ◌, ◌<ℤ◌, true, Result, Ok, Err}
+use Rattle.std.specs.Prelude.{◌≡◌, ℕ, ℤ, pos, ◌-ℤ◌, ◌+ℤ◌, ◌≤ℤ◌, ◌<ℤ◌, unsigned_abs, true, Result, Ok, Err}
 use Rattle.curve_law.specs.Meaning.{Meaning}
 use Rattle.decimal_text.specs.Expected.{Excused}
 use Rattle.harmonics_text.specs.declared.book.Book.{Book}
@@ -14,7 +14,7 @@ use Rattle.tide_fault.specs.declared.refusal.Refusal.{Refusal}
 use Rattle.tide_fault.specs.Faults.{wants_memory_of_refusal}
 use Rattle.station_span.specs.declared.asked.Asked.{Asked}
 use Rattle.station_span.specs.declared.station.Found.{Found}
-use Rattle.station_span.specs.Peaks.{highest_of, highest_verdict, minute_count}
+use Rattle.station_span.specs.Peaks.{highest_of, highest_verdict}
 use Rattle.station_span.specs.Sites.{Site, span_limit}
 use Rattle.station_span.specs.Workings.Levels.{HasLevelsIn, source_of}
 
@@ -22,11 +22,15 @@ use Rattle.station_span.specs.Workings.Levels.{HasLevelsIn, source_of}
 abbrev pub tide_levels : Found → Meaning
 tide_levels found = mark_meaning Second found.curve (pos 1000000) (pos 0) (pos 0) true
 
+-- how many minutes of the reference are moved into the span
+abbrev pub source_count : Found → Asked → ℕ
+source_count found asked = unsigned_abs (source_of found asked.end -ℤ source_of found asked.begin)
+
 unfoldable pub tide_peak : Found → Asked → Peak
-tide_peak found asked = peak_of (tide_levels found) (source_of found asked.begin) (minute_count asked)
+tide_peak found asked = peak_of (tide_levels found) (source_of found asked.begin) (source_count found asked)
 
 unfoldable pub tide_verdict : Found → Asked → Peak → PeakVerdict
-tide_verdict found asked peak = peak_verdict (tide_levels found) (source_of found asked.begin) (minute_count asked) peak
+tide_verdict found asked peak = peak_verdict (tide_levels found) (source_of found asked.begin) (source_count found asked) peak
 
 -- a span of which each minute has a level, and at least one there is
 pub record HasHighest (found : Found) (asked : Asked) : Type 0 where
