@@ -1,14 +1,12 @@
 -- A draft and the lines that it was read from: a certificate begins with them.
-use Rattle.std.proofs.Common.{◌≡◌, ◌≢◌, ℕ, zero, suc, ◌<◌, ◌≤◌, Bool, true, false, cond, List, [], ◌∷◌, ◌++◌, codes, map, get_or, drop, Some, None, pos, ◌⊎◌, inl, refl, sym, ap, ◌∙◌, subst, append-nil, append_assoc, lit<, lit≤, arith}
+use Rattle.std.proofs.Common.{◌≡◌, ℕ, Bool, true, false, cond, List, [], ◌∷◌, ◌++◌, codes, map, drop, Some, None, ◌⊎◌, inl, refl, sym, ap, ◌∙◌, subst, append-nil, append_assoc}
 use Rattle.std.specs.Prelude.{is_some, All, IfSome}
 use Rattle.std.specs.List.{AllByRecursion}
 use Rattle.std.specs.Option.{option_map}
 use Rattle.std.specs.Str.{bytes_eq}
-use Rattle.std.proofs.lemmas.Int.{ints}
 use Rattle.std.proofs.lemmas.List.{map_push}
 use Rattle.std.proofs.lemmas.List.Elements.{All-nil, All-from_recursion, recursion_from_All}
 use Rattle.std.proofs.lemmas.Option.{cond_some, same_Some}
-use Rattle.std.proofs.lemmas.Str.{IsUtf8-from_ascii}
 use Rattle.curve_law.specs.declared.cell.Cell.{Cell}
 use Rattle.zone_time.specs.Moments.{IsMoment}
 use Rattle.cert_text.specs.declared.certificate.Certificate.{Certificate}
@@ -23,7 +21,7 @@ use Rattle.cert_text.specs.Lines.{title_of, station_line_of, begin_line_of, end_
 use Rattle.cert_text.specs.Workings.LineReading.{version_of, station_of, moment_after, mark_of, cell_of}
 use Rattle.cert_text.specs.Workings.Drafts.{start, next, next_at, with_version, with_station, with_begin, with_end, with_mark, after_heading, after_last, after_slack, after_turn, with_turn, with_slack, with_crossing, if_there, certificate_in}
 use Rattle.cert_text.proofs.OptionLemmas.{option_map_some}
-use Rattle.cert_text.proofs.LineLemmas.{same_bytes, version_is, station_is, moment_is, mark_is, cell_is}
+use Rattle.cert_text.proofs.LineLemmas.{same_bytes, x_is_name, moment_zero, version_is, station_is, moment_is, mark_is, cell_is}
 
 -- ---- what a draft knows
 
@@ -53,9 +51,6 @@ pub record Knows (p : Part) (d : Draft) : Type 0 where
   pub slack : All (IsCellOf tracks.Slack) d.slack
   pub crossings : All (IsCellOf tracks.Mark) d.crossings
   pub here : KnowsAt p d
-
-moment_zero : IsMoment (pos 0)
-moment_zero = record { first = omega (arith, ints); last = omega (arith, ints) }
 
 pub knows_start : Knows Title start
 knows_start = record {
@@ -302,18 +297,6 @@ unfolding next
 step p d e line h k = step_at p d e line h (subst (λ q. next_at q d line ≡ Some e) h.part k)
 
 -- ---- a certificate begins so
-
-x_is_ascii : (i : ℕ) → get_or (codes "x") i 0 < 128
-x_is_ascii zero = lit< tt
-x_is_ascii (suc i) = lit< tt
-
-x_is_name : IsStationName (codes "x")
-x_is_name = record {
-  text = IsUtf8-from_ascii (codes "x") x_is_ascii;
-  some = lit≤ tt;
-  short = lit≤ tt;
-  printed = All-from_recursion (λ (b : ℕ). (32 ≤ b) × (b ≢ 127)) (codes "x") ((lit≤ tt, λ e. absurd (omega (arith, e))), tt);
-}
 
 there_all : (track : TrackName) (there : Bool) (cs : List Cell) → All (IsCellOf track) cs → IfSome (if_there there cs) (All (IsCellOf track))
 there_all track true cs h = h

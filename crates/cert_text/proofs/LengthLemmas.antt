@@ -1,9 +1,8 @@
 -- How long the text of a certificate is.
-use Rattle.std.proofs.Common.{◌≡◌, ℕ, suc, ◌+◌, ◌*◌, ◌<◌, ◌≤◌, List, [], ◌∷◌, ◌++◌, codes, map, length, get_or, Option, Some, None, ℤ, pos, negsuc, ◌⊎◌, inl, inr, refl, sym, ap, ◌∙◌, append_assoc, length-append, lit<, arith}
+use Rattle.std.proofs.Common.{◌≡◌, ℕ, ◌+◌, ◌*◌, ◌<◌, ◌≤◌, List, [], ◌∷◌, ◌++◌, codes, map, length, get_or, Option, Some, None, ℤ, pos, ◌⊎◌, inl, inr, refl, sym, ap, ◌∙◌, append_assoc, length-append, lit<, arith}
 use Rattle.std.specs.Prelude.{unsigned_abs, unwrap_or, decimal, All, IfSome}
 use Rattle.std.specs.Fmt.{signed_decimal}
 use Rattle.std.specs.List.{AllByRecursion}
-use Rattle.std.proofs.lemmas.Fmt.{length-decimal-le}
 use Rattle.std.proofs.lemmas.List.Concat.{flat_map-append}
 use Rattle.std.proofs.lemmas.List.Elements.{recursion_from_All}
 use Rattle.curve_law.specs.declared.cell.Cell.{Cell}
@@ -17,7 +16,7 @@ use Rattle.cert_text.specs.declared.track_name.TrackName.TheVariants.{Turn, Slac
 use Rattle.cert_text.specs.Tracks.{track_word, kind_word}
 use Rattle.cert_text.specs.Certificates.{IsMark, IsCell, IsCellOf, IsCertificate, HasUsualLevel, HasUsualLevels, cell_count}
 use Rattle.cert_text.specs.Lines.{title_of, station_line_of, begin_line_of, end_line_of, mark_line_of, heading_of, front_of, cell_line_of, last_line, head_lines_of, track_lines_of, lines_if_there, ended, joined, certificate_text}
-use Rattle.cert_text.proofs.NumberLemmas.{length-signed}
+use Rattle.cert_text.proofs.NumberLemmas.{length-number, length-signed}
 use Rattle.cert_text.proofs.TextLemmas.{length-moment_text}
 
 -- ---- parts
@@ -36,7 +35,7 @@ joined-parts c =
 
 -- ---- lengths of lines
 
-length-ended : (line : List ℕ) → length (ended line) ≡ length line + 1
+pub length-ended : (line : List ℕ) → length (ended line) ≡ length line + 1
 length-ended line = length-append line (10 ∷ [])
 
 title_short : (v : ℕ) → (v ≡ 1) ⊎ (v ≡ 2) → length (title_of v) ≡ 18
@@ -44,15 +43,15 @@ unfolding title_of
 title_short v (inl one) = rw one refl
 title_short v (inr two) = rw two refl
 
-station_short : (name : List ℕ) → length name ≤ 400 → length (station_line_of name) ≤ 408
+pub station_short : (name : List ℕ) → length name ≤ 400 → length (station_line_of name) ≤ 408
 unfolding station_line_of
 station_short name h = omega (arith, length-append (codes "station ") name, h)
 
-begin_short : (m : ℤ) → length (begin_line_of m) ≡ 23
+pub begin_short : (m : ℤ) → length (begin_line_of m) ≡ 23
 unfolding begin_line_of
 begin_short m = omega (arith, length-append (codes "begin ") (moment_text m), length-moment_text m)
 
-end_short : (m : ℤ) → length (end_line_of m) ≡ 21
+pub end_short : (m : ℤ) → length (end_line_of m) ≡ 21
 unfolding end_line_of
 end_short m = omega (arith, length-append (codes "end ") (moment_text m), length-moment_text m)
 
@@ -84,7 +83,7 @@ cell_short (cells.Turn kind level) h = omega (arith, length-ended (front_of kind
 
 -- ---- and of texts
 
-joined-cons : (line : List ℕ) (lines : List (List ℕ)) → length (joined (line ∷ lines)) ≡ length line + 1 + length (joined lines)
+pub joined-cons : (line : List ℕ) (lines : List (List ℕ)) → length (joined (line ∷ lines)) ≡ length line + 1 + length (joined lines)
 joined-cons line lines = omega (arith, length-append (ended line) (joined lines), length-ended line)
 
 -- a cell whose line has at most so many bytes
@@ -120,7 +119,7 @@ head_short c h =
       mark_short c.mark h.mark,
     )
 
-last_short : length (ended last_line) ≡ 5
+pub last_short : length (ended last_line) ≡ 5
 unfolding last_line
 last_short = refl
 
@@ -162,8 +161,7 @@ text_short c h =
 -- ---- of usual ones
 
 length-level : (z : ℤ) → unsigned_abs z ≤ 11000000000 → length (signed_decimal z) ≤ 12
-length-level (pos n) h = omega (arith, length-decimal-le 11 n (lit< tt) (omega arith) (omega arith))
-length-level (negsuc n) h = omega (arith, length-decimal-le 11 (suc n) (lit< tt) (omega arith) (omega arith))
+length-level z h = length-number 11 z (lit< tt) (omega arith) (omega (arith, h))
 
 pub usual_cell_short : (c : Cell) → IsCell c → HasUsualLevel c → length (ended (cell_line_of c)) ≤ 21
 unfolding cell_line_of

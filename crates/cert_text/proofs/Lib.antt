@@ -1,10 +1,12 @@
-mod OptionLemmas
-mod NumberLemmas
-mod LineLemmas
-mod TextLemmas
-mod LengthLemmas
+pub mod OptionLemmas
+pub mod NumberLemmas
+pub mod LineLemmas
+pub mod TextLemmas
+pub mod LengthLemmas
 mod DraftLemmas
 mod RunLemmas
-mod CutLemmas
+pub mod CutLemmas
+pub mod FreeLemmas
+pub mod ByLineLemmas
 mod GrammarLemmas
 mod ReadingLemmas

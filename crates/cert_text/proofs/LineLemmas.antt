@@ -1,16 +1,18 @@
 -- What is read of a line is what the line says, and no other line says it.
-use Rattle.std.proofs.Common.{◌≡◌, ◌≢◌, ℕ, ◌<◌, ◌≤◌, Bool, true, false, cond, List, [], ◌∷◌, ◌++◌, codes, length, get_or, take, drop, Option, Some, None, ℤ, pos, negsuc, ◌⊎◌, inl, inr, refl, sym, ap, ◌∙◌, subst, take-append-drop, arith}
+use Rattle.std.proofs.Common.{◌≡◌, ◌≢◌, ℕ, zero, suc, ◌<◌, ◌≤◌, Bool, true, false, cond, List, [], ◌∷◌, ◌++◌, codes, length, get_or, take, drop, Option, Some, None, ℤ, pos, negsuc, ◌⊎◌, inl, inr, refl, sym, ap, ◌∙◌, subst, take-append-drop, lit<, lit≤, arith}
 use Rattle.std.specs.Prelude.{unsigned_abs, decimal, ◌&&◌, IfSome, option_and_then}
 use Rattle.std.specs.Fmt.{signed_decimal}
 use Rattle.std.specs.List.{list_all}
 use Rattle.std.specs.Option.{option_or}
 use Rattle.std.specs.Str.{IsUtf8, is_utf8, bytes_eq}
 use Rattle.std.proofs.lemmas.Bool.{ltb-true, leb-true, lt-ltb, le-leb, and_parts, and_from, eqb-false, ne_eqb, not-true, not_from_false}
+use Rattle.std.proofs.lemmas.Int.{ints}
 use Rattle.std.proofs.lemmas.List.{take_at, drop_at}
+use Rattle.std.proofs.lemmas.List.Elements.{All-from_recursion}
 use Rattle.std.proofs.lemmas.List.Sums.{AllPass-from_list_all, list_all-from_AllPass}
 use Rattle.std.proofs.lemmas.Option.{cond_some, same_Some, option_and_then_some}
 use Rattle.std.proofs.lemmas.Slice.Eq.{bytes_eq-Decides}
-use Rattle.std.proofs.lemmas.Str.{IsUtf8-from_is_utf8, is_utf8-from_IsUtf8}
+use Rattle.std.proofs.lemmas.Str.{IsUtf8-from_ascii, IsUtf8-from_is_utf8, is_utf8-from_IsUtf8}
 use Rattle.curve_law.specs.declared.cell.Cell.{Cell}
 use Rattle.curve_law.specs.declared.cell.Cell.TheVariants as cells
 use Rattle.curve_law.specs.declared.kind.Kind.{Kind}
@@ -23,6 +25,7 @@ use Rattle.cert_text.specs.declared.track_name.TrackName.TheVariants.{Turn, Slac
 use Rattle.cert_text.specs.Tracks.{track_of, track_word, kind_word}
 use Rattle.cert_text.specs.Certificates.{IsStationName, IsMark, IsLevel, IsCellOf}
 use Rattle.cert_text.specs.Lines.{title_of, station_line_of, mark_line_of, heading_of, front_of, cell_line_of, last_line}
+use Rattle.cert_text.specs.declared.numbers.TheConstants.{LEVEL_DIGITS}
 use Rattle.cert_text.specs.Workings.LineReading.{after, size_of, number_of, version_of, is_name_byte, named, station_of, moment_after, mark_within, mark_of, quiet_for, quiet_of, turn_of, first_kind, second_kind, cell_of}
 use Rattle.cert_text.proofs.OptionLemmas.{option_map_some, option_or_some}
 use Rattle.cert_text.proofs.NumberLemmas.{size_is, size_of-decimal, number_is, number_of-signed, first_digit}
@@ -35,14 +38,14 @@ same_bytes xs ys e = (bytes_eq-Decides xs ys).0 e
 bytes_eq-same : (xs : List ℕ) → bytes_eq xs xs ≡ true
 bytes_eq-same xs = (bytes_eq-Decides xs xs).1 refl
 
-after_is : (word line rest : List ℕ) → after word line ≡ Some rest → word ++ rest ≡ line
+pub after_is : (word line rest : List ℕ) → after word line ≡ Some rest → word ++ rest ≡ line
 unfolding after
 after_is word line rest e =
     let got = cond_some (bytes_eq (take (length word) line) word) (drop (length word) line) rest e in
     let front : take (length word) line ≡ word = same_bytes _ _ got.0 in
     ap (λ w. w ++ rest) (sym front) ∙ ap (λ r. take (length word) line ++ r) (sym got.1) ∙ take-append-drop (length word) line
 
-after-append : (word rest : List ℕ) → after word (word ++ rest) ≡ Some rest
+pub after-append : (word rest : List ℕ) → after word (word ++ rest) ≡ Some rest
 unfolding after
 after-append word rest =
     rw (take_at word rest (length word) refl, bytes_eq-same word, drop_at word rest (length word) refl) refl
@@ -54,6 +57,14 @@ one_of_two {A} {P} line first second x y z e is_first is_second =
       | true ↦ λ b k. is_first (same_bytes line first b) (same_Some x z k)
       | false ↦ λ b k. let got = cond_some (bytes_eq line second) y z k in is_second (same_bytes line second got.0) got.1
     ] refl e
+
+-- ---- numbers of a level's digits
+
+level_is : (text : List ℕ) (z : ℤ) → number_of LEVEL_DIGITS text ≡ Some z → IsLevel z × (signed_decimal z ≡ text)
+level_is text z e = let got = number_is LEVEL_DIGITS text z (lit≤ tt) e in (omega (arith, got.0), got.1)
+
+level_read : (z : ℤ) → IsLevel z → number_of LEVEL_DIGITS (signed_decimal z) ≡ Some z
+level_read z h = number_of-signed LEVEL_DIGITS z (lit< tt) (lit≤ tt) (omega (arith, h))
 
 -- ---- the title
 
@@ -119,7 +130,23 @@ station_of-line name h =
     let printed : list_all is_name_byte name ≡ true = list_all-from_AllPass is_name_byte name (λ k d lt. name_byte-from _ (h.printed k d lt)) in
     rw (after-append (codes "station ") name) (named_yes name h.some h.short printed h.text)
 
+-- some name
+x_is_ascii : (i : ℕ) → get_or (codes "x") i 0 < 128
+x_is_ascii zero = lit< tt
+x_is_ascii (suc i) = lit< tt
+
+pub x_is_name : IsStationName (codes "x")
+x_is_name = record {
+  text = IsUtf8-from_ascii (codes "x") x_is_ascii;
+  some = lit≤ tt;
+  short = lit≤ tt;
+  printed = All-from_recursion (λ (b : ℕ). (32 ≤ b) × (b ≢ 127)) (codes "x") ((lit≤ tt, λ e. absurd (omega (arith, e))), tt);
+}
+
 -- ---- moments
+
+pub moment_zero : IsMoment (pos 0)
+moment_zero = record { first = omega (arith, ints); last = omega (arith, ints) }
 
 pub moment_is : (word line : List ℕ) (m : ℤ) → moment_after word line ≡ Some m → IsMoment m × (word ++ moment_text m ≡ line)
 unfolding moment_after
@@ -139,20 +166,20 @@ mark_within_is z mark e =
     let got = cond_some _ (Some z) mark e in
     (leb-true _ _ got.0, got.1)
 
-mark_read : (line : List ℕ) (mark : Option ℤ) → option_and_then mark_within (option_and_then number_of (after (codes "mark ") line)) ≡ Some mark → IfSome mark IsMark × (mark_line_of mark ≡ line)
+mark_read : (line : List ℕ) (mark : Option ℤ) → option_and_then mark_within (option_and_then (number_of LEVEL_DIGITS) (after (codes "mark ") line)) ≡ Some mark → IfSome mark IsMark × (mark_line_of mark ≡ line)
 unfolding mark_line_of
 mark_read line mark e =
-    option_and_then_some mark_within (option_and_then number_of (after (codes "mark ") line)) mark e (λ z found is.
-    option_and_then_some number_of (after (codes "mark ") line) z found (λ text front number.
+    option_and_then_some mark_within (option_and_then (number_of LEVEL_DIGITS) (after (codes "mark ") line)) mark e (λ z found is.
+    option_and_then_some (number_of LEVEL_DIGITS) (after (codes "mark ") line) z found (λ text front number.
     let within = mark_within_is z mark is in
-    let written = number_is text z number in
+    let written = level_is text z number in
     let line_is : codes "mark " ++ signed_decimal z ≡ line = rw written.1 (after_is (codes "mark ") line text front) in
     subst (λ mark. IfSome mark IsMark × (mark_line_of mark ≡ line)) within.1 (within.0, line_is)))
 
 pub mark_is : (line : List ℕ) (mark : Option ℤ) → mark_of line ≡ Some mark → IfSome mark IsMark × (mark_line_of mark ≡ line)
 unfolding mark_of mark_line_of
 mark_is line mark e =
-    elim (bytes_eq line (codes "mark none")) as (λ v. bytes_eq line (codes "mark none") ≡ v → cond v (Some None) (option_and_then mark_within (option_and_then number_of (after (codes "mark ") line))) ≡ Some mark → IfSome mark IsMark × (mark_line_of mark ≡ line)) [
+    elim (bytes_eq line (codes "mark none")) as (λ v. bytes_eq line (codes "mark none") ≡ v → cond v (Some None) (option_and_then mark_within (option_and_then (number_of LEVEL_DIGITS) (after (codes "mark ") line))) ≡ Some mark → IfSome mark IsMark × (mark_line_of mark ≡ line)) [
       | true ↦ λ b k. subst (λ mark. IfSome mark IsMark × (mark_line_of mark ≡ line)) (same_Some None mark k) (tt, sym (same_bytes _ _ b))
       | false ↦ λ b k. mark_read line mark k
     ] refl e
@@ -162,7 +189,7 @@ no_word [] h = refl
 no_word (b ∷ rest) h = rw (ne_eqb b 110 (λ e. omega (arith, h, e))) refl
 
 signed_front : (z : ℤ) → unsigned_abs z ≤ 99999999999999 → get_or (signed_decimal z) 0 0 < 58
-signed_front (pos n) h = omega (arith, first_digit n h)
+signed_front (pos n) h = omega (arith, first_digit n (omega (arith, h)))
 signed_front (negsuc n) h = omega arith
 
 pub mark_of-line : (mark : Option ℤ) → IfSome mark IsMark → mark_of (mark_line_of mark) ≡ Some mark
@@ -170,7 +197,7 @@ unfolding mark_of mark_line_of
 mark_of-line None h = refl
 mark_of-line (Some z) h =
     let small : unsigned_abs z ≤ 99999999999999 = omega (arith, h) in
-    rw (no_word (signed_decimal z) (signed_front z small), after-append (codes "mark ") (signed_decimal z), number_of-signed z small, le-leb (unsigned_abs z) 10000000000 h) refl
+    rw (no_word (signed_decimal z) (signed_front z small), after-append (codes "mark ") (signed_decimal z), level_read z small, le-leb (unsigned_abs z) 10000000000 h) refl
 
 -- ---- cells
 
@@ -184,18 +211,18 @@ quiet_for_is track n cell e =
 quiet_is : (track : TrackName) (line : List ℕ) (cell : Cell) → quiet_of line ≡ Some cell → IsCellOf track cell × (cell_line_of cell ≡ line)
 unfolding quiet_of
 quiet_is track line cell e =
-    option_and_then_some quiet_for (option_and_then size_of (after (codes "q ") line)) cell e (λ n found is.
-    option_and_then_some size_of (after (codes "q ") line) n found (λ text front size.
+    option_and_then_some quiet_for (option_and_then (size_of LEVEL_DIGITS) (after (codes "q ") line)) cell e (λ n found is.
+    option_and_then_some (size_of LEVEL_DIGITS) (after (codes "q ") line) n found (λ text front size.
     let quiet = quiet_for_is track n cell is in
-    let written = size_is text n size in
+    let written = size_is LEVEL_DIGITS text n (lit≤ tt) size in
     (quiet.0, quiet.1 ∙ rw written.1 (after_is (codes "q ") line text front))))
 
 turn_is : (track : TrackName) (kind : Kind) (line : List ℕ) (cell : Cell) → track_of kind ≡ track → turn_of kind line ≡ Some cell → IsCellOf track cell × (cell_line_of cell ≡ line)
 unfolding turn_of cell_line_of
 turn_is track kind line cell of_track e =
-    option_map_some (λ level. cells.Turn kind level) (option_and_then number_of (after (front_of kind) line)) cell e (λ z found is.
-    option_and_then_some number_of (after (front_of kind) line) z found (λ text front number.
-    let written = number_is text z number in
+    option_map_some (λ level. cells.Turn kind level) (option_and_then (number_of LEVEL_DIGITS) (after (front_of kind) line)) cell e (λ z found is.
+    option_and_then_some (number_of LEVEL_DIGITS) (after (front_of kind) line) z found (λ text front number.
+    let written = level_is text z number in
     let line_is : front_of kind ++ signed_decimal z ≡ line = rw written.1 (after_is (front_of kind) line text front) in
     subst (λ cell. IsCellOf track cell × (cell_line_of cell ≡ line)) is ((of_track, written.0), line_is)))
 
@@ -222,7 +249,7 @@ cell_is track line cell e =
 
 turn_read : (kind : Kind) (level : ℤ) → IsLevel level → turn_of kind (front_of kind ++ signed_decimal level) ≡ Some (cells.Turn kind level)
 unfolding turn_of
-turn_read kind level h = rw (after-append (front_of kind) (signed_decimal level), number_of-signed level h) refl
+turn_read kind level h = rw (after-append (front_of kind) (signed_decimal level), level_read level h) refl
 
 -- no event is quiet or still, and the second kind of a track isn't its first
 not_before : (kind : Kind) (text : List ℕ) → (bytes_eq (front_of kind ++ text) (codes "s") ≡ false) × (quiet_of (front_of kind ++ text) ≡ None)
@@ -269,7 +296,7 @@ event_read MarkFalling level h = second_read Mark level h
 quiet_read : (n : ℕ) → 2 ≤ n → n ≤ 1024 → quiet_of (codes "q " ++ decimal n) ≡ Some (cells.Quiet n)
 unfolding quiet_of
 quiet_read n low high =
-    rw (after-append (codes "q ") (decimal n), size_of-decimal n (omega arith), le-leb 2 n low, le-leb n 1024 high) refl
+    rw (after-append (codes "q ") (decimal n), size_of-decimal LEVEL_DIGITS n (lit< tt) (lit≤ tt) (omega arith), le-leb 2 n low, le-leb n 1024 high) refl
 
 pub cell_of-line : (track : TrackName) (cell : Cell) → IsCellOf track cell → cell_of track (cell_line_of cell) ≡ Some cell
 unfolding cell_of cell_line_of

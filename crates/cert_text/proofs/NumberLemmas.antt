@@ -1,16 +1,18 @@
 -- Whole numbers as text, both ways.
-use Rattle.std.proofs.Common.{◌≡◌, ℕ, zero, suc, ◌<◌, ◌≤◌, ◌^◌, true, false, ltb, leb, eqb, List, [], ◌∷◌, codes, length, get_or, Option, Some, None, ℤ, pos, negsuc, inl, inr, refl, sym, ap, ◌∙◌, subst, lit<, arith, rules}
+use Rattle.std.proofs.Common.{◌≡◌, ℕ, zero, suc, ◌+◌, ◌*◌, ◌/◌, ◌%◌, ◌<◌, ◌≤◌, ◌^◌, true, false, ltb, leb, eqb, List, [], ◌∷◌, ◌++◌, codes, length, get_or, Option, Some, None, ℤ, pos, negsuc, inl, inr, refl, sym, ap, ◌∙◌, subst, append-nil, append_assoc, lit<, arith, rules}
 use Rattle.std.specs.Prelude.{unsigned_abs, decimal, ◌&&◌}
 use Rattle.std.specs.Fmt.{signed_decimal}
 use Rattle.std.specs.List.{list_all}
-use Rattle.std.specs.Char.{is_ascii_digit}
-use Rattle.std.specs.Str.Parse.{digits_value}
+use Rattle.std.specs.Char.{digit_value, is_ascii_digit}
+use Rattle.std.specs.Str.Parse.{AllDigits, digits_value, digits_value_after}
+use Rattle.std.proofs.Math.Nat.{pow-le-pow_right}
 use Rattle.std.proofs.lemmas.Bool.{ltb-true, ltb-false, leb-true, eqb-true, le-leb, eq-eqb, ne_eqb, and_parts, and_from, cases_Bool}
 use Rattle.std.proofs.lemmas.Bool.Decides.{nat_tests}
-use Rattle.std.proofs.lemmas.Fmt.{length-decimal-le, decimal_digit, decimal_nonempty, first_decimal, digits_decimal, digits_value-decimal, decimal-digits_value}
+use Rattle.std.proofs.lemmas.Fmt.{length-decimal-le_wide, decimal_is_IsNumeral_wide, decimal_digit, decimal_step_wide, decimal_by_steps_wide}
 use Rattle.std.proofs.lemmas.List.Sums.{AllPass-from_list_all}
 use Rattle.std.proofs.lemmas.Option.{cond_some, same_Some, option_and_then_some}
-use Rattle.std.proofs.lemmas.Str.Parse.{IsNumeralModel, numerals_by_value, digits_value_short}
+use Rattle.std.proofs.lemmas.Str.{digit_value_digit}
+use Rattle.std.proofs.lemmas.Str.Parse.{IsNumeralModel, numerals_by_value, digits_value_short, digit_from_value}
 use Rattle.decimal_text.specs.Digits.{digits_of}
 use Rattle.cert_text.specs.Workings.LineReading.{after, size_of, negative, number_from, number_of}
 use Rattle.cert_text.proofs.OptionLemmas.{cond_none, option_map_some}
@@ -18,21 +20,94 @@ use Rattle.cert_text.proofs.OptionLemmas.{cond_none, option_map_some}
 digit_is : (b : ℕ) → is_ascii_digit b ≡ true → (48 ≤ b) × (b ≤ 57)
 digit_is b h = grind (arith, nat_tests)
 
+-- the bound of the library's lemmas on long numbers
+pub within : (most n : ℕ) → most ≤ 38 → n < 10 ^ most → n < 10 ^ 38
+within most n few h = omega (arith, pow-le-pow_right {n = 10} (lit< tt) few)
+
 -- ---- how long a number is
 
-pub length-signed : (z : ℤ) → unsigned_abs z ≤ 99999999999999 → length (signed_decimal z) ≤ 15
-length-signed (pos n) h = omega (arith, length-decimal-le 14 n (lit< tt) (omega arith) (omega arith))
-length-signed (negsuc n) h = omega (arith, length-decimal-le 14 (suc n) (lit< tt) (omega arith) (omega arith))
+pub length-number : (most : ℕ) (z : ℤ) → 0 < most → most ≤ 38 → unsigned_abs z < 10 ^ most → length (signed_decimal z) ≤ most + 1
+length-number most (pos n) some few h = omega (arith, length-decimal-le_wide most n some h (omega (arith, within most n few h)))
+length-number most (negsuc n) some few h = omega (arith, length-decimal-le_wide most (suc n) some h (omega (arith, within most (suc n) few h)))
 
--- ---- a number read is the one that is written so
+pub length-signed : (z : ℤ) → unsigned_abs z ≤ 99999999999999 → length (signed_decimal z) ≤ 15
+length-signed z h = length-number 14 z (lit< tt) (omega arith) (omega (arith, h))
+
+-- ---- the digits of a number
 
 own : IsNumeralModel (λ ds. list_all is_ascii_digit ds ≡ true) (digits_value 10)
 own = numerals_by_value _ (search rules)
 
+pub digits_of_decimal : (n : ℕ) → n < 10 ^ 38 → list_all is_ascii_digit (decimal n) ≡ true
+digits_of_decimal n h = own.from (decimal n) (decimal_is_IsNumeral_wide n (omega (arith, h))).0.1
+
+decimal_some : (n : ℕ) → n < 10 ^ 38 → 0 < length (decimal n)
+decimal_some n h = (decimal_is_IsNumeral_wide n (omega (arith, h))).0.0
+
+value-decimal : (n : ℕ) → n < 10 ^ 38 → digits_value 10 (decimal n) ≡ n
+value-decimal n h = (decimal_is_IsNumeral_wide n (omega (arith, h))).1
+
+-- digits begin with no other byte
+pub first_digit : (n : ℕ) → n < 10 ^ 38 → (48 ≤ get_or (decimal n) 0 0) × (get_or (decimal n) 0 0 ≤ 57)
+first_digit n h = digit_is _ (AllPass-from_list_all is_ascii_digit (decimal n) (digits_of_decimal n h) 0 0 (decimal_some n h))
+
+-- and with no 0, unless the number is 0
+record StartsAbove (n : ℕ) (ds : List ℕ) : Type 0 where
+  some : 0 < length ds
+  above : 0 < n → 48 < get_or ds 0 0
+
+get_or-front : (ds more : List ℕ) → 0 < length ds → get_or (ds ++ more) 0 0 ≡ get_or ds 0 0
+get_or-front [] more h = absurd (omega arith)
+get_or-front (d ∷ ds) more h = refl
+
+some-front : (ds more : List ℕ) → 0 < length ds → 0 < length (ds ++ more)
+some-front [] more h = absurd (omega arith)
+some-front (d ∷ ds) more h = omega arith
+
+starts_above : (n : ℕ) → n < 10 ^ 38 → StartsAbove n (decimal n)
+starts_above n h =
+    decimal_by_steps_wide StartsAbove (λ m digit. record { some = omega arith; above = λ some. omega arith })
+    (λ m ds more before. record {
+      some = some-front ds _ before.some;
+      above = λ some. subst (λ d. 48 < d) (sym (get_or-front ds _ before.some)) (before.above (omega arith));
+    })
+    n (omega (arith, h))
+
+-- ---- a number read is the one that is written so
+
+value_grows : (n : ℕ) (ds : List ℕ) → n ≤ digits_value_after 10 n ds
+value_grows n [] = omega arith
+value_grows n (c ∷ cs) = omega (arith, value_grows (n * 10 + digit_value c) cs)
+
+-- more digits behind a number that isn't 0
+decimal-after : (n : ℕ) (ds : List ℕ) → 0 < n → AllDigits 10 ds → digits_value_after 10 n ds < 10 ^ 38 → decimal (digits_value_after 10 n ds) ≡ decimal n ++ ds
+decimal-after n [] some d small = sym (append-nil (decimal n))
+decimal-after n (c ∷ cs) some d small =
+    let m : ℕ = n * 10 + digit_value c in
+    let byte = digit_value_digit c (digit_from_value c d.0) in
+    let front : m / 10 ≡ n = omega (arith, d.0) in
+    let end : 48 + m % 10 ≡ c = omega (arith, d.0, byte, digit_from_value c d.0) in
+    let one : decimal m ≡ decimal n ++ c ∷ [] = decimal_step_wide m (omega arith) (omega (arith, value_grows m cs, small)) ∙ rw (front, end) refl in
+    decimal-after m cs (omega arith) d.1 small ∙ ap (λ x. x ++ cs) one ∙ append_assoc (decimal n) (c ∷ []) cs
+
+-- without a 0 before others, digits are what their value is written as
+decimal-value : (ds : List ℕ) → AllDigits 10 ds → 0 < length ds → (get_or ds 0 0 ≡ 48 → length ds ≡ 1) → digits_value 10 ds < 10 ^ 38 → decimal (digits_value 10 ds) ≡ ds
+decimal-value [] d some lead small = absurd (omega arith)
+decimal-value (c ∷ []) d some lead small =
+    let byte = digit_value_digit c (digit_from_value c d.0) in
+    let is : 48 + (0 * 10 + digit_value c) ≡ c = omega (arith, byte, digit_from_value c d.0) in
+    decimal_digit (0 * 10 + digit_value c) (omega (arith, d.0)) ∙ ap (λ x. x ∷ []) is
+decimal-value (c ∷ e ∷ cs) d some lead small =
+    let byte = digit_value_digit c (digit_from_value c d.0) in
+    let no : c ≡ 48 → ⊥ = λ z. omega (arith, lead z) in
+    let is : 48 + (0 * 10 + digit_value c) ≡ c = omega (arith, byte, digit_from_value c d.0) in
+    let one : decimal (0 * 10 + digit_value c) ≡ c ∷ [] = decimal_digit (0 * 10 + digit_value c) (omega (arith, d.0)) ∙ ap (λ x. x ∷ []) is in
+    decimal-after (0 * 10 + digit_value c) (e ∷ cs) (omega (arith, byte, no, digit_from_value c d.0)) d.1 small ∙ ap (λ x. x ++ e ∷ cs) one
+
 -- what a numeral is
-record IsNumeral (text : List ℕ) : Type 0 where
+record IsNumeral (most : ℕ) (text : List ℕ) : Type 0 where
   some : 0 < length text
-  few : length text ≤ 14
+  few : length text ≤ most
   digits : list_all is_ascii_digit text ≡ true
   no_zero : get_or text 0 0 ≡ 48 → length text ≡ 1
 
@@ -44,13 +119,13 @@ no_zero_if text unpadded some first = elim (cases_Bool (ltb 1 (length text))) [
   | inr one ↦ omega (arith, ltb-false _ _ one)
 ]
 
-numeral_is : (text : List ℕ) (n : ℕ) → size_of text ≡ Some n → IsNumeral text × (digits_value 10 text ≡ n)
+numeral_is : (most : ℕ) (text : List ℕ) (n : ℕ) → size_of most text ≡ Some n → IsNumeral most text × (digits_value 10 text ≡ n)
 unfolding size_of digits_of
-numeral_is text n e =
+numeral_is most text n e =
     let unpadded = cond_none (ltb 1 (length text) && eqb (get_or text 0 0) 48) _ n e in
-    let got = cond_some (leb 1 (length text) && leb (length text) 14 && list_all is_ascii_digit text) (digits_value 10 text) n unpadded.1 in
-    let all = and_parts (leb 1 (length text) && leb (length text) 14) (list_all is_ascii_digit text) got.0 in
-    let counts = and_parts (leb 1 (length text)) (leb (length text) 14) all.0 in
+    let got = cond_some (leb 1 (length text) && leb (length text) most && list_all is_ascii_digit text) (digits_value 10 text) n unpadded.1 in
+    let all = and_parts (leb 1 (length text) && leb (length text) most) (list_all is_ascii_digit text) got.0 in
+    let counts = and_parts (leb 1 (length text)) (leb (length text) most) all.0 in
     let some : 0 < length text = leb-true 1 (length text) counts.0 in (
       record {
         some = some;
@@ -61,8 +136,8 @@ numeral_is text n e =
       got.1,
     )
 
-unpadded_if : (text : List ℕ) → IsNumeral text → (ltb 1 (length text) && eqb (get_or text 0 0) 48) ≡ false
-unpadded_if text h = elim (cases_Bool (ltb 1 (length text) && eqb (get_or text 0 0) 48)) [
+unpadded_if : (most : ℕ) (text : List ℕ) → IsNumeral most text → (ltb 1 (length text) && eqb (get_or text 0 0) 48) ≡ false
+unpadded_if most text h = elim (cases_Bool (ltb 1 (length text) && eqb (get_or text 0 0) 48)) [
   | inl padded ↦
       let parts = and_parts (ltb 1 (length text)) (eqb (get_or text 0 0) 48) padded in
       let more : 1 < length text = ltb-true 1 (length text) parts.0 in
@@ -71,48 +146,39 @@ unpadded_if text h = elim (cases_Bool (ltb 1 (length text) && eqb (get_or text 0
   | inr unpadded ↦ unpadded
 ]
 
-size_of-numeral : (text : List ℕ) → IsNumeral text → size_of text ≡ Some (digits_value 10 text)
+size_of-numeral : (most : ℕ) (text : List ℕ) → IsNumeral most text → size_of most text ≡ Some (digits_value 10 text)
 unfolding size_of digits_of
-size_of-numeral text h = rw (unpadded_if text h, le-leb 1 _ h.some, le-leb _ _ h.few, h.digits) refl
+size_of-numeral most text h = rw (unpadded_if most text h, le-leb 1 _ h.some, le-leb _ _ h.few, h.digits) refl
 
-pub size_is : (text : List ℕ) (n : ℕ) → size_of text ≡ Some n → (n ≤ 99999999999999) × (decimal n ≡ text)
-size_is text n e =
-    let got = numeral_is text n e in
-    let h = got.0 in
-    let small : digits_value 10 text < 10 ^ 14 = digits_value_short own text 14 h.digits h.few in
-    let written : decimal (digits_value 10 text) ≡ text = decimal-digits_value own text h.digits h.some h.no_zero (omega arith) in
-    (omega (arith, got.1), rw (← got.1) written)
+pub size_is : (most : ℕ) (text : List ℕ) (n : ℕ) → most ≤ 38 → size_of most text ≡ Some n → (n < 10 ^ most) × (decimal n ≡ text)
+size_is most text n few e =
+    let got = numeral_is most text n e in
+    let small : digits_value 10 text < 10 ^ most = digits_value_short own text most got.0.digits got.0.few in
+    let written : decimal (digits_value 10 text) ≡ text = decimal-value text (own.to text got.0.digits) got.0.some got.0.no_zero (within most _ few small) in
+    (omega (arith, got.1, small), rw (← got.1) written)
 
-decimal_numeral : (n : ℕ) → n ≤ 99999999999999 → IsNumeral (decimal n)
-decimal_numeral zero h =
+decimal_numeral : (most n : ℕ) → 0 < most → most ≤ 38 → n < 10 ^ most → IsNumeral most (decimal n)
+decimal_numeral most zero some few h =
     let one : decimal 0 ≡ 48 ∷ [] = decimal_digit 0 (lit< tt) in
     record {
-      some = decimal_nonempty 0 (lit< tt);
-      few = length-decimal-le 14 0 (lit< tt) (lit< tt) (lit< tt);
-      digits = digits_decimal own 0 (lit< tt);
+      some = decimal_some 0 (within most 0 few h);
+      few = length-decimal-le_wide most 0 some h (lit< tt);
+      digits = digits_of_decimal 0 (within most 0 few h);
       no_zero = λ _. ap length one;
     }
-decimal_numeral (suc n) h =
-    let below : suc n < 2 ^ 64 = omega arith in
-    let first : 48 < get_or (decimal (suc n)) 0 0 = first_decimal (suc n) (omega arith) below in
+decimal_numeral most (suc n) some few h =
+    let wide = within most (suc n) few h in
+    let first : 48 < get_or (decimal (suc n)) 0 0 = (starts_above (suc n) wide).above (omega arith) in
     record {
-      some = decimal_nonempty (suc n) below;
-      few = length-decimal-le 14 (suc n) (lit< tt) (omega arith) below;
-      digits = digits_decimal own (suc n) below;
+      some = decimal_some (suc n) wide;
+      few = length-decimal-le_wide most (suc n) some h (omega (arith, wide));
+      digits = digits_of_decimal (suc n) wide;
       no_zero = λ e. absurd (omega (arith, first, e));
     }
 
-pub size_of-decimal : (n : ℕ) → n ≤ 99999999999999 → size_of (decimal n) ≡ Some n
-size_of-decimal n h = size_of-numeral (decimal n) (decimal_numeral n h) ∙ ap Some (digits_value-decimal own n (omega arith))
-
--- digits begin with no other byte
-pub first_digit : (n : ℕ) → n ≤ 99999999999999 → (48 ≤ get_or (decimal n) 0 0) × (get_or (decimal n) 0 0 ≤ 57)
-first_digit n h =
-    let below : n < 2 ^ 64 = omega arith in
-    digit_is _ (AllPass-from_list_all is_ascii_digit (decimal n) (digits_decimal own n below) 0 0 (decimal_nonempty n below))
-
-pub digits_of_decimal : (n : ℕ) → n ≤ 99999999999999 → list_all is_ascii_digit (decimal n) ≡ true
-digits_of_decimal n h = digits_decimal own n (omega arith)
+pub size_of-decimal : (most n : ℕ) → 0 < most → most ≤ 38 → n < 10 ^ most → size_of most (decimal n) ≡ Some n
+size_of-decimal most n some few h =
+    size_of-numeral most (decimal n) (decimal_numeral most n some few h) ∙ ap Some (value-decimal n (within most n few h))
 
 -- ---- with a sign
 
@@ -133,15 +199,15 @@ minus_front : (digits : List ℕ) → after (codes "-") (45 ∷ digits) ≡ Some
 unfolding after
 minus_front digits = refl
 
-pub number_of-signed : (z : ℤ) → unsigned_abs z ≤ 99999999999999 → number_of (signed_decimal z) ≡ Some z
+pub number_of-signed : (most : ℕ) (z : ℤ) → 0 < most → most ≤ 38 → unsigned_abs z < 10 ^ most → number_of most (signed_decimal z) ≡ Some z
 unfolding number_of
-number_of-signed (pos n) h =
-    let first = first_digit n h in
+number_of-signed most (pos n) some few h =
+    let first = first_digit n (within most n few h) in
     let none : get_or (decimal n) 0 0 ≡ 45 → ⊥ = λ e. absurd (omega (arith, first, e)) in
-    rw (no_minus (decimal n) none, size_of-decimal n h) refl
-number_of-signed (negsuc n) h =
+    rw (no_minus (decimal n) none, size_of-decimal most n some few h) refl
+number_of-signed most (negsuc n) some few h =
     let found : after (codes "-") (45 ∷ decimal (suc n)) ≡ Some (decimal (suc n)) = minus_front (decimal (suc n)) in
-    rw (found, size_of-decimal (suc n) h) refl
+    rw (found, size_of-decimal most (suc n) some few h) refl
 
 negative_is : (n : ℕ) (z : ℤ) → negative n ≡ Some z → (unsigned_abs z ≡ n) × (signed_decimal z ≡ 45 ∷ decimal n)
 negative_is zero z e = absurd cc
@@ -149,17 +215,17 @@ negative_is (suc n) z e =
     let is : negsuc n ≡ z = same_Some _ _ e in
     subst (λ z. (unsigned_abs z ≡ suc n) × (signed_decimal z ≡ 45 ∷ decimal (suc n))) is (refl, refl)
 
-number_from_is : (text : List ℕ) (z : ℤ) (front : Option (List ℕ)) → after (codes "-") text ≡ front → number_from front text ≡ Some z → (unsigned_abs z ≤ 99999999999999) × (signed_decimal z ≡ text)
-number_from_is text z None front e =
-    option_map_some pos (size_of text) z e (λ n size is.
-    let got = size_is text n size in
-    subst (λ z. (unsigned_abs z ≤ 99999999999999) × (signed_decimal z ≡ text)) is got)
-number_from_is text z (Some digits) front e =
-    option_and_then_some negative (size_of digits) z e (λ n size is.
-    let got = size_is digits n size in
+number_from_is : (most : ℕ) (text : List ℕ) (z : ℤ) (front : Option (List ℕ)) → most ≤ 38 → after (codes "-") text ≡ front → number_from most front text ≡ Some z → (unsigned_abs z < 10 ^ most) × (signed_decimal z ≡ text)
+number_from_is most text z None few front e =
+    option_map_some pos (size_of most text) z e (λ n size is.
+    let got = size_is most text n few size in
+    subst (λ z. (unsigned_abs z < 10 ^ most) × (signed_decimal z ≡ text)) is got)
+number_from_is most text z (Some digits) few front e =
+    option_and_then_some negative (size_of most digits) z e (λ n size is.
+    let got = size_is most digits n few size in
     let sign = negative_is n z is in
     (omega (arith, sign.0, got.0), sign.1 ∙ ap (λ ds. 45 ∷ ds) got.1 ∙ sym (minus_then text digits front)))
 
-pub number_is : (text : List ℕ) (z : ℤ) → number_of text ≡ Some z → (unsigned_abs z ≤ 99999999999999) × (signed_decimal z ≡ text)
+pub number_is : (most : ℕ) (text : List ℕ) (z : ℤ) → most ≤ 38 → number_of most text ≡ Some z → (unsigned_abs z < 10 ^ most) × (signed_decimal z ≡ text)
 unfolding number_of
-number_is text z e = number_from_is text z (after (codes "-") text) refl e
+number_is most text z few e = number_from_is most text z (after (codes "-") text) few refl e

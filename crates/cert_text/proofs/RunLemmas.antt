@@ -1,6 +1,6 @@
 -- A draft after many lines: reading the lines of a certificate leaves the certificate.
 use Rattle.std.proofs.Common.{◌≡◌, ℕ, Bool, true, false, List, [], ◌∷◌, ◌++◌, codes, map, Option, Some, None, ℤ, refl, sym, ap, ◌∙◌, subst, append-nil, append_assoc}
-use Rattle.std.specs.Prelude.{is_some, unwrap_or, All, IfSome, option_and_then}
+use Rattle.std.specs.Prelude.{is_some, unwrap_or, All, IfSome}
 use Rattle.std.specs.List.{AllByRecursion}
 use Rattle.std.specs.Str.{bytes_eq}
 use Rattle.std.proofs.lemmas.List.Elements.{recursion_from_All}
@@ -19,22 +19,10 @@ use Rattle.cert_text.specs.Lines.{begin_line_of, end_line_of, heading_of, cell_l
 use Rattle.cert_text.specs.Workings.LineReading.{moment_after}
 use Rattle.cert_text.specs.Workings.Drafts.{start, next, after_slack, if_there, certificate_in}
 use Rattle.cert_text.proofs.LineLemmas.{version_of-title, station_of-line, moment_after-text, mark_of-line, cell_of-line, heading_no_cell, last_no_cell}
+use Rattle.cert_text.proofs.ByLineLemmas.{run}
 use Rattle.cert_text.proofs.DraftLemmas.{Knows, knows_start, said_at, step}
 
 -- ---- many lines
-
-unfoldable pub run : Draft → List (List ℕ) → Option Draft
-run d [] = Some d
-run d (line ∷ lines) = option_and_then (λ e. run e lines) (next d line)
-
-pub run-append : (xs ys : List (List ℕ)) (d : Draft) → run d (xs ++ ys) ≡ option_and_then (λ e. run e ys) (run d xs)
-unfolding run
-run-append [] bs d = refl
-run-append (line ∷ xs) ys d =
-    elim (next d line) as (λ v. option_and_then (λ e. run e (xs ++ ys)) v ≡ option_and_then (λ e. run e ys) (option_and_then (λ e. run e xs) v)) [
-      | Some e ↦ run-append xs ys e
-      | None ↦ refl
-    ]
 
 -- what a run of lines leaves was read from them
 pub record Reached (p : Part) (d e : Draft) (lines : List (List ℕ)) : Type 0 where
@@ -42,12 +30,12 @@ pub record Reached (p : Part) (d e : Draft) (lines : List (List ℕ)) : Type 0 w
   pub knows : Knows place e
   pub says : said_at place e ≡ said_at p d ++ lines
 
-reached : (lines : List (List ℕ)) (p : Part) (d e : Draft) → Knows p d → run d lines ≡ Some e → Reached p d e lines
+reached : (lines : List (List ℕ)) (p : Part) (d e : Draft) → Knows p d → run next d lines ≡ Some e → Reached p d e lines
 unfolding run
 reached [] p d e h k =
     subst (λ e. Reached p d e []) (same_Some d e k) (record { place = p; knows = h; says = sym (append-nil (said_at p d)) })
 reached (line ∷ lines) p d e h k =
-    option_and_then_some (λ e. run e lines) (next d line) e k (λ x found rest.
+    option_and_then_some (λ e. run next e lines) (next d line) e k (λ x found rest.
     let one = step p d x line h found in
     let more = reached lines one.place x e one.knows rest in
     record {
@@ -56,7 +44,7 @@ reached (line ∷ lines) p d e h k =
       says = more.says ∙ ap (λ ls. ls ++ lines) one.says ∙ append_assoc (said_at p d) (line ∷ []) lines;
     })
 
-pub reached_from_start : (lines : List (List ℕ)) (e : Draft) → run start lines ≡ Some e → Reached Title start e lines
+pub reached_from_start : (lines : List (List ℕ)) (e : Draft) → run next start lines ≡ Some e → Reached Title start e lines
 reached_from_start lines e k = reached lines Title start e knows_start k
 
 -- ---- cells
@@ -70,23 +58,23 @@ in_slack d cs = record d { part = Slack; has_slack = true; slack = cs }
 abbrev in_crossings : Draft → List Cell → Draft
 in_crossings d cs = record d { part = Crossings; crossings = cs }
 
-turn_cells : (cs earlier : List Cell) (d : Draft) (rest : List (List ℕ)) → AllByRecursion (IsCellOf tracks.Turn) cs → run (in_turn d earlier) (map cell_line_of cs ++ rest) ≡ run (in_turn d (earlier ++ cs)) rest
+turn_cells : (cs earlier : List Cell) (d : Draft) (rest : List (List ℕ)) → AllByRecursion (IsCellOf tracks.Turn) cs → run next (in_turn d earlier) (map cell_line_of cs ++ rest) ≡ run next (in_turn d (earlier ++ cs)) rest
 unfolding run next
-turn_cells [] earlier d rest h = ap (λ xs. run (in_turn d xs) rest) (sym (append-nil earlier))
+turn_cells [] earlier d rest h = ap (λ xs. run next (in_turn d xs) rest) (sym (append-nil earlier))
 turn_cells (c ∷ cs) earlier d rest h =
-    rw (cell_of-line tracks.Turn c h.0) (turn_cells cs (earlier ++ c ∷ []) d rest h.1 ∙ ap (λ xs. run (in_turn d xs) rest) (append_assoc earlier (c ∷ []) cs))
+    rw (cell_of-line tracks.Turn c h.0) (turn_cells cs (earlier ++ c ∷ []) d rest h.1 ∙ ap (λ xs. run next (in_turn d xs) rest) (append_assoc earlier (c ∷ []) cs))
 
-slack_cells : (cs earlier : List Cell) (d : Draft) (rest : List (List ℕ)) → AllByRecursion (IsCellOf tracks.Slack) cs → run (in_slack d earlier) (map cell_line_of cs ++ rest) ≡ run (in_slack d (earlier ++ cs)) rest
+slack_cells : (cs earlier : List Cell) (d : Draft) (rest : List (List ℕ)) → AllByRecursion (IsCellOf tracks.Slack) cs → run next (in_slack d earlier) (map cell_line_of cs ++ rest) ≡ run next (in_slack d (earlier ++ cs)) rest
 unfolding run next
-slack_cells [] earlier d rest h = ap (λ xs. run (in_slack d xs) rest) (sym (append-nil earlier))
+slack_cells [] earlier d rest h = ap (λ xs. run next (in_slack d xs) rest) (sym (append-nil earlier))
 slack_cells (c ∷ cs) earlier d rest h =
-    rw (cell_of-line tracks.Slack c h.0) (slack_cells cs (earlier ++ c ∷ []) d rest h.1 ∙ ap (λ xs. run (in_slack d xs) rest) (append_assoc earlier (c ∷ []) cs))
+    rw (cell_of-line tracks.Slack c h.0) (slack_cells cs (earlier ++ c ∷ []) d rest h.1 ∙ ap (λ xs. run next (in_slack d xs) rest) (append_assoc earlier (c ∷ []) cs))
 
-crossing_cells : (cs earlier : List Cell) (d : Draft) (rest : List (List ℕ)) → AllByRecursion (IsCellOf tracks.Mark) cs → run (in_crossings d earlier) (map cell_line_of cs ++ rest) ≡ run (in_crossings d (earlier ++ cs)) rest
+crossing_cells : (cs earlier : List Cell) (d : Draft) (rest : List (List ℕ)) → AllByRecursion (IsCellOf tracks.Mark) cs → run next (in_crossings d earlier) (map cell_line_of cs ++ rest) ≡ run next (in_crossings d (earlier ++ cs)) rest
 unfolding run next
-crossing_cells [] earlier d rest h = ap (λ xs. run (in_crossings d xs) rest) (sym (append-nil earlier))
+crossing_cells [] earlier d rest h = ap (λ xs. run next (in_crossings d xs) rest) (sym (append-nil earlier))
 crossing_cells (c ∷ cs) earlier d rest h =
-    rw (cell_of-line tracks.Mark c h.0) (crossing_cells cs (earlier ++ c ∷ []) d rest h.1 ∙ ap (λ xs. run (in_crossings d xs) rest) (append_assoc earlier (c ∷ []) cs))
+    rw (cell_of-line tracks.Mark c h.0) (crossing_cells cs (earlier ++ c ∷ []) d rest h.1 ∙ ap (λ xs. run next (in_crossings d xs) rest) (append_assoc earlier (c ∷ []) cs))
 
 -- ---- the lines between the tracks, and the last one
 
@@ -101,7 +89,7 @@ done_line = refl
 abbrev ended_with : Draft → List Cell → Draft
 ended_with d crossings = record d { part = Done; crossings = crossings }
 
-last_cell : (d : Draft) → run (record d { part = Crossings }) (last_line ∷ []) ≡ Some (record d { part = Done })
+last_cell : (d : Draft) → run next (record d { part = Crossings }) (last_line ∷ []) ≡ Some (record d { part = Done })
 unfolding run next
 last_cell d = rw (last_no_cell tracks.Mark, done_line) refl
 
@@ -125,7 +113,7 @@ may_end_slack d cs = record {
 }
 
 ends : (d : Draft) (crossings : Option (List Cell)) → MayEnd d → d.crossings ≡ [] → is_some crossings ≡ is_some d.mark → IfSome crossings (AllByRecursion (IsCellOf tracks.Mark))
-    → run d (lines_if_there tracks.Mark crossings ++ last_line ∷ []) ≡ Some (ended_with d (unwrap_or crossings []))
+    → run next d (lines_if_there tracks.Mark crossings ++ last_line ∷ []) ≡ Some (ended_with d (unwrap_or crossings []))
 unfolding run
 ends d None may none marked h =
     rw (may.last, ← marked, done_line) (ap (λ cs. Some (ended_with d cs)) none)
@@ -160,7 +148,7 @@ turn_heading = refl
 -- the tracks from the first heading on
 tracks_run : (d : Draft) (turn : List Cell) (slack crossings : Option (List Cell)) → d.has_slack ≡ false → d.slack ≡ [] → d.crossings ≡ [] → is_some crossings ≡ is_some d.mark → AllByRecursion (IsCellOf tracks.Turn) turn
     → IfSome slack (AllByRecursion (IsCellOf tracks.Slack)) → IfSome crossings (AllByRecursion (IsCellOf tracks.Mark))
-    → run (in_turn d []) (map cell_line_of turn ++ (lines_if_there tracks.Slack slack ++ (lines_if_there tracks.Mark crossings ++ last_line ∷ [])))
+    → run next (in_turn d []) (map cell_line_of turn ++ (lines_if_there tracks.Slack slack ++ (lines_if_there tracks.Mark crossings ++ last_line ∷ [])))
     ≡ Some (record d { part = Done; turn = turn; has_slack = is_some slack; slack = unwrap_or slack []; crossings = unwrap_or crossings [] })
 unfolding run next
 tracks_run d turn None crossings no_slack no_cells none marked turns slacks marks =
@@ -202,7 +190,7 @@ all_if_there : (track : TrackName) (o : Option (List Cell)) → IfSome o (All (I
 all_if_there track None h = tt
 all_if_there track (Some cs) h = recursion_from_All (IsCellOf track) cs h
 
-pub run-lines_of : (c : Certificate) → IsCertificate c → run start (lines_of c) ≡ Some (final c)
+pub run-lines_of : (c : Certificate) → IsCertificate c → run next start (lines_of c) ≡ Some (final c)
 unfolding run next
 run-lines_of c h =
     let body = tracks_run (begun c.version c.station c.begin c.end c.mark) c.tracks.turn c.tracks.slack c.tracks.mark refl refl refl h.marked

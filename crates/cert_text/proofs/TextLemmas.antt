@@ -8,7 +8,7 @@ use Rattle.std.proofs.lemmas.List.Splits.{slice_split_first, slice_split_none}
 use Rattle.std.proofs.lemmas.List.Sums.{fails_before_first}
 use Rattle.zone_time.specs.Dates.{two_digits, date_text, clock_text}
 use Rattle.zone_time.specs.Moments.{moment_text}
-use Rattle.cert_text.specs.Workings.Drafts.{is_lf, pieces}
+use Rattle.cert_text.specs.ByLine.{is_lf, pieces}
 
 pub length-moment_text : (m : ℤ) → length (moment_text m) ≡ 17
 unfolding moment_text date_text clock_text two_digits

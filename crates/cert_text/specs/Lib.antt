@@ -1,7 +1,9 @@
 pub mod Tracks
 pub mod Certificates
+pub mod Texts
 pub mod Lines
 pub mod Spelling
+pub mod ByLine
 pub mod Readings
 pub mod Workings
 pub mod Worked

@@ -1,6 +1,5 @@
 -- The text of a certificate: lines of words and whole numbers, each ended by LF (this project).
 use Rattle.std.specs.Prelude.{ℕ, ◌==◌, if◌then◌else◌, ℤ, List, [], ◌∷◌, ◌++◌, map, Option, Some, None, codes, decimal}
-use Rattle.std.specs.List.{flat_map}
 use Rattle.std.specs.Fmt.{signed_decimal}
 use Rattle.curve_law.specs.declared.cell.Cell.{Cell}
 use Rattle.curve_law.specs.declared.cell.Cell.TheVariants as cells
@@ -10,6 +9,7 @@ use Rattle.cert_text.specs.declared.certificate.Certificate.{Certificate}
 use Rattle.cert_text.specs.declared.track_name.TrackName.{TrackName}
 use Rattle.cert_text.specs.declared.track_name.TrackName.TheVariants.{Turn, Slack, Mark}
 use Rattle.cert_text.specs.Tracks.{track_word, kind_word}
+pub use Rattle.cert_text.specs.Texts.{ended, joined}
 
 -- ---- the lines
 
@@ -56,6 +56,10 @@ abbrev pub lines_if_there : TrackName → Option (List Cell) → List (List ℕ)
 lines_if_there track None = []
 lines_if_there track (Some cells) = track_lines_of track cells
 
+-- those of the station and the span
+abbrev pub station_lines_of : List ℕ → ℤ → ℤ → List (List ℕ)
+station_lines_of name begin end = station_line_of name ∷ begin_line_of begin ∷ end_line_of end ∷ []
+
 -- the first five
 abbrev pub head_lines_of : Certificate → List (List ℕ)
 head_lines_of c =
@@ -70,13 +74,6 @@ abbrev pub lines_of : Certificate → List (List ℕ)
 lines_of c = head_lines_of c ++ body_lines_of c.tracks.turn c.tracks.slack c.tracks.mark
 
 -- ---- the text
-
--- a line with its LF
-abbrev pub ended : List ℕ → List ℕ
-ended line = line ++ 10 ∷ []
-
-abbrev pub joined : List (List ℕ) → List ℕ
-joined lines = flat_map ended lines
 
 unfoldable pub certificate_text : Certificate → List ℕ
 certificate_text c = joined (lines_of c)

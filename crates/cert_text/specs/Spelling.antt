@@ -1,5 +1,5 @@
 -- The grammar of certificates: which lines spell which certificate, and where bytes stop being one (this project).
-use Rattle.std.specs.Prelude.{◌≡◌, ℕ, ◌<◌, ◌≤◌, ℤ, ◌⊎◌, List, [], ◌∷◌, ◌++◌, length, Option, Some, None, Result, Ok, Err, codes, decimal}
+use Rattle.std.specs.Prelude.{◌≡◌, ℕ, ◌≤◌, ℤ, ◌⊎◌, List, [], ◌∷◌, ◌++◌, Option, Some, None, Result, codes, decimal}
 use Rattle.std.specs.List.{AllZip}
 use Rattle.std.specs.Fmt.{signed_decimal}
 use Rattle.curve_law.specs.declared.cell.Cell.{Cell}
@@ -9,12 +9,11 @@ use Rattle.curve_law.specs.declared.tracks.Tracks.{Tracks}
 use Rattle.zone_time.specs.Moments.{IsMoment, moment_text}
 use Rattle.cert_text.specs.declared.certificate.Certificate.{Certificate}
 use Rattle.cert_text.specs.declared.fault.CertFault.{CertFault}
-use Rattle.cert_text.specs.declared.fault.CertFault.TheVariants.{NoMemory, NotACertificate}
 use Rattle.cert_text.specs.declared.track_name.TrackName.{TrackName}
 use Rattle.cert_text.specs.declared.track_name.TrackName.TheVariants.{Turn, Slack, Mark}
 use Rattle.cert_text.specs.Tracks.{track_of, track_word, kind_word}
 use Rattle.cert_text.specs.Certificates.{IsStationName, IsMark, IsLevel}
-use Rattle.cert_text.specs.Lines.{joined}
+use Rattle.cert_text.specs.Texts.{IsTextBy, IsFaultBy, ReadsBy}
 
 -- ---- the lines of a certificate
 
@@ -78,35 +77,13 @@ Spells c (version ∷ station ∷ []) = ⊥
 Spells c (version ∷ []) = ⊥
 Spells c [] = ⊥
 
--- the bytes are the lines of the certificate, each with its LF, and nothing more
+-- ---- the text of a certificate, and where bytes are none's
+
 abbrev pub IsTextOf : Certificate → List ℕ → Type 0
-IsTextOf c bytes = (lines : List (List ℕ)) × Spells c lines × (bytes ≡ joined lines)
+IsTextOf c bytes = IsTextBy Spells c bytes
 
--- ---- where bytes are no certificate
+abbrev pub IsFaultLine : List ℕ → ℕ → Type 0
+IsFaultLine bytes line = IsFaultBy Spells bytes line
 
--- the bytes begin with that many lines, each with its LF, with which some certificate begins
-pub record BeginsFor (bytes : List ℕ) (count : ℕ) : Type 0 where
-  pub certificate : Certificate
-  pub lines : List (List ℕ)
-  pub more : List (List ℕ)
-  pub spelled : Spells certificate (lines ++ more)
-  pub counted : length lines ≡ count
-  pub rest : List ℕ
-  pub front : bytes ≡ joined lines ++ rest
-
--- the first line with which, after those before it, no certificate begins; a last piece without LF is no line of one, and
--- where the bytes end too early it is the line that is missing
-pub record IsFaultLine (bytes : List ℕ) (line : ℕ) : Type 0 where
-  pub none : ¬ (BeginsFor bytes line)
-  pub least : (count : ℕ) → count < line → BeginsFor bytes count
-
--- ---- what reading says
-
-abbrev pub Refuses : List ℕ → CertFault → Type 0
-Refuses bytes NoMemory = Unit {0}
-Refuses bytes (NotACertificate line) = ((c : Certificate) → ¬ (IsTextOf c bytes)) × IsFaultLine bytes line
-
--- a certificate is the one whose text the bytes are; a fault says that they are none, and where; want of memory says nothing
 abbrev pub Reads : List ℕ → Result Certificate CertFault → Type 0
-Reads bytes (Ok c) = IsTextOf c bytes
-Reads bytes (Err fault) = Refuses bytes fault
+Reads bytes result = ReadsBy Spells bytes result

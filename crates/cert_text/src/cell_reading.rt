@@ -4,15 +4,15 @@ ghost use Rattle.std.specs.Prelude.{◌≡◌, ◌<◌, ◌^◌};
 ghost use Rattle.cert_text.specs.Workings.LineReading.{quiet_for, quiet_of, turn_of, cell_of};
 
 use crate::lines::after;
-use crate::numbers::{number_of, size_of};
+use crate::numbers::{LEVEL_DIGITS, number_of, size_of};
 use crate::track_name::TrackName;
 use crate::words::{first_kind, front_of, second_kind};
 use curve_law::{Cell, Kind, MOST_MINUTES};
 
-fn quiet_for(minutes: u64) -> Option<Cell>
+fn quiet_for(minutes: u128) -> Option<Cell>
     ensures { result ≡ quiet_for minutes }
 {
-    if 2 <= minutes && minutes <= u64::from(MOST_MINUTES) {
+    if 2 <= minutes && minutes <= u128::from(MOST_MINUTES) {
         Some(Cell::Quiet(minutes as u32))
     } else {
         None
@@ -23,7 +23,7 @@ fn quiet_for(minutes: u64) -> Option<Cell>
 fn quiet_of(line: &[u8]) -> Option<Cell>
     ensures { result ≡ quiet_of line.now }
 {
-    let minutes = size_of(after(b"q ".as_slice(), line)?)?;
+    let minutes = size_of(after(b"q ".as_slice(), line)?, LEVEL_DIGITS)?;
     quiet_for(minutes)
 }
 
@@ -31,8 +31,8 @@ fn quiet_of(line: &[u8]) -> Option<Cell>
 fn turn_of(kind: Kind, line: &[u8]) -> Option<Cell>
     ensures { result ≡ turn_of kind line.now }
 {
-    let level = number_of(after(front_of(kind).as_bytes(), line)?)?;
-    Some(Cell::Turn(kind, level))
+    let level = number_of(after(front_of(kind).as_bytes(), line)?, LEVEL_DIGITS)?;
+    Some(Cell::Turn(kind, level as i64))
 }
 
 /// The cell of a line in a track.

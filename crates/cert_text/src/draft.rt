@@ -3,14 +3,15 @@
 ghost use Rattle.std.specs.Prelude.{◌≡◌};
 ghost use Rattle.cert_text.specs.Workings.Drafts.{if_there};
 
-use crate::cell_list::CellList;
+use crate::by_line::LineDraft;
 use crate::cell_reading::cell_of;
 use crate::certificate::Certificate;
-use crate::fault::{CertFault, LineFault};
+use crate::fault::LineFault;
+use crate::item_list::ItemList;
 use crate::line_reading::{mark_of, moment_after, station_of, version_of};
 use crate::part::Part;
 use crate::track_name::TrackName;
-use curve_law::{Cells, Tracks};
+use curve_law::{Cell, Cells, Tracks};
 use decimal_text::Text;
 use std::alloc::Global;
 
@@ -23,14 +24,15 @@ pub struct Draft {
     begin: i64,
     end: i64,
     mark: Option<i64>,
-    turn: CellList,
+    turn: ItemList<Cell>,
     has_slack: bool,
-    slack: CellList,
-    crossings: CellList,
+    slack: ItemList<Cell>,
+    crossings: ItemList<Cell>,
 }
 
 impl Draft {
-    ghost use Rattle.cert_text.specs.Workings.Drafts.{start, next, next_at, after_heading, after_last, after_slack, after_turn, with_turn, with_slack, with_crossing, is_done, certificate_in, finished, Takes};
+    ghost use Rattle.cert_text.specs.ByLine.{Takes};
+    ghost use Rattle.cert_text.specs.Workings.Drafts.{start, next_at, after_heading, after_last, after_slack, after_turn, with_turn, with_slack, with_crossing, is_done, certificate_in};
 
     /// Before the first line. It takes no memory.
     pub fn new(alloc: Global) -> Draft
@@ -43,29 +45,10 @@ impl Draft {
             begin: 0,
             end: 0,
             mark: None,
-            turn: CellList::new(alloc),
+            turn: ItemList::new(alloc),
             has_slack: false,
-            slack: CellList::new(alloc),
-            crossings: CellList::new(alloc),
-        }
-    }
-
-    /// Takes the next line.
-    #[tactic(auto, unfolding(crate::specs::Workings::Drafts::next))]
-    pub fn take_line(&mut self, alloc: Global, line: &[u8]) -> Result<(), LineFault>
-        ensures { Takes (next self.old line.now) self.new result }
-    {
-        match self.part {
-            Part::Title => self.take_title(line),
-            Part::Station => self.take_station(alloc, line),
-            Part::Begin => self.take_begin(line),
-            Part::End => self.take_end(line),
-            Part::Mark => self.take_mark(line),
-            Part::Heading => self.take_heading(line),
-            Part::Turn => self.take_turn(line),
-            Part::Slack => self.take_slack(line),
-            Part::Crossings => self.take_crossing(line),
-            Part::Done => Err(LineFault::Bad),
+            slack: ItemList::new(alloc),
+            crossings: ItemList::new(alloc),
         }
     }
 
@@ -194,18 +177,6 @@ impl Draft {
         Ok(())
     }
 
-    /// The certificate, where the last line has come and nothing is left. `number` is the number of
-    /// the line that would come next, and `rest` the bytes after the last LF.
-    pub fn finish(self, number: u32, rest: &[u8]) -> Result<Certificate, CertFault>
-        ensures { result ≡ finished self number rest.now }
-    {
-        if self.is_done() && rest.is_empty() {
-            Ok(self.into_certificate())
-        } else {
-            Err(CertFault::NotACertificate { line: number })
-        }
-    }
-
     fn is_done(&self) -> bool
         ensures { result ≡ is_done self.now.part }
     {
@@ -216,7 +187,7 @@ impl Draft {
         ensures { result ≡ certificate_in self }
     {
         let tracks = Tracks {
-            turn: self.turn.into_cells(),
+            turn: Cells::from_vec(self.turn.into_vec()),
             slack: if_there(self.has_slack, self.slack),
             mark: if_there(self.mark.is_some(), self.crossings),
         };
@@ -231,12 +202,46 @@ impl Draft {
     }
 }
 
+impl LineDraft for Draft {
+    ghost use Rattle.cert_text.specs.Workings.Drafts.{next, whole};
+
+    type Whole = Certificate;
+
+    ghost draft_after = { next };
+
+    ghost said = { whole };
+
+    #[tactic(auto, unfolding(crate::specs::Workings::Drafts::next))]
+    fn take_line(&mut self, alloc: Global, line: &[u8]) -> Result<(), LineFault> {
+        match self.part {
+            Part::Title => self.take_title(line),
+            Part::Station => self.take_station(alloc, line),
+            Part::Begin => self.take_begin(line),
+            Part::End => self.take_end(line),
+            Part::Mark => self.take_mark(line),
+            Part::Heading => self.take_heading(line),
+            Part::Turn => self.take_turn(line),
+            Part::Slack => self.take_slack(line),
+            Part::Crossings => self.take_crossing(line),
+            Part::Done => Err(LineFault::Bad),
+        }
+    }
+
+    fn finish(self) -> Option<Certificate> {
+        if self.is_done() {
+            Some(self.into_certificate())
+        } else {
+            None
+        }
+    }
+}
+
 /// The cells of a track that may be left out.
-fn if_there(there: bool, cells: CellList) -> Option<Cells>
+fn if_there(there: bool, cells: ItemList<Cell>) -> Option<Cells>
     ensures { result ≡ if_there there cells }
 {
     if there {
-        Some(cells.into_cells())
+        Some(Cells::from_vec(cells.into_vec()))
     } else {
         None
     }

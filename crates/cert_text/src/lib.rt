@@ -6,11 +6,12 @@
 //! the first fault. `specs/Spelling.antt` is the grammar.
 #![tactic(auto)]
 
-mod cell_list;
+mod by_line;
 mod cell_reading;
 mod certificate;
 mod draft;
 mod fault;
+mod item_list;
 mod laws;
 mod line_reading;
 mod line_writing;
@@ -23,17 +24,22 @@ mod words;
 mod worked;
 mod writing;
 
+pub use by_line::{LineDraft, read_lines};
 pub use certificate::Certificate;
-pub use fault::CertFault;
+pub use fault::{CertFault, LineFault};
+pub use item_list::ItemList;
 pub use laws::{
     certificates_are_short, certificates_have_one_text, readings_go_by_the_grammar,
     texts_come_in_parts,
 };
+pub use line_reading::{moment_after, station_of};
 pub use line_writing::{
     begin_line, cell_line, end_line, heading_line, last_line, mark_line, title_line,
 };
+pub use lines::after;
+pub use numbers::{number_of, size_of};
 pub use reading::read_certificate;
 pub use track_name::TrackName;
 pub use words::track_of;
 pub use worked::{worked_readings, worked_texts};
-pub use writing::write_certificate;
+pub use writing::{push_station_lines, push_text, write_certificate};

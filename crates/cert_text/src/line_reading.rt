@@ -5,7 +5,7 @@ ghost use Rattle.std.specs.List.{list_all};
 ghost use Rattle.cert_text.specs.Workings.LineReading.{version_of, is_name_byte, named, station_of, moment_after, mark_within, mark_of};
 
 use crate::lines::after;
-use crate::numbers::number_of;
+use crate::numbers::{LEVEL_DIGITS, number_of};
 use zone_time::read_moment;
 
 /// The version of a title.
@@ -63,11 +63,11 @@ pub fn moment_after(word: &[u8], line: &[u8]) -> Option<i64>
     read_moment(after(word, line)?)
 }
 
-fn mark_within(mark: i64) -> Option<Option<i64>>
+fn mark_within(mark: i128) -> Option<Option<i64>>
     ensures { result ≡ mark_within mark }
 {
     if mark.unsigned_abs() <= 10_000_000_000 {
-        Some(Some(mark))
+        Some(Some(mark as i64))
     } else {
         None
     }
@@ -81,6 +81,5 @@ pub fn mark_of(line: &[u8]) -> Option<Option<i64>>
     if line == b"mark none".as_slice() {
         return Some(None);
     }
-    let mark = number_of(after(b"mark ".as_slice(), line)?)?;
-    mark_within(mark)
+    mark_within(number_of(after(b"mark ".as_slice(), line)?, LEVEL_DIGITS)?)
 }

@@ -1,7 +1,7 @@
 //! Lines of bytes.
 
 ghost use Rattle.std.specs.Prelude.{◌≡◌, ◌<◌, ◌∷◌, [], length, MatchOption, IfSome, position, option_copied};
-ghost use Rattle.cert_text.specs.Workings.Drafts.{is_lf, pieces};
+ghost use Rattle.cert_text.specs.ByLine.{is_lf, pieces};
 ghost use Rattle.cert_text.specs.Workings.LineReading.{after};
 
 fn lf_at(bytes: &[u8]) -> Option<usize>

@@ -5,23 +5,13 @@ ghost use Rattle.decimal_text.specs.Expected.{Gives};
 ghost use Rattle.cert_text.specs.Certificates.{IsCertificate};
 ghost use Rattle.cert_text.specs.Spelling.{Reads};
 ghost use Rattle.cert_text.specs.Readings.{certificate_of, wants_memory};
-ghost use Rattle.cert_text.specs.Workings.Drafts.{placed};
 ghost use Rattle.decimal_text.specs.declared.limits.TheConstants.{MOST_BYTES};
 
+use crate::by_line::read_lines;
 use crate::certificate::Certificate;
 use crate::draft::Draft;
-use crate::fault::{CertFault, LineFault};
-use crate::lines::next_line;
+use crate::fault::CertFault;
 use std::alloc::Global;
-
-fn at_line(line: u32, fault: LineFault) -> CertFault
-    ensures { result ≡ placed line fault }
-{
-    match fault {
-        LineFault::NoMemory => CertFault::NoMemory,
-        LineFault::Bad => CertFault::NotACertificate { line },
-    }
-}
 
 /// The certificate whose text the bytes are, at most 400,000,000 of them. They are gone over once.
 ///
@@ -36,15 +26,5 @@ pub fn read_certificate(alloc: Global, bytes: &[u8]) -> Result<Certificate, Cert
     ensures reads { Reads bytes.now result }
     ensures sound { IfOk result IsCertificate }
 {
-    let mut draft = Draft::new(alloc);
-    let mut rest = bytes;
-    let mut number = 1u32;
-    while let Some((line, after)) = next_line(rest) {
-        if let Err(fault) = draft.take_line(alloc, line) {
-            return Err(at_line(number, fault));
-        }
-        number += 1;
-        rest = after;
-    }
-    draft.finish(number, rest)
+    read_lines(alloc, Draft::new(alloc), bytes)
 }

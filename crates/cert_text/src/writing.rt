@@ -2,7 +2,8 @@
 
 ghost use Rattle.std.specs.Prelude.{◌≡◌, ◌++◌, [], ◌∷◌, All, IfOk, IfSome, OnOk};
 ghost use Rattle.cert_text.specs.Certificates.{IsCertificate, IsCellOf};
-ghost use Rattle.cert_text.specs.Lines.{station_line_of, head_lines_of, track_lines_of, lines_if_there, certificate_text, ended, joined};
+ghost use Rattle.zone_time.specs.Moments.{IsMoment};
+ghost use Rattle.cert_text.specs.Lines.{station_line_of, station_lines_of, head_lines_of, track_lines_of, lines_if_there, certificate_text, ended, joined};
 
 use crate::certificate::Certificate;
 use crate::line_writing::{
@@ -14,7 +15,8 @@ use curve_law::{Cell, Cells};
 use decimal_text::{Bytes, Text};
 use std::alloc::{AllocError, Global};
 
-fn push_text(out: &mut Vec<u8>, text: &str) -> Result<(), AllocError>
+/// Appends text.
+pub fn push_text(out: &mut Vec<u8>, text: &str) -> Result<(), AllocError>
     ensures { OnOk result (out.new.items ≡ out.old.items ++ text.now) }
 {
     out.extend_from_slice(text.as_bytes())
@@ -29,6 +31,26 @@ fn push_station(out: &mut Vec<u8>, name: &Text) -> Result<(), AllocError>
     push_text(out, "\n")
 }
 
+/// Appends the lines that name a station and a span.
+pub fn push_station_lines(
+    out: &mut Vec<u8>,
+    name: &Text,
+    begin: i64,
+    end: i64,
+) -> Result<(), AllocError>
+    requires begin { IsMoment begin }
+    requires end { IsMoment end }
+    ensures { OnOk result (out.new.items ≡ out.old.items ++ joined (station_lines_of name.now begin end)) }
+{
+    push_station(out, name)?;
+    let mut line = ArrayString::new();
+    begin_line(begin, &mut line);
+    push_text(out, line.as_str())?;
+    line.clear();
+    end_line(end, &mut line);
+    push_text(out, line.as_str())
+}
+
 /// Appends the first five lines.
 fn push_head(out: &mut Vec<u8>, cert: &Certificate) -> Result<(), AllocError>
     requires { IsCertificate cert.now }
@@ -37,13 +59,7 @@ fn push_head(out: &mut Vec<u8>, cert: &Certificate) -> Result<(), AllocError>
     let mut line = ArrayString::new();
     title_line(cert.version, &mut line);
     push_text(out, line.as_str())?;
-    push_station(out, &cert.station)?;
-    line.clear();
-    begin_line(cert.begin, &mut line);
-    push_text(out, line.as_str())?;
-    line.clear();
-    end_line(cert.end, &mut line);
-    push_text(out, line.as_str())?;
+    push_station_lines(out, &cert.station, cert.begin, cert.end)?;
     line.clear();
     mark_line(cert.mark, &mut line);
     push_text(out, line.as_str())

@@ -1,10 +1,11 @@
 -- Digits read one by one.
-use Rattle.std.proofs.Common.{◌≡◌, ℕ, ◌+◌, ◌*◌, ◌-◌, ◌<◌, ◌≤◌, ◌^◌, true, List, [], ◌∷◌, length, get_or, take, refl, sym, ap, ◌∙◌, lit<, arith}
+use Rattle.std.proofs.Common.{◌≡◌, ℕ, ◌+◌, ◌*◌, ◌-◌, ◌<◌, ◌≤◌, ◌^◌, true, List, [], ◌∷◌, ◌++◌, length, get_or, take, drop, refl, sym, ap, ◌∙◌, add-one, take-append-drop, lit<, arith, rules}
 use Rattle.std.specs.Char.{digit_value, is_ascii_digit}
 use Rattle.std.specs.Str.Parse.{digits_value, digits_value_after}
 use Rattle.std.specs.List.{fold, list_all}
 use Rattle.std.proofs.lemmas.List.Sums.{AllPass-from_list_all, fold_more}
 use Rattle.std.proofs.lemmas.Grind.{pow_more}
+use Rattle.std.proofs.lemmas.Str.Parse.{IsNumeralModel, numerals_by_value, digits_value_short}
 use Rattle.std.proofs.Math.Nat.{pow-le-pow_right}
 use Rattle.std.proofs.lemmas.Bool.Decides.{nat_tests}
 
@@ -39,3 +40,31 @@ within i most value few h = omega (arith, pow-le-pow_right {n = 10} (lit< tt) fe
 
 pub small_next : (i value digit : ℕ) → digit ≤ 9 → value < 10 ^ i → value * 10 + digit < 10 ^ (i + 1)
 small_next i value digit nine h = rw (pow_more 10 i) (omega (arith, h))
+
+-- ---- two texts of digits, one after the other
+
+scaled : (n d p v q w : ℕ) → q ≡ p * 10 → w ≡ (0 * 10 + d) * p + v → (n * 10 + d) * p + v ≡ n * q + w
+scaled n d p v q w more rest = rw (more, rest) (omega arith)
+
+after_scaled : (n : ℕ) (ds : List ℕ) → digits_value_after 10 n ds ≡ n * 10 ^ length ds + digits_value 10 ds
+after_scaled n [] = omega arith
+after_scaled n (c ∷ cs) =
+    let more : 10 ^ length (c ∷ cs) ≡ 10 ^ length cs * 10 = rw (← add-one (length cs)) (pow_more 10 (length cs)) in
+    after_scaled (n * 10 + digit_value c) cs
+    ∙ scaled n (digit_value c) (10 ^ length cs) (digits_value 10 cs) (10 ^ length (c ∷ cs)) (digits_value 10 (c ∷ cs)) more (after_scaled (0 * 10 + digit_value c) cs)
+
+after-append : (n : ℕ) (xs ys : List ℕ) → digits_value_after 10 n (xs ++ ys) ≡ digits_value_after 10 (digits_value_after 10 n xs) ys
+after-append n [] ys = refl
+after-append n (c ∷ cs) ys = after-append (n * 10 + digit_value c) cs ys
+
+pub digits_value-split : (text front back : List ℕ) (k : ℕ) → front ≡ take k text → back ≡ drop k text → length back ≡ 19 → digits_value 10 text ≡ digits_value 10 front * 10 ^ 19 + digits_value 10 back
+digits_value-split text front back k f b len =
+    let whole : text ≡ front ++ back = rw (f, b) (sym (take-append-drop k text)) in
+    ap (digits_value 10) whole ∙ after-append 0 front back ∙ after_scaled (digits_value 10 front) back
+    ∙ ap (λ n. digits_value 10 front * 10 ^ n + digits_value 10 back) len
+
+own : IsNumeralModel (λ ds. list_all is_ascii_digit ds ≡ true) (digits_value 10)
+own = numerals_by_value _ (search rules)
+
+pub digits_value_small : (text : List ℕ) → list_all is_ascii_digit text ≡ true → digits_value 10 text < 10 ^ length text
+digits_value_small text h = digits_value_short own text (length text) h (omega arith)

@@ -41,6 +41,7 @@ pub fn worked_digits()
     ensures one_more { digits_of 4 (codes "00019") ≡ None }
     ensures signed { digits_of 4 (codes "+19") ≡ None }
     ensures greatest { digits_of 18 (codes "999999999999999999") ≡ Some 999999999999999999 }
+    ensures past_64_bits { digits_of 20 (codes "18446744073709551616") ≡ Some 18446744073709551616 }
 {}
 
 /// Some numbers, and what they are written as.

@@ -2,8 +2,8 @@
 //!
 //! Contracts see [`Text`], [`Bytes`], [`Numbers`] and [`Words`] as lists: a [`Text`] as the list of
 //! its UTF-8 bytes, the others as the list of their items. Only `copy` and [`Text::from_str`] take
-//! memory. [`read`] and [`write`] turn decimals into whole numbers and back, and [`digits`] reads whole
-//! numbers of digits alone.
+//! memory. [`read`] and [`write`] turn decimals into whole numbers and back, [`digits`] reads whole
+//! numbers of digits alone, and [`wide_digits`] those that need 128 bits.
 #![tactic(auto)]
 
 mod bytes;
@@ -33,7 +33,7 @@ pub use reading::read;
 pub use rounding::rounded;
 pub use sign::split_sign;
 pub use text::Text;
-pub use whole::{are_digits, digits, digits_value};
+pub use whole::{are_digits, digits, digits_value, wide_digits, wide_digits_value};
 pub use words::Words;
 pub use writing::write;
 

@@ -45,6 +45,19 @@ fn whole_numbers_are_read(rt: HostRuntime) {
     );
     assert_eq!(rt; are_digits(b"+1"), false);
     assert_eq!(rt; digits_value(b"0123"), 123);
+    assert_eq!(rt;
+        wide_digits(b"12345678901234567890123456789012345678", 38),
+        Some(12_345_678_901_234_567_890_123_456_789_012_345_678)
+    );
+    assert_eq!(rt;
+        wide_digits(b"10000000000000000009", 20),
+        Some(10_000_000_000_000_000_009)
+    );
+    assert_eq!(rt; wide_digits(b"10000000000000000009", 19), None);
+    assert_eq!(rt;
+        wide_digits_value(b"99999999999999999999"),
+        99_999_999_999_999_999_999
+    );
 }
 
 #[test]

@@ -17,7 +17,7 @@ pub record IsNear (far a b : ℕ) : Type 0 where
   pub below : b ≤ a + far
 
 -- the formula of a degree with that entry, rise and size of the correction, at r units
-unfoldable formula : ℕ → ℕ → ℕ → ℕ → ℕ
+unfoldable pub formula : ℕ → ℕ → ℕ → ℕ → ℕ
 formula s u c r = 1440000000000000000 * s + 2400000000 * r * u + r * (600000000 - r) * c
 
 -- one unit further it rises, and by at most 4 * degree * 17,454,000
@@ -60,7 +60,7 @@ scaled-next k h =
     formula-end _ _ _ ∙ ap (λ n. 1440000000000000000 * n) (omega arith) ∙ sym (formula-begin _ _ _)
 
 -- at a place
-unfoldable num : ℕ → ℕ
+pub num : ℕ → ℕ
 num p = scaled (p / 600000000) (p % 600000000)
 
 num-at : (p k r : ℕ) → p ≡ 600000000 * k + r → r < 600000000 → num p ≡ scaled k r
@@ -69,7 +69,7 @@ num-at p k r e h =
     let quotient : p / 600000000 ≡ k = omega arith in
     let rest : p % 600000000 ≡ r = omega arith in rw (quotient, rest)
 
-num-step : (p : ℕ) → p < 54000000000 → IsNear 41889600000000000 (num (p + 1)) (num p)
+pub num-step : (p : ℕ) → p < 54000000000 → IsNear 41889600000000000 (num (p + 1)) (num p)
 num-step p h =
     let k = p / 600000000 in
     let r = p % 600000000 in
@@ -109,6 +109,13 @@ num-between k r h small =
           num-at (600000000 * k + r) (k + 1) 0 (omega arith) (omega arith) ∙ sym (scaled-next k h) ∙ ap (scaled k) (sym last))
     ]
 
+-- by the size of the correction, the next degree included
+pub num-formula : (k r : ℕ) → k < 90 → r ≤ 600000000 → num (600000000 * k + r) ≡ formula (get_or sines k 0) (get_or sines (k + 1) 0 - get_or sines k 0) (unsigned_abs (correction k)) r
+unfolding scaled
+num-formula k r h small =
+    let size : get_or CORRECTIONS k 0 ≡ unsigned_abs (correction k) = omega (arith, ints, correction-size k h) in
+    num-between k r h small ∙ ap (λ c. formula (get_or sines k 0) (get_or sines (k + 1) 0 - get_or sines k 0) c r) size
+
 -- the sine between two degrees, the second one included
 pub quarter_of-between : (k r c : ℕ) → k < 90 → r ≤ 600000000 → correction k ≡ neg_ℤ (pos c) → quarter_of (600000000 * k + r) ≡ pos (get_or sines k 0 + (2400000000 * r * (get_or sines (k + 1) 0 - get_or sines k 0) + r * (600000000 - r) * c) / 1440000000000000000)
 unfolding scaled formula
@@ -122,14 +129,14 @@ unfolding num scaled formula sines
 num-begin = refl
 
 -- the same on the first half of the circle, up to its end
-unfoldable half_num : ℕ → ℕ
+pub half_num : ℕ → ℕ
 half_num i = if nat_lt i 54000000000 then num i else num (108000000000 - i)
 
-half_num-first : (i : ℕ) → i < 54000000000 → half_num i ≡ num i
+pub half_num-first : (i : ℕ) → i < 54000000000 → half_num i ≡ num i
 unfolding half_num
 half_num-first i h = cond-true (nat_lt i 54000000000) _ _ (lt-ltb i 54000000000 h)
 
-half_num-second : (i : ℕ) → 54000000000 ≤ i → half_num i ≡ num (108000000000 - i)
+pub half_num-second : (i : ℕ) → 54000000000 ≤ i → half_num i ≡ num (108000000000 - i)
 unfolding half_num
 half_num-second i h = cond-false (nat_lt i 54000000000) _ _ (le-ltb i 54000000000 h)
 
@@ -162,22 +169,22 @@ half_of-num i h =
     ]
 
 -- and with its sign on the whole circle
-unfoldable signed_num : ℕ → ℤ
+pub signed_num : ℕ → ℤ
 signed_num p =
     if nat_lt p 108000000000 then pos (half_num p) else neg_ℤ (pos (half_num (p - 108000000000)))
 
-signed_num-first : (p : ℕ) → p < 108000000000 → signed_num p ≡ pos (half_num p)
+pub signed_num-first : (p : ℕ) → p < 108000000000 → signed_num p ≡ pos (half_num p)
 unfolding signed_num
 signed_num-first p h = cond-true (nat_lt p 108000000000) _ _ (lt-ltb p 108000000000 h)
 
-signed_num-second : (p : ℕ) → 108000000000 ≤ p → signed_num p ≡ neg_ℤ (pos (half_num (p - 108000000000)))
+pub signed_num-second : (p : ℕ) → 108000000000 ≤ p → signed_num p ≡ neg_ℤ (pos (half_num (p - 108000000000)))
 unfolding signed_num
 signed_num-second p h = cond-false (nat_lt p 108000000000) _ _ (le-ltb p 108000000000 h)
 
-half_num-begin : half_num 0 ≡ 0
+pub half_num-begin : half_num 0 ≡ 0
 half_num-begin = half_num-first 0 (omega arith) ∙ num-begin
 
-half_num-end : half_num 108000000000 ≡ 0
+pub half_num-end : half_num 108000000000 ≡ 0
 half_num-end = half_num-second 108000000000 (omega arith) ∙ num-begin
 
 -- one unit further round the circle
@@ -274,7 +281,7 @@ cut_negative : (h : ℕ) → neg_ℤ (pos (h / 1440000000000000000)) ≡ int_div
 cut_negative zero = refl
 cut_negative (suc h) = refl
 
-isin_of-num : (p : ℕ) → p < 216000000000 → isin_of p ≡ int_div (signed_num p) (pos 1440000000000000000)
+pub isin_of-num : (p : ℕ) → p < 216000000000 → isin_of p ≡ int_div (signed_num p) (pos 1440000000000000000)
 isin_of-num p h =
     elim (cases_lt p 108000000000) [
       | inl first ↦ rw (signed_num-first p first) (isin_of-first p first ∙ half_of-num p first)

@@ -4,7 +4,7 @@ use Rattle.std.specs.Ordering.{int_eq}
 use Rattle.std.proofs.lemmas.Bool.Decides.{nat_tests, Decides-int_eq, Decides-eqb}
 use Rattle.std.proofs.lemmas.Int.{ints}
 use Rattle.curve_law.specs.Meaning.{Meaning}
-use Rattle.curve_law.specs.Cover.{most_minutes}
+use Rattle.curve_law.specs.declared.quiet.TheConstants.{MOST_MINUTES}
 use Rattle.curve_law.proofs.CoverLemmas.{by_test}
 use Rattle.highest_water.specs.declared.peak_cell.PeakCell.{PeakCell}
 use Rattle.highest_water.specs.declared.peak_cell.PeakCell.TheVariants.{Under, Single}
@@ -64,15 +64,15 @@ none-whole = record { whole = refl; few = omega arith }
 cover-whole-within : (d : ℕ) (c : Meaning) (at value a : ℤ) (n : ℕ) → n ≤ d → AreWhole n (peak_cover c at value a n)
 cover-whole-within d c at value a zero few = rw (cover-none c at value a) none-whole
 cover-whole-within zero c at value a (suc n) few = absurd (omega arith)
-cover-whole-within (suc d) c at value a (suc n) few = by_test (nat_le (suc n) most_minutes)
-    (λ last. let small : suc n ≤ most_minutes = grind (arith, nat_tests) in
+cover-whole-within (suc d) c at value a (suc n) few = by_test (nat_le (suc n) MOST_MINUTES)
+    (λ last. let small : suc n ≤ MOST_MINUTES = grind (arith, nat_tests) in
     rw (cover-last c at value a (suc n) small) (split-whole c at value a (suc n) (omega arith)))
     (λ more.
-    let large : most_minutes < suc n = grind (arith, nat_tests) in
-    let first = split-whole c at value a most_minutes (omega arith) in
-    let second = cover-whole-within d c at value (a +ℤ pos most_minutes) (suc n - most_minutes) (omega arith) in
-    let both = AreWhole-append most_minutes (suc n - most_minutes) _ _ first second in
-    let all : most_minutes + (suc n - most_minutes) ≡ suc n = omega arith in
+    let large : MOST_MINUTES < suc n = grind (arith, nat_tests) in
+    let first = split-whole c at value a MOST_MINUTES (omega arith) in
+    let second = cover-whole-within d c at value (a +ℤ pos MOST_MINUTES) (suc n - MOST_MINUTES) (omega arith) in
+    let both = AreWhole-append MOST_MINUTES (suc n - MOST_MINUTES) _ _ first second in
+    let all : MOST_MINUTES + (suc n - MOST_MINUTES) ≡ suc n = omega arith in
     rw (cover-block c at value a (suc n) large) (rw all at both))
 
 pub cover-whole : (c : Meaning) (at value a : ℤ) (n : ℕ) → AreWhole n (peak_cover c at value a n)
@@ -164,15 +164,15 @@ none-right c at value a number = refl
 cover-right-within : (d : ℕ) (c : Meaning) (at value a : ℤ) (n : ℕ) → n ≤ d → AreFit c at value a (a +ℤ pos n) → (number : ℕ) → cells_verdict c at value a number (peak_cover c at value a n) ≡ Accepted
 cover-right-within d c at value a zero few fit number = rw (cover-none c at value a) (none-right c at value a number)
 cover-right-within zero c at value a (suc n) few fit number = absurd (omega arith)
-cover-right-within (suc d) c at value a (suc n) few fit number = by_test (nat_le (suc n) most_minutes)
-    (λ last. let small : suc n ≤ most_minutes = grind (arith, nat_tests) in
+cover-right-within (suc d) c at value a (suc n) few fit number = by_test (nat_le (suc n) MOST_MINUTES)
+    (λ last. let small : suc n ≤ MOST_MINUTES = grind (arith, nat_tests) in
     rw (cover-last c at value a (suc n) small) (split-right c at value a (suc n) (omega arith) fit number))
     (λ more.
-    let large : most_minutes < suc n = grind (arith, nat_tests) in
-    let all : a +ℤ pos most_minutes +ℤ pos (suc n - most_minutes) ≡ a +ℤ pos (suc n) = omega (arith, ints) in
-    let first = split-right c at value a most_minutes (omega arith) (AreFit-part c at value a (a +ℤ pos (suc n)) a (a +ℤ pos most_minutes) (omega (arith, ints)) (omega (arith, ints)) fit) in
-    let second = cover-right-within d c at value (a +ℤ pos most_minutes) (suc n - most_minutes) (omega arith) (rw all (AreFit-part c at value a (a +ℤ pos (suc n)) (a +ℤ pos most_minutes) (a +ℤ pos (suc n)) (omega (arith, ints)) (omega (arith, ints)) fit)) in
-    rw (cover-block c at value a (suc n) large) (append-right c at value a most_minutes (suc n - most_minutes) number _ _ (split-whole c at value a most_minutes (omega arith)) first second))
+    let large : MOST_MINUTES < suc n = grind (arith, nat_tests) in
+    let all : a +ℤ pos MOST_MINUTES +ℤ pos (suc n - MOST_MINUTES) ≡ a +ℤ pos (suc n) = omega (arith, ints) in
+    let first = split-right c at value a MOST_MINUTES (omega arith) (AreFit-part c at value a (a +ℤ pos (suc n)) a (a +ℤ pos MOST_MINUTES) (omega (arith, ints)) (omega (arith, ints)) fit) in
+    let second = cover-right-within d c at value (a +ℤ pos MOST_MINUTES) (suc n - MOST_MINUTES) (omega arith) (rw all (AreFit-part c at value a (a +ℤ pos (suc n)) (a +ℤ pos MOST_MINUTES) (a +ℤ pos (suc n)) (omega (arith, ints)) (omega (arith, ints)) fit)) in
+    rw (cover-block c at value a (suc n) large) (append-right c at value a MOST_MINUTES (suc n - MOST_MINUTES) number _ _ (split-whole c at value a MOST_MINUTES (omega arith)) first second))
 
 inside-true : (at a : ℤ) (n : ℕ) → a ≤ℤ at → at <ℤ (a +ℤ pos n) → is_inside at a n ≡ true
 inside-true at a n from before = grind (arith, ints)

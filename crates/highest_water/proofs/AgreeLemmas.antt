@@ -3,7 +3,7 @@ use Rattle.std.proofs.Common.{◌≡◌, ℕ, zero, suc, ◌+◌, ◌-◌, ◌/�
 use Rattle.std.proofs.lemmas.Bool.Decides.{nat_tests, Decides-eqb}
 use Rattle.std.proofs.lemmas.Int.{ints}
 use Rattle.curve_law.specs.Meaning.{Meaning, AgreeOver}
-use Rattle.curve_law.specs.Cover.{most_minutes}
+use Rattle.curve_law.specs.declared.quiet.TheConstants.{MOST_MINUTES}
 use Rattle.curve_law.proofs.CoverLemmas.{by_test}
 use Rattle.highest_water.specs.declared.peak.Peak.{Peak}
 use Rattle.highest_water.specs.declared.peak_cell.PeakCell.{PeakCell}
@@ -34,7 +34,7 @@ agree-first c d a n k within agree = record {
 value-here : (c d : Meaning) (a : ℤ) (n : ℕ) → AgreeOnValues c d a n → c.track.value a ≡ d.track.value a
 value-here c d a n agree = let here : a +ℤ pos 0 ≡ a = omega (arith, ints) in rw here at (agree.values 0 (omega arith))
 
-rate-here : (c d : Meaning) (a : ℤ) (n : ℕ) → 1 ≤ n → n ≤ most_minutes → AgreeOnValues c d a n → c.rate a n ≡ d.rate a n
+rate-here : (c d : Meaning) (a : ℤ) (n : ℕ) → 1 ≤ n → n ≤ MOST_MINUTES → AgreeOnValues c d a n → c.rate a n ≡ d.rate a n
 rate-here c d a n some few agree = let here : a +ℤ pos 0 ≡ a = omega (arith, ints) in rw here at (agree.rates 0 n (omega arith) some few)
 
 -- ---- the highest water
@@ -70,10 +70,10 @@ minute-agrees c d a (suc n) agree =
 
 under-agrees : (c d : Meaning) (at value a : ℤ) (n : ℕ) → AgreeOnValues c d a n → is_under c at value a n ≡ is_under d at value a n
 unfolding is_under
-under-agrees c d at value a n agree = by_test (nat_le 2 n && nat_le n most_minutes)
+under-agrees c d at value a n agree = by_test (nat_le 2 n && nat_le n MOST_MINUTES)
     (λ fits.
     let some : 2 ≤ n = grind (arith, nat_tests) in
-    let few : n ≤ most_minutes = grind (arith, nat_tests) in
+    let few : n ≤ MOST_MINUTES = grind (arith, nat_tests) in
     let rate = rate-here c d a n (omega arith) few agree in
     let here = value-here c d a n agree in
     let there = agree.values n (omega arith) in
@@ -95,13 +95,13 @@ split-agrees c d at value a n agree = split_within-agrees n c d at value a n agr
 cover_within-agrees : (blocks : ℕ) (c d : Meaning) (at value a : ℤ) (n : ℕ) → AgreeOnValues c d a n → cover_within blocks c at value a n ≡ cover_within blocks d at value a n
 unfolding cover_within
 cover_within-agrees zero c d at value a n agree = refl
-cover_within-agrees (suc blocks) c d at value a n agree = rw (cover_within-step blocks n c at value a, cover_within-step blocks n d at value a) (by_test (nat_le n most_minutes)
+cover_within-agrees (suc blocks) c d at value a n agree = rw (cover_within-step blocks n c at value a, cover_within-step blocks n d at value a) (by_test (nat_le n MOST_MINUTES)
     (λ last. rw (last, split-agrees c d at value a n agree) refl)
     (λ more.
-    let large : most_minutes < n = grind (arith, nat_tests) in
-    let first = split-agrees c d at value a most_minutes (agree-first c d a n most_minutes (omega arith) agree) in
-    let rest = cover_within-agrees blocks c d at value (a +ℤ pos most_minutes) (n - most_minutes) (agree-part c d a n most_minutes (n - most_minutes) (omega arith) agree) in
-    rw (more, first) (ap (λ cells. peak_split d at value a most_minutes ++ cells) rest)))
+    let large : MOST_MINUTES < n = grind (arith, nat_tests) in
+    let first = split-agrees c d at value a MOST_MINUTES (agree-first c d a n MOST_MINUTES (omega arith) agree) in
+    let rest = cover_within-agrees blocks c d at value (a +ℤ pos MOST_MINUTES) (n - MOST_MINUTES) (agree-part c d a n MOST_MINUTES (n - MOST_MINUTES) (omega arith) agree) in
+    rw (more, first) (ap (λ cells. peak_split d at value a MOST_MINUTES ++ cells) rest)))
 
 cover-agrees : (c d : Meaning) (at value a : ℤ) (n : ℕ) → AgreeOnValues c d a n → peak_cover c at value a n ≡ peak_cover d at value a n
 unfolding peak_cover

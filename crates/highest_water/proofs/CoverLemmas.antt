@@ -2,7 +2,7 @@
 use Rattle.std.proofs.Common.{◌≡◌, ℕ, zero, suc, ◌-◌, ◌/◌, ◌≤◌, ◌<◌, ℤ, pos, ◌+ℤ◌, Bool, true, false, cond, nat_le, List, [], ◌∷◌, ◌++◌, refl, sym, ap, ◌∙◌, arith}
 use Rattle.std.proofs.lemmas.Bool.Decides.{nat_tests}
 use Rattle.curve_law.specs.Meaning.{Meaning}
-use Rattle.curve_law.specs.Cover.{most_minutes}
+use Rattle.curve_law.specs.declared.quiet.TheConstants.{MOST_MINUTES}
 use Rattle.curve_law.proofs.CoverLemmas.{by_test}
 use Rattle.highest_water.specs.declared.peak_cell.PeakCell.{PeakCell}
 use Rattle.highest_water.specs.declared.peak_cell.PeakCell.TheVariants.{Under, Single}
@@ -36,11 +36,11 @@ split_within-step d n c at value a = two_tests (nat_le n 1) (is_under c at value
 
 -- a step of the rule for blocks, with the cells of the rest
 abbrev pub blocked : Meaning → ℤ → ℤ → ℤ → ℕ → List PeakCell → List PeakCell
-blocked c at value a n rest = cond (nat_le n most_minutes) (peak_split c at value a n) (peak_split c at value a most_minutes ++ rest)
+blocked c at value a n rest = cond (nat_le n MOST_MINUTES) (peak_split c at value a n) (peak_split c at value a MOST_MINUTES ++ rest)
 
-pub cover_within-step : (d n : ℕ) (c : Meaning) (at value a : ℤ) → cover_within (suc d) c at value a n ≡ blocked c at value a n (cover_within d c at value (a +ℤ pos most_minutes) (n - most_minutes))
+pub cover_within-step : (d n : ℕ) (c : Meaning) (at value a : ℤ) → cover_within (suc d) c at value a n ≡ blocked c at value a n (cover_within d c at value (a +ℤ pos MOST_MINUTES) (n - MOST_MINUTES))
 unfolding cover_within
-cover_within-step d n c at value a = one_test (nat_le n most_minutes) _ _
+cover_within-step d n c at value a = one_test (nat_le n MOST_MINUTES) _ _
 
 split_within-more : (d e n : ℕ) (c : Meaning) (at value a : ℤ) → 1 ≤ n → n ≤ d → n ≤ e → split_within d c at value a n ≡ split_within e c at value a n
 split_within-more zero e n c at value a some few also = absurd (omega arith)
@@ -89,24 +89,24 @@ cover_within-more (suc d) zero zero c at value a few also = split-none c at valu
 cover_within-more (suc d) zero (suc n) c at value a few also = absurd (omega arith)
 cover_within-more (suc d) (suc e) n c at value a few also =
     cover_within-step d n c at value a
-    ∙ ap (blocked c at value a n) (cover_within-more d e (n - most_minutes) c at value (a +ℤ pos most_minutes) (omega arith) (omega arith))
+    ∙ ap (blocked c at value a n) (cover_within-more d e (n - MOST_MINUTES) c at value (a +ℤ pos MOST_MINUTES) (omega arith) (omega arith))
     ∙ sym (cover_within-step e n c at value a)
 
 pub cover-none : (c : Meaning) (at value a : ℤ) → peak_cover c at value a 0 ≡ []
 unfolding peak_cover cover_within
 cover-none c at value a = refl
 
-pub cover-last : (c : Meaning) (at value a : ℤ) (n : ℕ) → n ≤ most_minutes → peak_cover c at value a n ≡ peak_split c at value a n
+pub cover-last : (c : Meaning) (at value a : ℤ) (n : ℕ) → n ≤ MOST_MINUTES → peak_cover c at value a n ≡ peak_split c at value a n
 unfolding peak_cover
 cover-last c at value a zero few = cover-none c at value a ∙ sym (split-none c at value a)
 cover-last c at value a (suc n) few =
-    let e : nat_le (suc n) most_minutes ≡ true = grind (arith, nat_tests) in
+    let e : nat_le (suc n) MOST_MINUTES ≡ true = grind (arith, nat_tests) in
     cover_within-step n (suc n) c at value a ∙ rw e refl
 
-pub cover-block : (c : Meaning) (at value a : ℤ) (n : ℕ) → most_minutes < n → peak_cover c at value a n ≡ peak_split c at value a most_minutes ++ peak_cover c at value (a +ℤ pos most_minutes) (n - most_minutes)
+pub cover-block : (c : Meaning) (at value a : ℤ) (n : ℕ) → MOST_MINUTES < n → peak_cover c at value a n ≡ peak_split c at value a MOST_MINUTES ++ peak_cover c at value (a +ℤ pos MOST_MINUTES) (n - MOST_MINUTES)
 unfolding peak_cover
 cover-block c at value a zero more = absurd (omega arith)
 cover-block c at value a (suc n) more =
-    let e : nat_le (suc n) most_minutes ≡ false = grind (arith, nat_tests) in
-    let rest = cover_within-more n (suc n - most_minutes) (suc n - most_minutes) c at value (a +ℤ pos most_minutes) (omega arith) (omega arith) in
-    cover_within-step n (suc n) c at value a ∙ rw e (ap (λ cells. peak_split c at value a most_minutes ++ cells) rest)
+    let e : nat_le (suc n) MOST_MINUTES ≡ false = grind (arith, nat_tests) in
+    let rest = cover_within-more n (suc n - MOST_MINUTES) (suc n - MOST_MINUTES) c at value (a +ℤ pos MOST_MINUTES) (omega arith) (omega arith) in
+    cover_within-step n (suc n) c at value a ∙ rw e (ap (λ cells. peak_split c at value a MOST_MINUTES ++ cells) rest)

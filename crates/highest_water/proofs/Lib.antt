@@ -5,6 +5,12 @@ pub mod FindingLemmas
 pub mod HighestLemmas
 pub mod JudgingLemmas
 pub mod LengthLemmas
+mod PeakDraftLemmas
+mod PeakGrammarLemmas
+mod PeakLengthLemmas
+mod PeakLineLemmas
+mod PeakReadingLemmas
+mod PeakRunLemmas
 pub mod SpanLemmas
 pub mod UnderLemmas
 pub mod VerdictLemmas

@@ -4,7 +4,7 @@ use Rattle.std.proofs.lemmas.Bool.{and_parts}
 use Rattle.std.proofs.lemmas.Bool.Decides.{nat_tests}
 use Rattle.std.proofs.lemmas.Int.{ints}
 use Rattle.curve_law.specs.Meaning.{Meaning, IsSpan, IsRate, IsLawful}
-use Rattle.curve_law.specs.Cover.{most_minutes}
+use Rattle.curve_law.specs.declared.quiet.TheConstants.{MOST_MINUTES}
 use Rattle.curve_law.proofs.CoverLemmas.{by_test}
 use Rattle.highest_water.specs.Covers.{twice_most, stays_below, stays_within, is_under}
 use Rattle.highest_water.specs.Verdicts.{is_inside}
@@ -76,18 +76,18 @@ rate-within rate v w x value n bound stays =
     omega (arith, ints)
 
 -- what a rate says of a minute inside
-inside-most : (c : Meaning) (a : ℤ) (n j : ℕ) (rate : ℤ) → c.rate a n ≡ Some rate → IsLawful c → IsSpan c a n → 2 ≤ n → n ≤ most_minutes → j < n → (pos 2 *ℤ c.track.value (a +ℤ pos j)) ≤ℤ (c.track.value a +ℤ c.track.value (a +ℤ pos n) +ℤ (rate *ℤ pos n))
+inside-most : (c : Meaning) (a : ℤ) (n j : ℕ) (rate : ℤ) → c.rate a n ≡ Some rate → IsLawful c → IsSpan c a n → 2 ≤ n → n ≤ MOST_MINUTES → j < n → (pos 2 *ℤ c.track.value (a +ℤ pos j)) ≤ℤ (c.track.value a +ℤ c.track.value (a +ℤ pos n) +ℤ (rate *ℤ pos n))
 inside-most c a n j rate is lawful span two most few =
     let all : j + (n - j) ≡ n = omega arith in
     let law = lawful.rates a n rate (record { first = span.first; last = span.last; some = omega arith; few = most }) is in
     rw all at (rated-most c a j (n - j) rate (omega arith) (rw all law))
 
-below-least : (c : Meaning) (a : ℤ) (n j : ℕ) (value : ℤ) (o : Option ℤ) → c.rate a n ≡ o → IsLawful c → IsSpan c a n → 2 ≤ n → n ≤ most_minutes → j < n → stays_below o n (c.track.value a) (c.track.value (a +ℤ pos n)) value ≡ true → c.track.value (a +ℤ pos j) <ℤ value
+below-least : (c : Meaning) (a : ℤ) (n j : ℕ) (value : ℤ) (o : Option ℤ) → c.rate a n ≡ o → IsLawful c → IsSpan c a n → 2 ≤ n → n ≤ MOST_MINUTES → j < n → stays_below o n (c.track.value a) (c.track.value (a +ℤ pos n)) value ≡ true → c.track.value (a +ℤ pos j) <ℤ value
 below-least c a n j value None is lawful span two most few stays = absurd (no_rate-below n _ _ value stays)
 below-least c a n j value (Some rate) is lawful span two most few stays =
     rate-below rate _ _ _ value n (inside-most c a n j rate is lawful span two most few) stays
 
-within-most : (c : Meaning) (a : ℤ) (n j : ℕ) (value : ℤ) (o : Option ℤ) → c.rate a n ≡ o → IsLawful c → IsSpan c a n → 2 ≤ n → n ≤ most_minutes → j < n → stays_within o n (c.track.value a) (c.track.value (a +ℤ pos n)) value ≡ true → c.track.value (a +ℤ pos j) ≤ℤ value
+within-most : (c : Meaning) (a : ℤ) (n j : ℕ) (value : ℤ) (o : Option ℤ) → c.rate a n ≡ o → IsLawful c → IsSpan c a n → 2 ≤ n → n ≤ MOST_MINUTES → j < n → stays_within o n (c.track.value a) (c.track.value (a +ℤ pos n)) value ≡ true → c.track.value (a +ℤ pos j) ≤ℤ value
 within-most c a n j value None is lawful span two most few stays = absurd (no_rate-within n _ _ value stays)
 within-most c a n j value (Some rate) is lawful span two most few stays =
     rate-within rate _ _ _ value n (inside-most c a n j rate is lawful span two most few) stays
@@ -106,7 +106,7 @@ pub under-two : (c : Meaning) (at value a : ℤ) (n : ℕ) → is_under c at val
 unfolding is_under
 under-two c at value a n under = grind (arith, nat_tests)
 
-pub under-few : (c : Meaning) (at value a : ℤ) (n : ℕ) → is_under c at value a n ≡ true → n ≤ most_minutes
+pub under-few : (c : Meaning) (at value a : ℤ) (n : ℕ) → is_under c at value a n ≡ true → n ≤ MOST_MINUTES
 unfolding is_under
 under-few c at value a n under = grind (arith, nat_tests)
 
@@ -165,10 +165,10 @@ and_false : (b : Bool) → false ≡ (b && false)
 and_false true = refl
 and_false false = refl
 
-pub is_under-length : (c : Meaning) (at value a : ℤ) (n : ℕ) → (n < 2) ⊎ (2 ≤ n × most_minutes < n) → false ≡ is_under c at value a n
+pub is_under-length : (c : Meaning) (at value a : ℤ) (n : ℕ) → (n < 2) ⊎ (2 ≤ n × MOST_MINUTES < n) → false ≡ is_under c at value a n
 unfolding is_under
 is_under-length c at value a n other =
-    let e : (nat_le 2 n && nat_le n most_minutes) ≡ false = grind (arith, nat_tests) in rw e refl
+    let e : (nat_le 2 n && nat_le n MOST_MINUTES) ≡ false = grind (arith, nat_tests) in rw e refl
 
 inside-not_by : (at a : ℤ) (n : ℕ) → is_inside at a n ≡ true → int_le (a +ℤ pos n) at ≡ false
 inside-not_by at a n h = grind (arith, ints)
@@ -179,7 +179,7 @@ inside-not_after at a n h = grind (arith, ints)
 pub is_under-inside : (c : Meaning) (at value a : ℤ) (n : ℕ) → is_inside at a n ≡ true → false ≡ is_under c at value a n
 unfolding is_under
 is_under-inside c at value a n inside =
-    rw (inside-not_by at a n inside, inside-not_after at a n inside) (and_false (nat_le 2 n && nat_le n most_minutes))
+    rw (inside-not_by at a n inside, inside-not_after at a n inside) (and_false (nat_le 2 n && nat_le n MOST_MINUTES))
 
 outside-by : (at a : ℤ) (n : ℕ) → is_inside at a n ≡ false → int_lt at a ≡ false → int_le (a +ℤ pos n) at ≡ true
 outside-by at a n h later = grind (arith, ints)
@@ -195,17 +195,17 @@ or_false : (b : Bool) → b ≡ (b || false)
 or_false true = refl
 or_false false = refl
 
-pub is_under-rate : (c : Meaning) (at value a most rate : ℤ) (n : ℕ) → 2 ≤ n → n ≤ most_minutes → is_inside at a n ≡ false → Some rate ≡ c.rate a n → most ≡ twice_most rate n (c.track.value a) (c.track.value (a +ℤ pos n)) → low_enough most value (int_lt at a) ≡ is_under c at value a n
+pub is_under-rate : (c : Meaning) (at value a most rate : ℤ) (n : ℕ) → 2 ≤ n → n ≤ MOST_MINUTES → is_inside at a n ≡ false → Some rate ≡ c.rate a n → most ≡ twice_most rate n (c.track.value a) (c.track.value (a +ℤ pos n)) → low_enough most value (int_lt at a) ≡ is_under c at value a n
 unfolding is_under stays_below stays_within
 is_under-rate c at value a most rate n two few outside told is =
-    let e : (nat_le 2 n && nat_le n most_minutes) ≡ true = grind (arith, nat_tests) in
+    let e : (nat_le 2 n && nat_le n MOST_MINUTES) ≡ true = grind (arith, nat_tests) in
     by_test (int_lt at a)
     (λ after. rw (is, ← told, e, after-not_by at a n after, after) refl)
     (λ before. rw (is, ← told, e, outside-by at a n outside before, before) (or_false _))
 
 pub is_under-unrated : (c : Meaning) (at value a : ℤ) (n : ℕ) → None ≡ c.rate a n → false ≡ is_under c at value a n
 unfolding is_under stays_below stays_within
-is_under-unrated c at value a n told = rw (← told) (no_way (int_le (a +ℤ pos n) at) (int_lt at a) (nat_le 2 n && nat_le n most_minutes))
+is_under-unrated c at value a n told = rw (← told) (no_way (int_le (a +ℤ pos n) at) (int_lt at a) (nat_le 2 n && nat_le n MOST_MINUTES))
   where
     no_way : (p q b : Bool) → false ≡ (b && ((p && false) || (q && false)))
     no_way true true b = and_false b
@@ -213,7 +213,7 @@ is_under-unrated c at value a n told = rw (← told) (no_way (int_le (a +ℤ pos
     no_way false true b = and_false b
     no_way false false b = and_false b
 
-pub rate-small : (c : Meaning) (a : ℤ) (n : ℕ) (rate : ℤ) → IsLawful c → IsSpan c a n → 2 ≤ n → n ≤ most_minutes → Some rate ≡ c.rate a n → (rate *ℤ pos 1024) <ℤ pos (5 * 10 ^ 37)
+pub rate-small : (c : Meaning) (a : ℤ) (n : ℕ) (rate : ℤ) → IsLawful c → IsSpan c a n → 2 ≤ n → n ≤ MOST_MINUTES → Some rate ≡ c.rate a n → (rate *ℤ pos 1024) <ℤ pos (5 * 10 ^ 37)
 rate-small c a n rate lawful span two most is =
     (lawful.rates a n rate (record { first = span.first; last = span.last; some = omega arith; few = most }) (sym is)).small
 

@@ -1,7 +1,7 @@
 -- The cells that show a highest water: those that the rate keeps under it, and halves down to single minutes elsewhere (this project).
 use Rattle.std.specs.Prelude.{ℕ, zero, suc, ◌+◌, ◌-◌, ◌/◌, ℤ, pos, ◌+ℤ◌, ◌*ℤ◌, int_lt, int_le, nat_le, Bool, true, false, ◌&&◌, ◌||◌, Option, Some, None, List, [], ◌∷◌, ◌++◌}
 use Rattle.curve_law.specs.Meaning.{Meaning}
-use Rattle.curve_law.specs.Cover.{most_minutes}
+use Rattle.curve_law.specs.declared.quiet.TheConstants.{MOST_MINUTES}
 use Rattle.highest_water.specs.declared.peak.Peak.{Peak}
 use Rattle.highest_water.specs.declared.peak_cell.PeakCell.{PeakCell}
 use Rattle.highest_water.specs.declared.peak_cell.PeakCell.TheVariants.{Under, Single}
@@ -35,7 +35,7 @@ stays_within (Some rate) n v w value = int_le (twice_most rate n v w) (pos 2 *�
 -- minute, and is not greater, where it begins after it. A cell that holds the minute is not.
 unfoldable pub is_under : Meaning → ℤ → ℤ → ℤ → ℕ → Bool
 is_under c at value a n =
-    nat_le 2 n && nat_le n most_minutes
+    nat_le 2 n && nat_le n MOST_MINUTES
     && ((int_le (a +ℤ pos n) at && stays_below (c.rate a n) n (c.track.value a) (c.track.value (a +ℤ pos n)) value)
     || (int_lt at a && stays_within (c.rate a n) n (c.track.value a) (c.track.value (a +ℤ pos n)) value))
 
@@ -59,9 +59,9 @@ peak_split c at value a n = split_within n c at value a n
 unfoldable pub cover_within : ℕ → Meaning → ℤ → ℤ → ℤ → ℕ → List PeakCell
 cover_within zero c at value a n = []
 cover_within (suc blocks) c at value a n =
-    elim (nat_le n most_minutes) [
+    elim (nat_le n MOST_MINUTES) [
       | true ↦ peak_split c at value a n
-      | false ↦ peak_split c at value a most_minutes ++ cover_within blocks c at value (a +ℤ pos most_minutes) (n - most_minutes)
+      | false ↦ peak_split c at value a MOST_MINUTES ++ cover_within blocks c at value (a +ℤ pos MOST_MINUTES) (n - MOST_MINUTES)
     ]
 
 -- the cells of a span of so many minutes by the minute and the value of its highest water, in blocks of 1,024 minutes from its

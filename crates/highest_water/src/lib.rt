@@ -2,27 +2,41 @@
 //!
 //! A [`Peak`] is the least minute that has a curve's greatest value, that value, and cells that show
 //! it: those in which the curve's rate leaves no room for a value as great, and single minutes.
+//! [`find_peak`] finds one and [`check_peak`] checks one that anybody wrote, as the text that
+//! [`write_peak`] writes and [`read_peak`] reads. `specs/` has each of them.
 #![tactic(auto)]
 
+mod certificate;
 mod checking;
 mod covering;
+mod draft;
+mod fault;
 mod finding;
 mod higher;
 mod judging;
 mod laws;
 mod lengths;
+mod line_reading;
+mod part;
 mod peak;
 mod peak_cell;
 mod peak_cells;
 mod piece;
+mod reading;
+mod telling;
+mod text_laws;
 mod under;
 mod verdict;
 mod waiting;
 mod walk;
 mod worked;
+mod worked_texts;
+mod writing;
 
+pub use certificate::PeakCertificate;
 pub use checking::check_peak;
 pub use covering::peak_cover;
+pub use fault::CertFault;
 pub use finding::find_peak;
 pub use laws::{
     accepted_highest_waters_are_right, agreeing_curves_have_one_highest_water, blocks_are_halved,
@@ -32,8 +46,15 @@ pub use laws::{
 pub use peak::Peak;
 pub use peak_cell::PeakCell;
 pub use peak_cells::PeakCells;
+pub use reading::read_peak;
+pub use telling::verdict_line;
+pub use text_laws::{
+    peak_certificates_have_one_text, peak_readings_go_by_the_grammar, peak_texts_are_short,
+};
 pub use verdict::PeakVerdict;
 pub use worked::{worked_cells_under, worked_covers, worked_minutes, worked_verdicts};
+pub use worked_texts::{worked_peak_readings, worked_peak_texts};
+pub use writing::write_peak;
 
 #[cfg(test)]
 mod hills;

@@ -1,3 +1,4 @@
+pub mod Abouts
 pub mod Listings
 pub mod Records
 pub mod StationLists

@@ -29,6 +29,14 @@ abbrev pub now_line_of : Zone → Units → ℤ → ℤ → Bool → List ℕ
 now_line_of zone units now level rising =
     codes "Now " ++ height_line_of (local_in zone now) level units ++ codes "  " ++ direction_of rising ++ codes "\n"
 
+-- the line of the highest level, and the station's name before it
+abbrev pub highest_line_of : Zone → Units → ℤ → ℤ → List ℕ
+highest_line_of zone units minute level =
+    codes "Highest " ++ height_line_of (local_in zone minute) level units ++ codes "\n"
+
+unfoldable pub highest_text_of : List ℕ → Units → ℤ → ℤ → Zone → List ℕ
+highest_text_of name units minute level zone = name ++ codes "\n" ++ highest_line_of zone units minute level
+
 -- the station's name, its level now, and a line for each event to come
 unfoldable pub clock_text_of : List ℕ → Units → ℤ → ℤ → Bool → List Event → Zone → List ℕ
 clock_text_of name units now level rising events zone =

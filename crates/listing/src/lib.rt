@@ -3,11 +3,14 @@
 //! A line of a listing has the local time with its label, the level in hundredths of the unit, the
 //! unit and the event's name: [`event_line`]. [`plain_events`] puts such lines below the station's
 //! name, [`csv_events`] the same events into records; both are likewise for levels, and
-//! [`clock_text`] begins with the level now. [`stations_text`] lists a book's stations and a table's.
+//! [`clock_text`] begins with the level now, and [`highest_text`] has the highest level alone. [`stations_text`] lists a book's stations and a
+//! table's, and [`about_text`] tells of one.
 //! `specs/` has the layouts.
 #![tactic(auto)]
 
+mod about;
 mod clock;
+mod highest;
 mod plain;
 mod records;
 mod row;
@@ -15,8 +18,10 @@ mod rows;
 mod stations;
 mod worked;
 
+pub use about::about_text;
 pub use clock::clock_text;
 pub use event_text::{event_line, height_line};
+pub use highest::highest_text;
 pub use plain::{plain_events, plain_heights};
 pub use records::{csv_events, csv_heights};
 pub use row::Row;

@@ -5,14 +5,14 @@ ghost use Rattle.harmonics_text.specs.declared.book.Units.{Units};
 ghost use Rattle.harmonics_text.specs.Worked.{pier_book};
 ghost use Rattle.station_table.specs.Worked.{dock_rows};
 ghost use Rattle.zone_time.specs.declared.zone.Zone.{Zone};
-ghost use Rattle.listing.specs.Listings.{plain_events_of, plain_heights_of, clock_text_of};
+ghost use Rattle.listing.specs.Listings.{plain_events_of, plain_heights_of, clock_text_of, highest_text_of};
 ghost use Rattle.listing.specs.Records.{csv_events_of, csv_heights_of};
 ghost use Rattle.listing.specs.StationLists.{stations_text_of};
 ghost use Rattle.event_text.specs.Worked.{high_tide, low_tide};
 ghost use Rattle.listing.specs.Worked.{level_now};
 
-/// Listings in lines: two events, a level by a clock that is behind universal time, and what a
-/// station's clock tells.
+/// Listings in lines: two events, a level by a clock that is behind universal time, what a
+/// station's clock tells, and its highest water.
 pub fn worked_listings()
     ensures events { plain_events_of (codes "Pier") Units.Feet (low_tide ∷ high_tide ∷ []) Zone.Utc
         ≡ codes "Pier\n2000-01-10 06:00 UTC      -1.00 feet  Low Tide\n2000-01-10 11:59 UTC       1.00 feet  High Tide\n" }
@@ -20,6 +20,8 @@ pub fn worked_listings()
         ≡ codes "Pier\n2000-01-09 22:00 -05:00       1.00 feet\n" }
     ensures clock { clock_text_of (codes "Pier") Units.Feet (pos 15791220) (pos 1000000) false (low_tide ∷ []) Zone.Utc
         ≡ codes "Pier\nNow 2000-01-10 03:00 UTC       1.00 feet  Falling\n2000-01-10 06:00 UTC      -1.00 feet  Low Tide\n" }
+    ensures highest { highest_text_of (codes "Pier") Units.Feet (pos 15791040) (pos 1000000) Zone.Utc
+        ≡ codes "Pier\nHighest 2000-01-10 00:00 UTC       1.00 feet\n" }
 {}
 
 /// Listings in records: a name that has a comma and quotes is quoted, and the moment is in universal

@@ -15,7 +15,7 @@ use Rattle.tide_fault.specs.declared.refusal.Refusal.{Refusal}
 use Rattle.tide_fault.specs.declared.refusal.Refusal.TheVariants.{NoReference, OutOfYears}
 use Rattle.station_span.specs.declared.station.Found.{Found}
 use Rattle.tide_fault.specs.Faults.{IsToldRefusal}
-use Rattle.station_span.specs.Sites.{Site, basis_from, level_unit, span_in, tide_from, length_in, mark_in, site_at, site_in}
+use Rattle.station_span.specs.Sites.{Site, basis_from, level_unit, span_in, tide_from, length_in, mark_in, site_at, site_in, station_in}
 use Rattle.station_span.specs.Workings.Spans.{FindsIn}
 
 pub excused_then : {A B : Type 0} (memory : Bool) (step : Result A Refusal) (next : A → Result B Refusal) (refusal : Refusal) → Excused memory step refusal → Excused memory (step >>= next) refusal
@@ -60,6 +60,10 @@ unfolding site_at
 found_whole reach book site asked units tide has few mark = rw (has.unit, has.span, has.curve, few, mark) refl
 
 -- ---- a station by its name
+
+pub known_whole : (book : Book) (table : List Offsets) (name : List ℕ) (site : Site) (units : Units) (tide : Tide) → basis_from (basis_of book table name) ≡ Ok site.basis → slice_get book.stations site.basis.station ≡ Some site.station → level_unit site.station.units ≡ Ok units → tide_from (curve_of book site.station) ≡ Ok tide → station_in book table name ≡ Ok site
+unfolding station_in
+known_whole book table name site units tide from is unit curve = rw (from, is, unit, curve) refl
 
 found_by : (reach : Reach) (book : Book) (table : List Offsets) (name : List ℕ) (asked : Asked) (basis : Basis) (station : Station) → basis_from (basis_of book table name) ≡ Ok basis → slice_get book.stations basis.station ≡ Some station → site_in reach book table name asked ≡ site_at reach book (record { basis = basis; station = station }) asked
 unfolding site_in

@@ -51,7 +51,7 @@ tide_years book found first count are = rw (first, count) are
 in_tide : (book : Book) (found : Found) (minute : ℤ) → found.curve.first_year ≡ book.first_year → length found.curve.years ≡ book.years → InDomain book.first_year book.years minute → InTide found.curve minute
 in_tide book found minute first count inside = rw (first, count) inside
 
-in_book : (book : Book) (found : Found) (minute : ℤ) → found.curve.first_year ≡ book.first_year → length found.curve.years ≡ book.years → InTide found.curve minute → InDomain book.first_year book.years minute
+pub in_book : (book : Book) (found : Found) (minute : ℤ) → found.curve.first_year ≡ book.first_year → length found.curve.years ≡ book.years → InTide found.curve minute → InDomain book.first_year book.years minute
 in_book book found minute first count inside = rw (sym first, sym count) inside
 
 -- where levels are asked, the span's

@@ -3,6 +3,7 @@ pub mod FoundLemmas
 pub mod LevelLemmas
 pub mod MovableLemmas
 pub mod NameLemmas
+pub mod PeakLemmas
 pub mod SiteLemmas
 pub mod SpanLemmas
 pub mod TellLemmas

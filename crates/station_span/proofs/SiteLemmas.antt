@@ -32,7 +32,7 @@ use Rattle.station_span.specs.declared.reach.Reach.{Reach}
 use Rattle.station_span.specs.declared.reach.Reach.TheVariants.{Events}
 use Rattle.tide_fault.specs.declared.refusal.Refusal.TheVariants.{NoStation}
 use Rattle.station_span.specs.declared.station.Found.{Found}
-use Rattle.station_span.specs.Sites.{Site, basis_from, level_unit, reached, has_span, span_in, tide_from, length_in, mark_in, span_limit, site_at, site_in}
+use Rattle.station_span.specs.Sites.{Site, basis_from, lacks_minute, level_unit, reached, has_span, span_in, tide_from, length_in, mark_in, span_limit, site_at, site_in}
 use Rattle.station_span.specs.Workings.Spans.{HasLevels, IsBeside, IsFound, IsNear, IsNearSpan, IsReached}
 use Rattle.station_span.proofs.FoundLemmas.{HasCurve}
 use Rattle.station_span.proofs.SpanLemmas.{book_years, has_offsets, reached_span}
@@ -116,13 +116,15 @@ mark_here basis (Some mark) ok level is = by_test (is_equal basis)
     (λ equal. rw equal refl)
     (λ other. absurd (let none = rw other at ok in cc))
 
-span_tests : (reach : Reach) (book : Book) (basis : Basis) (begin end : ℤ) → span_in reach book basis begin end ≡ Ok tt → (int_lt end begin ≡ false) × (has_span book (reached reach basis begin end) ≡ true)
+span_tests : (reach : Reach) (book : Book) (basis : Basis) (begin end : ℤ) → span_in reach book basis begin end ≡ Ok tt → (int_lt end begin ≡ false) × (lacks_minute reach begin end ≡ false) × (has_span book (reached reach basis begin end) ≡ true)
 unfolding span_in
 span_tests reach book basis begin end ok = by_test (int_lt end begin)
     (λ backward. absurd (let none = rw backward at ok in cc))
-    (λ forward. by_test (has_span book (reached reach basis begin end))
-    (λ inside. (forward, inside))
-    (λ outside. absurd (let none = rw (forward, outside) at ok in cc)))
+    (λ forward. by_test (lacks_minute reach begin end)
+    (λ lacking. absurd (let none = rw (forward, lacking) at ok in cc))
+    (λ some. by_test (has_span book (reached reach basis begin end))
+    (λ inside. (forward, some, inside))
+    (λ outside. absurd (let none = rw (forward, some, outside) at ok in cc))))
 
 -- ---- the basis
 
@@ -223,7 +225,7 @@ events_reached book basis asked has near ok =
     let tests = span_tests Events book basis asked.begin asked.end ok in
     let forward : asked.begin ≤ℤ asked.end = (let test = tests.0 in grind (arith, ints)) in
     let both = span_near asked.begin asked.end (least_add basis) (greatest_add basis) forward near.begin near.end (basis_adds basis has) in
-    reached_span Events book basis asked.begin asked.end tests.0 tests.1 both.0 both.1
+    reached_span Events book basis asked.begin asked.end tests.0 tests.1 tests.2 both.0 both.1
 
 -- ---- a site that was found has a tide that predicts it
 

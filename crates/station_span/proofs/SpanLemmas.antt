@@ -12,7 +12,7 @@ use Rattle.year_blend.specs.Years.{year_start_of}
 use Rattle.year_blend.proofs.YearLemmas.{year_start_of_low, year_start_of_high, year_start_of_mono}
 use Rattle.zone_time.specs.Moments.{IsMoment}
 use Rattle.station_span.specs.declared.reach.Reach.{Reach}
-use Rattle.station_span.specs.Sites.{reached, has_minute, has_span}
+use Rattle.station_span.specs.Sites.{lacks_minute, reached, has_minute, has_span}
 use Rattle.station_span.specs.Workings.Spans.{IsBeside, IsFileMinute, IsNearSpan, IsReached}
 
 -- the minutes of a file's years have dates
@@ -33,10 +33,10 @@ both_true true true h = (refl, refl)
 both_true true false h = (refl, h)
 both_true false b h = (h, absurd (cc))
 
-pub reached_span : (reach : Reach) (book : Book) (basis : Basis) (begin end : ℤ) → int_lt end begin ≡ false → has_span book (reached reach basis begin end) ≡ true → IsNearSpan (reached reach basis begin end) → IsBeside begin end (reached reach basis begin end) → IsReached reach book basis begin end
-reached_span reach book basis begin end forward inside near beside =
+pub reached_span : (reach : Reach) (book : Book) (basis : Basis) (begin end : ℤ) → int_lt end begin ≡ false → lacks_minute reach begin end ≡ false → has_span book (reached reach basis begin end) ≡ true → IsNearSpan (reached reach basis begin end) → IsBeside begin end (reached reach basis begin end) → IsReached reach book basis begin end
+reached_span reach book basis begin end forward some inside near beside =
     let both = both_true _ _ inside in
-    record { forward = grind (arith, ints); begins = in_domain book _ both.0; ends = in_domain book _ both.1; near = near; beside = beside }
+    record { forward = grind (arith, ints); begins = in_domain book _ both.0; ends = in_domain book _ both.1; near = near; beside = beside; some = some }
 
 pub has_offsets : (stations : ℕ) (basis : Basis) → IsBasis stations basis → HasOffsets basis
 has_offsets stations basis is = record { high = is.high; low = is.low; slack = is.slack }

@@ -1,4 +1,5 @@
 pub mod Following
 pub mod Levels
+pub mod Peaks
 pub mod Sites
 pub mod Workings

@@ -1,5 +1,5 @@
 -- The steps that every question about a station's span goes through, in the order of refusals (this project).
-use Rattle.std.specs.Prelude.{ℕ, ℤ, pos, ◌+ℤ◌, ◌-ℤ◌, int_lt, int_le, Bool, ◌&&◌, if◌then◌else◌, List, Option, Some, None, Result, Ok, Err, slice_get}
+use Rattle.std.specs.Prelude.{ℕ, ℤ, pos, ◌+ℤ◌, ◌-ℤ◌, int_lt, int_le, Bool, true, false, ◌&&◌, if◌then◌else◌, List, Option, Some, None, Result, Ok, Err, slice_get}
 use Rattle.std.specs.Option.{ok_or}
 use Rattle.decimal_text.specs.Expected.{◌>>=◌}
 use Rattle.event_list.specs.declared.span.Span.{Span}
@@ -18,9 +18,9 @@ use Rattle.station_table.specs.Bases.{basis_of, is_equal}
 use Rattle.year_blend.specs.Years.{year_start_of}
 use Rattle.station_span.specs.declared.asked.Asked.{Asked}
 use Rattle.station_span.specs.declared.reach.Reach.{Reach}
-use Rattle.station_span.specs.declared.reach.Reach.TheVariants.{Events, Levels}
+use Rattle.station_span.specs.declared.reach.Reach.TheVariants.{Events, Levels, Highest}
 use Rattle.tide_fault.specs.declared.refusal.Refusal.{Refusal}
-use Rattle.tide_fault.specs.declared.refusal.Refusal.TheVariants.{NoStation, Hydraulic, BackwardSpan, OutOfYears, SpanTooLong, MarkNotHere}
+use Rattle.tide_fault.specs.declared.refusal.Refusal.TheVariants.{NoStation, Hydraulic, BackwardSpan, EmptySpan, OutOfYears, SpanTooLong, MarkNotHere}
 use Rattle.tide_fault.specs.Faults.{refusal_of_curve, refusal_of_find}
 
 -- a station of a book, and the offsets from it
@@ -48,11 +48,24 @@ level_unit KnotsSquared = Err Hydraulic
 
 -- the minutes of the reference that are looked at: for events all that offsets can move into the span, and for levels,
 -- where all have one offset, the span itself moved by it
-abbrev pub reached : Reach → Basis → ℤ → ℤ → Span
-reached Events basis begin end = widened_of basis begin end
-reached Levels basis begin end =
+abbrev pub moved : Basis → ℤ → ℤ → Span
+moved basis begin end =
     if is_equal basis then record { begin = begin -ℤ basis.high.add; end = end -ℤ basis.high.add }
     else widened_of basis begin end
+
+abbrev pub reached : Reach → Basis → ℤ → ℤ → Span
+reached Events basis begin end = widened_of basis begin end
+reached Levels basis begin end = moved basis begin end
+reached Highest basis begin end = moved basis begin end
+
+-- no minute has a highest level
+abbrev pub needs_minute : Reach → Bool
+needs_minute Events = false
+needs_minute Levels = false
+needs_minute Highest = true
+
+unfoldable pub lacks_minute : Reach → ℤ → ℤ → Bool
+lacks_minute reach begin end = needs_minute reach && int_le end begin
 
 -- whether a minute is one of the file's years, or the one after the last
 abbrev pub has_minute : Book → ℤ → Bool
@@ -67,6 +80,7 @@ has_span book span = has_minute book span.begin && has_minute book span.end
 unfoldable pub span_in : Reach → Book → Basis → ℤ → ℤ → Result (Unit {0}) Refusal
 span_in reach book basis begin end =
     if int_lt end begin then Err BackwardSpan
+    else if lacks_minute reach begin end then Err EmptySpan
     else if has_span book (reached reach basis begin end) then Ok tt
     else Err (OutOfYears (year_start_of book.first_year) (year_start_of (book.first_year +ℤ pos book.years)))
 
@@ -102,3 +116,12 @@ site_in reach book table name asked = do
   basis ← basis_from (basis_of book table name)
   station ← ok_or (slice_get book.stations basis.station) NoStation
   site_at reach book (record { basis = basis; station = station }) asked
+
+-- the station of a name, where its reference has a curve
+unfoldable pub station_in : Book → List Offsets → List ℕ → Result Site Refusal
+station_in book table name = do
+  basis ← basis_from (basis_of book table name)
+  station ← ok_or (slice_get book.stations basis.station) NoStation
+  units ← level_unit station.units
+  tide ← tide_from (curve_of book station)
+  Ok (record { basis = basis; station = station })

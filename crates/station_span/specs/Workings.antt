@@ -1,4 +1,5 @@
 pub mod Curves
 pub mod Levels
+pub mod Peaks
 pub mod Spans
 pub mod Telling

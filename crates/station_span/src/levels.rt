@@ -45,8 +45,8 @@ pub fn is_rising(found: &Found, minute: i64) -> bool
     found.curve.slope(source(found, minute)) > 0
 }
 
-// The reference's minute whose level is moved to a minute.
-fn source(found: &Found, minute: i64) -> i64
+/// The reference's minute whose level is moved to a minute.
+pub fn source(found: &Found, minute: i64) -> i64
     requires { HasLevel found.now minute }
     ensures { result ≡ source_of found.now minute }
 {

@@ -3,14 +3,16 @@
 //! [`find_station`] goes the way of every question about a station: its name, its unit, the span, the
 //! limits and the mark, and stops at the first refusal. What is found has curves ([`turn_curve`],
 //! [`slack_curve`], [`mark_curve`]), events ([`find_events`], or one at a time by [`merge_of`]) and
-//! levels ([`level_at`], [`is_rising`]). `specs/Sites.antt` has the order of the refusals, and
+//! levels ([`level_at`], [`is_rising`]) and a highest water ([`find_highest`], [`judge_highest`]). `specs/Sites.antt` has the order of the refusals, and
 //! `specs/Following.antt` which curves are followed.
 #![tactic(auto)]
 
 mod asked;
 mod curves;
 mod following;
+mod knowing;
 mod levels;
+mod peaks;
 mod reach;
 mod station;
 mod worked;
@@ -20,7 +22,9 @@ pub use curves::{mark_curve, slack_curve, turn_curve};
 pub use following::{
     Listed, find_events, list_station, mark_search, merge_of, slack_search, turn_search,
 };
+pub use knowing::find_known;
 pub use levels::{check_level, is_rising, level_at, worked_levels};
+pub use peaks::{find_highest, find_level, judge_highest, moved_minute};
 pub use reach::Reach;
 pub use station::{Found, find_station, reached};
 pub use worked::worked_spans;

@@ -7,4 +7,6 @@ pub enum Reach {
     Events,
     /// Those whose levels are asked.
     Levels,
+    /// Those of which the highest level is asked: at least one.
+    Highest,
 }

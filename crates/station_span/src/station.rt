@@ -9,7 +9,7 @@ ghost use Rattle.station_curve.specs.Curves.{curve_of, Predicts};
 ghost use Rattle.station_curve.specs.Limits.{IsGentle};
 ghost use Rattle.station_table.specs.Bases.{IsBasis, basis_of, is_equal};
 ghost use Rattle.tide_fault.specs.Faults.{wants_memory_of_refusal, IsToldRefusal};
-ghost use Rattle.station_span.specs.Sites.{basis_from, site_in, site_at, level_unit, reached, has_minute, has_span, span_in, length_in, mark_in, span_limit, tide_from};
+ghost use Rattle.station_span.specs.Sites.{basis_from, site_in, site_at, lacks_minute, level_unit, moved, reached, has_minute, has_span, span_in, length_in, mark_in, span_limit, tide_from};
 ghost use Rattle.station_span.specs.Workings.Spans.{IsBeside, IsNear, IsNearSpan, HasLevels, IsReached, FindsIn};
 ghost use Rattle.year_blend.specs.Places.{AreYears, InDomain};
 ghost use Rattle.year_blend.specs.Years.{year_start_of};
@@ -58,7 +58,7 @@ pub fn find_station(
     find_at(alloc, book, reach, basis, station, asked)
 }
 
-fn find_basis(book: &SoundBook<'_>, table: &OffsetTable, name: &Text) -> Result<Basis, Refusal>
+pub fn find_basis(book: &SoundBook<'_>, table: &OffsetTable, name: &Text) -> Result<Basis, Refusal>
     ensures exact { result ≡ basis_from (basis_of book.now table.now name.now) }
     ensures sound { IfOk result (IsBasis (length book.now.stations)) }
     ensures named { OnOk result (IsStationName name.now) }
@@ -99,14 +99,14 @@ fn find_at(
     })
 }
 
-fn station_at(book: &Book, place: u32) -> &Station
+pub fn station_at(book: &Book, place: u32) -> &Station
     requires { place < length book.now.stations }
     ensures { slice_get book.now.stations place ≡ Some result.now }
 {
     &book.stations.as_slice()[place as usize]
 }
 
-fn level_units(units: Units) -> Result<Units, Refusal>
+pub fn level_units(units: Units) -> Result<Units, Refusal>
     ensures exact { result ≡ level_unit units }
     ensures levels { IfOk result HasLevels }
     ensures same { IfOk result (λ same. same ≡ units) }
@@ -136,6 +136,9 @@ fn check_span(
     if is_backward(asked) {
         return Err(Refusal::BackwardSpan);
     }
+    if lacks_minute(reach, asked) {
+        return Err(Refusal::EmptySpan);
+    }
     let span = reached(reach, basis, asked);
     let first = first_minute(book);
     let last = last_minute(book);
@@ -152,6 +155,13 @@ fn is_backward(asked: &Asked) -> bool
     asked.end < asked.begin
 }
 
+#[tactic(auto, unfolding(crate::specs::Sites::lacks_minute))]
+fn lacks_minute(reach: Reach, asked: &Asked) -> bool
+    ensures { result ≡ lacks_minute reach asked.now.begin asked.now.end }
+{
+    matches!(reach, Reach::Highest) && asked.end <= asked.begin
+}
+
 /// The minutes of the reference that are looked at.
 pub fn reached(reach: Reach, basis: &Basis, asked: &Asked) -> Span
     requires offsets { HasOffsets basis.now }
@@ -163,8 +173,24 @@ pub fn reached(reach: Reach, basis: &Basis, asked: &Asked) -> Span
     ensures beside { IsBeside asked.now.begin asked.now.end result }
 {
     match reach {
-        Reach::Levels if basis.equal() => level_span(basis, asked),
-        _ => widened(basis, asked.begin, asked.end),
+        Reach::Events => widened(basis, asked.begin, asked.end),
+        Reach::Levels | Reach::Highest => moved(basis, asked),
+    }
+}
+
+fn moved(basis: &Basis, asked: &Asked) -> Span
+    requires offsets { HasOffsets basis.now }
+    requires near { IsNear asked.now }
+    requires forward { asked.now.begin ≤ℤ asked.now.end }
+    ensures exact { result ≡ moved basis.now asked.now.begin asked.now.end }
+    ensures forward { result.begin ≤ℤ result.end }
+    ensures near { IsNearSpan result }
+    ensures beside { IsBeside asked.now.begin asked.now.end result }
+{
+    if basis.equal() {
+        level_span(basis, asked)
+    } else {
+        widened(basis, asked.begin, asked.end)
     }
 }
 
@@ -220,7 +246,7 @@ fn last_minute(book: &SoundBook<'_>) -> i64
     year_start(book.first_year + book.years as i32)
 }
 
-fn curve_at(
+pub fn curve_at(
     alloc: Global,
     book: &SoundBook<'_>,
     place: u32,

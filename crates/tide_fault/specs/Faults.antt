@@ -24,7 +24,7 @@ use Rattle.zone_time.specs.Moments.{IsMoment, moment_text}
 use Rattle.tide_fault.specs.declared.fault.Fault.{Fault}
 use Rattle.tide_fault.specs.declared.fault.Fault.TheVariants.{Ask, TooLong, Book, Offsets, BadZone, Refused}
 use Rattle.tide_fault.specs.declared.refusal.Refusal.{Refusal}
-use Rattle.tide_fault.specs.declared.refusal.Refusal.TheVariants.{NoMemory, NotBuilt, NotACertificate, BadSample, NoStation, NoReference, Hydraulic, BackwardSpan, OutOfYears, TooLarge, TooSteep, SpanTooLong, MarkNotHere, LevelNotHere, TooManyRows}
+use Rattle.tide_fault.specs.declared.refusal.Refusal.TheVariants.{NoMemory, NotBuilt, NotACertificate, BadSample, NoStation, NoReference, Hydraulic, BackwardSpan, EmptySpan, OutOfYears, TooLarge, TooSteep, SpanTooLong, MarkNotHere, LevelNotHere, TooManyRows}
 use Rattle.tide_fault.specs.declared.slot.Slot.{Slot}
 use Rattle.tide_fault.specs.declared.slot.Slot.TheVariants as slots
 use Rattle.tide_fault.specs.declared.status.Status.{Status}
@@ -53,6 +53,7 @@ status_of_refusal NoStation = status.Refused
 status_of_refusal (NoReference row) = status.Refused
 status_of_refusal Hydraulic = status.Refused
 status_of_refusal BackwardSpan = status.Refused
+status_of_refusal EmptySpan = status.Refused
 status_of_refusal (OutOfYears first last) = status.Refused
 status_of_refusal (TooLarge year) = status.Limit
 status_of_refusal (TooSteep year) = status.Limit
@@ -129,6 +130,7 @@ refusal_line rows NoStation = codes "refused: no station\n"
 refusal_line rows (NoReference place) = reference_line (reference_at rows place)
 refusal_line rows Hydraulic = codes "refused: hydraulic\n"
 refusal_line rows BackwardSpan = codes "refused: backward span\n"
+refusal_line rows EmptySpan = codes "refused: empty span\n"
 refusal_line rows (OutOfYears first last) = years_line first last
 refusal_line rows (TooLarge year) = codes "limit: too large in " ++ signed_decimal year ++ codes "\n"
 refusal_line rows (TooSteep year) = codes "limit: too steep in " ++ signed_decimal year ++ codes "\n"

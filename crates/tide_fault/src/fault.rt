@@ -79,6 +79,7 @@ fn refusal_status(refusal: Refusal) -> Status
         | Refusal::NoReference { .. }
         | Refusal::Hydraulic
         | Refusal::BackwardSpan
+        | Refusal::EmptySpan
         | Refusal::OutOfYears { .. }
         | Refusal::MarkNotHere
         | Refusal::LevelNotHere => Status::Refused,

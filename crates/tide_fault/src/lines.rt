@@ -131,6 +131,7 @@ fn refusal_text(alloc: Global, refusal: Refusal, table: &OffsetTable) -> Result<
         Refusal::NoReference { row } => reference_text(alloc, reference_at(table, row)),
         Refusal::Hydraulic => String::from_str(alloc, "refused: hydraulic\n"),
         Refusal::BackwardSpan => String::from_str(alloc, "refused: backward span\n"),
+        Refusal::EmptySpan => String::from_str(alloc, "refused: empty span\n"),
         Refusal::OutOfYears { first, last } => years_text(alloc, first, last),
         Refusal::TooLarge { year } => format!(in alloc; "limit: too large in {year}\n"),
         Refusal::TooSteep { year } => format!(in alloc; "limit: too steep in {year}\n"),

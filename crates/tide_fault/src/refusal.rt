@@ -24,6 +24,8 @@ pub enum Refusal {
     Hydraulic,
     /// The span ends before it begins.
     BackwardSpan,
+    /// The span has no minute, where the highest water of it is asked.
+    EmptySpan,
     /// The span isn't in the file's years: with the file's first minute and the one after its last.
     OutOfYears { first: i64, last: i64 },
     /// The first year in which the amplitudes sum to too much.

@@ -16,6 +16,7 @@ pub fn worked_lines()
     ensures missing { line_of [] (Fault.Ask (AskFault.MissingKey Key.Station)) ≡ codes "words: station is missing\n" }
     ensures long { line_of [] (Fault.TooLong Slot.Certificate) ≡ codes "certificate: too long\n" }
     ensures not_built { line_of [] (Fault.Refused Refusal.NotBuilt) ≡ codes "refused: not built\n" }
+    ensures empty { line_of [] (Fault.Refused Refusal.EmptySpan) ≡ codes "refused: empty span\n" }
     ensures words { status_of (Fault.Ask (AskFault.RepeatedKey 2)) ≡ Status.Words }
     ensures file { status_of (Fault.TooLong Slot.Offsets) ≡ Status.FileRefused }
     ensures memory { status_of (Fault.Refused Refusal.NoMemory) ≡ Status.NoMemory }

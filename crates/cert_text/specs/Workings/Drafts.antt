@@ -1,29 +1,14 @@
 -- The inner account of reading line by line: what a draft knows, and the draft after one more line (this project).
-use Rattle.std.specs.Prelude.{◌≡◌, ℕ, ◌+◌, ◌==◌, ℤ, pos, Bool, true, false, ◌&&◌, if◌then◌else◌, List, [], ◌∷◌, ◌++◌, length, Option, Some, None, is_some, Result, Ok, Err, codes}
-use Rattle.std.specs.List.{slice_split}
-use Rattle.std.specs.Option.{option_map, ok_or}
+use Rattle.std.specs.Prelude.{ℕ, ℤ, pos, Bool, true, false, if◌then◌else◌, List, [], ◌∷◌, ◌++◌, Option, Some, None, is_some, codes}
+use Rattle.std.specs.Option.{option_map}
 use Rattle.std.specs.Str.{bytes_eq}
-use Rattle.decimal_text.specs.Expected.{◌>>=◌}
 use Rattle.curve_law.specs.declared.cell.Cell.{Cell}
 use Rattle.cert_text.specs.declared.certificate.Certificate.{Certificate}
-use Rattle.cert_text.specs.declared.fault.CertFault.{CertFault}
-use Rattle.cert_text.specs.declared.fault.CertFault.TheVariants.{NoMemory, NotACertificate}
-use Rattle.cert_text.specs.declared.fault.LineFault.{LineFault}
-use Rattle.cert_text.specs.declared.fault.LineFault.TheVariants as lines
 use Rattle.cert_text.specs.declared.track_name.TrackName.TheVariants as tracks
 use Rattle.cert_text.specs.declared.part.Part.{Part}
 use Rattle.cert_text.specs.declared.part.Part.TheVariants.{Title, Station, Begin, End, Mark, Heading, Turn, Slack, Crossings, Done}
 use Rattle.cert_text.specs.declared.draft.Draft.{Draft}
 use Rattle.cert_text.specs.Workings.LineReading.{version_of, station_of, moment_after, mark_of, cell_of}
-
--- ---- lines
-
-abbrev pub is_lf : ℕ → Bool
-is_lf b = b == 10
-
--- the lines that LF ends, and then what follows the last LF
-abbrev pub pieces : List ℕ → List (List ℕ)
-pieces bytes = slice_split is_lf bytes
 
 -- ---- the draft after one more line
 
@@ -104,20 +89,6 @@ next_at Done d line = None
 unfoldable pub next : Draft → List ℕ → Option Draft
 next d line = next_at d.part d line
 
--- what a call that takes a line says: the draft after it, or that there is none; want of memory says nothing
-abbrev pub TakesFault : Option Draft → LineFault → Type 0
-TakesFault expected lines.NoMemory = Unit {0}
-TakesFault expected lines.Bad = expected ≡ None
-
-abbrev pub Takes : Option Draft → Draft → Result (Unit {0}) LineFault → Type 0
-Takes expected new (Ok _) = expected ≡ Some new
-Takes expected new (Err fault) = TakesFault expected fault
-
--- a line's fault as a certificate's
-abbrev pub placed : ℕ → LineFault → CertFault
-placed line lines.NoMemory = NoMemory
-placed line lines.Bad = NotACertificate line
-
 -- ---- to the end
 
 abbrev pub if_there : Bool → List Cell → Option (List Cell)
@@ -147,13 +118,6 @@ is_done Slack = false
 is_done Crossings = false
 is_done Done = true
 
-abbrev pub finished : Draft → ℕ → List ℕ → Result Certificate CertFault
-finished d number rest =
-    if is_done d.part && (length rest == 0) then Ok (certificate_in d) else Err (NotACertificate number)
-
--- what comes of a draft before a line of that number, and the lines from there on; the last of them is what no LF ends
-unfoldable pub read_from : Draft → ℕ → List (List ℕ) → Result Certificate CertFault
-read_from d number [] = Err (NotACertificate number)
-read_from d number (rest ∷ []) = finished d number rest
-read_from d number (line ∷ more ∷ lines) =
-    ok_or (next d line) (NotACertificate number) >>= λ e. read_from e (number + 1) (more ∷ lines)
+-- the certificate, where the last line has come
+abbrev pub whole : Draft → Option Certificate
+whole d = if is_done d.part then Some (certificate_in d) else None

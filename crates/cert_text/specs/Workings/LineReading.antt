@@ -12,27 +12,28 @@ use Rattle.decimal_text.specs.Digits.{digits_of}
 use Rattle.zone_time.specs.Moments.{moment_of}
 use Rattle.cert_text.specs.declared.track_name.TrackName.{TrackName}
 use Rattle.cert_text.specs.declared.track_name.TrackName.TheVariants.{Turn, Slack, Mark}
+use Rattle.cert_text.specs.declared.numbers.TheConstants.{LEVEL_DIGITS}
 use Rattle.cert_text.specs.Lines.{front_of}
 
 -- what follows a word at the front
 unfoldable pub after : List ℕ → List ℕ → Option (List ℕ)
 after word line = if bytes_eq (take (length word) line) word then Some (drop (length word) line) else None
 
--- one to fourteen digits, and no 0 before others
-unfoldable pub size_of : List ℕ → Option ℕ
-size_of text = if nat_lt 1 (length text) && slice_index text 0 == 48 then None else digits_of 14 text
+-- one digit or more, at most so many, and no 0 before others
+unfoldable pub size_of : ℕ → List ℕ → Option ℕ
+size_of most text = if nat_lt 1 (length text) && slice_index text 0 == 48 then None else digits_of most text
 
 abbrev pub negative : ℕ → Option ℤ
 negative zero = None
 negative (suc n) = Some (negsuc n)
 
 -- the number of a text, and of what follows a minus, if one stands first
-abbrev pub number_from : Option (List ℕ) → List ℕ → Option ℤ
-number_from None text = option_map pos (size_of text)
-number_from (Some digits) text = option_and_then negative (size_of digits)
+abbrev pub number_from : ℕ → Option (List ℕ) → List ℕ → Option ℤ
+number_from most None text = option_map pos (size_of most text)
+number_from most (Some digits) text = option_and_then negative (size_of most digits)
 
-unfoldable pub number_of : List ℕ → Option ℤ
-number_of text = number_from (after (codes "-") text) text
+unfoldable pub number_of : ℕ → List ℕ → Option ℤ
+number_of most text = number_from most (after (codes "-") text) text
 
 unfoldable pub version_of : List ℕ → Option ℕ
 version_of line =
@@ -62,16 +63,16 @@ mark_within mark = if nat_le (unsigned_abs mark) 10000000000 then Some (Some mar
 unfoldable pub mark_of : List ℕ → Option (Option ℤ)
 mark_of line =
     if bytes_eq line (codes "mark none") then Some None
-    else option_and_then mark_within (option_and_then number_of (after (codes "mark ") line))
+    else option_and_then mark_within (option_and_then (number_of LEVEL_DIGITS) (after (codes "mark ") line))
 
 abbrev pub quiet_for : ℕ → Option Cell
 quiet_for n = if nat_le 2 n && nat_le n MOST_MINUTES then Some (cells.Quiet n) else None
 
 unfoldable pub quiet_of : List ℕ → Option Cell
-quiet_of line = option_and_then quiet_for (option_and_then size_of (after (codes "q ") line))
+quiet_of line = option_and_then quiet_for (option_and_then (size_of LEVEL_DIGITS) (after (codes "q ") line))
 
 unfoldable pub turn_of : Kind → List ℕ → Option Cell
-turn_of kind line = option_map (λ level. cells.Turn kind level) (option_and_then number_of (after (front_of kind) line))
+turn_of kind line = option_map (λ level. cells.Turn kind level) (option_and_then (number_of LEVEL_DIGITS) (after (front_of kind) line))
 
 abbrev pub first_kind : TrackName → Kind
 first_kind Turn = High

@@ -1,5 +1,5 @@
 -- What the steps of an answer hand on to each other.
-use Rattle.std.specs.Prelude.{◌≡◌, ℤ, negsuc, pos, ◌-ℤ◌, ◌≤ℤ◌, ◌≤◌, unsigned_abs, length, IsTrue, Result, Ok, Err}
+use Rattle.std.specs.Prelude.{◌≡◌, ℤ, negsuc, pos, ◌-ℤ◌, ◌≤ℤ◌, ◌≤◌, unsigned_abs, length, false, IsTrue, Result, Ok, Err}
 use Rattle.std.specs.Option.{ForSome}
 use Rattle.decimal_text.specs.Expected.{Excused}
 use Rattle.event_list.specs.declared.span.Span.{Span}
@@ -17,7 +17,7 @@ use Rattle.station_span.specs.declared.reach.Reach.{Reach}
 use Rattle.tide_fault.specs.declared.refusal.Refusal.{Refusal}
 use Rattle.station_span.specs.declared.station.Found.{Found}
 use Rattle.tide_fault.specs.Faults.{wants_memory_of_refusal}
-use Rattle.station_span.specs.Sites.{Site, reached, span_limit}
+use Rattle.station_span.specs.Sites.{Site, lacks_minute, reached, span_limit}
 
 -- a span that a question, a certificate or a clock can name
 pub record IsNear (asked : Asked) : Type 0 where
@@ -48,6 +48,7 @@ pub record IsReached (reach : Reach) (book : Book) (basis : Basis) (begin end : 
   pub ends : InDomain book.first_year book.years (reached reach basis begin end).end
   pub near : IsNearSpan (reached reach basis begin end)
   pub beside : IsBeside begin end (reached reach basis begin end)
+  pub some : lacks_minute reach begin end ≡ false
 
 -- any but a hydraulic current has levels
 abbrev pub HasLevels : Units → Type 0
@@ -78,3 +79,17 @@ pub record IsFound (reach : Reach) (book : Book) (asked : Asked) (site : Site) (
 abbrev pub FindsIn : Reach → Book → Asked → Result Site Refusal → Result Found Refusal → Type 0
 FindsIn reach book asked expected (Ok found) = (site : Site) × (expected ≡ Ok site) × IsFound reach book asked site found
 FindsIn reach book asked expected (Err refusal) = Excused (wants_memory_of_refusal refusal) expected refusal
+
+-- what is known of a site without a span: its curve predicts it
+pub record IsKnown (book : Book) (site : Site) (found : Found) : Type 0 where
+  pub basis : found.basis ≡ site.basis
+  pub sound : IsBasis (length book.stations) found.basis
+  pub units : found.units ≡ site.station.units
+  pub levels : HasLevels found.units
+  pub predicts : Predicts book site.station found.curve
+  pub gentle : IsGentle found.curve
+
+-- the expected site is known, or the expected refusal given
+abbrev pub Knows : Book → Result Site Refusal → Result Found Refusal → Type 0
+Knows book expected (Ok found) = (site : Site) × (expected ≡ Ok site) × IsKnown book site found
+Knows book expected (Err refusal) = Excused (wants_memory_of_refusal refusal) expected refusal

@@ -15,7 +15,8 @@ use Rattle.cert_text.specs.Worked.{pier, pier_lines}
 use Rattle.cert_text.proofs.ReadingLemmas.{certificate_of-text}
 use Rattle.decimal_text.specs.Digits.{digits_of}
 use Rattle.cert_text.specs.Workings.LineReading.{after, size_of, number_of, version_of, station_of, moment_after, mark_of, quiet_of, turn_of, cell_of}
-use Rattle.cert_text.specs.Workings.Drafts.{next, read_from}
+use Rattle.cert_text.specs.ByLine.{read_from}
+use Rattle.cert_text.specs.Workings.Drafts.{next}
 use Rattle.cert_text.specs.Readings.{certificate_of}
 use Rattle.cert_text.proofs.worked.worked_readings.Goals as goal
 

@@ -1,0 +1,54 @@
+-- Reading line by line. What is read so far is a draft, which the next line makes another one, or can't stand behind (this project).
+use Rattle.std.specs.Prelude.{◌≡◌, ℕ, ◌+◌, ◌==◌, Bool, true, false, if◌then◌else◌, List, [], ◌∷◌, length, Option, None, Some, Result, Ok, Err}
+use Rattle.std.specs.List.{slice_split}
+use Rattle.std.specs.Option.{ok_or}
+use Rattle.decimal_text.specs.Expected.{◌>>=◌}
+use Rattle.cert_text.specs.declared.fault.CertFault.{CertFault}
+use Rattle.cert_text.specs.declared.fault.CertFault.TheVariants.{NoMemory, NotACertificate}
+use Rattle.cert_text.specs.declared.fault.LineFault.{LineFault}
+use Rattle.cert_text.specs.declared.fault.LineFault.TheVariants as lines
+
+-- ---- lines
+
+abbrev pub is_lf : ℕ → Bool
+is_lf b = b == 10
+
+-- the lines that LF ends, and then what follows the last LF
+abbrev pub pieces : List ℕ → List (List ℕ)
+pieces bytes = slice_split is_lf bytes
+
+-- ---- one line
+
+-- what a call that takes a line says: the draft after it, or that there is none; want of memory says nothing
+abbrev pub TakesFault : {D : Type 0} → Option D → LineFault → Type 0
+TakesFault expected lines.NoMemory = Unit {0}
+TakesFault expected lines.Bad = expected ≡ None
+
+abbrev pub Takes : {D : Type 0} → Option D → D → Result (Unit {0}) LineFault → Type 0
+Takes expected new (Ok _) = expected ≡ Some new
+Takes expected new (Err fault) = TakesFault expected fault
+
+-- ---- faults
+
+-- a line's fault as that of the bytes
+abbrev pub placed : ℕ → LineFault → CertFault
+placed line lines.NoMemory = NoMemory
+placed line lines.Bad = NotACertificate line
+
+abbrev pub wants_memory : CertFault → Bool
+wants_memory NoMemory = true
+wants_memory (NotACertificate line) = false
+
+-- ---- to the end
+
+-- after the last LF nothing may stand, and what is read has to be whole
+abbrev pub finished : {D C : Type 0} → (D → Option C) → D → ℕ → List ℕ → Result C CertFault
+finished whole d number rest =
+    if length rest == 0 then ok_or (whole d) (NotACertificate number) else Err (NotACertificate number)
+
+-- what comes of a draft before a line of that number, and the lines from there on; the last of them is what no LF ends
+unfoldable pub read_from : {D C : Type 0} → (D → List ℕ → Option D) → (D → Option C) → D → ℕ → List (List ℕ) → Result C CertFault
+read_from after whole d number [] = Err (NotACertificate number)
+read_from after whole d number (rest ∷ []) = finished whole d number rest
+read_from after whole d number (line ∷ more ∷ lines) =
+    ok_or (after d line) (NotACertificate number) >>= λ e. read_from after whole e (number + 1) (more ∷ lines)

@@ -1,0 +1,130 @@
+-- Reading bytes gives the certificate of a highest water whose text they are, or the line of the first fault.
+use Rattle.std.proofs.Common.{◌≡◌, ℕ, List, ◌++◌, Some, None, Result, Ok, Err, refl, sym, ap, ◌∙◌, subst}
+use Rattle.std.specs.Prelude.{IfOk, IsErrAnd}
+use Rattle.std.proofs.lemmas.Option.{same_Some}
+use Rattle.decimal_text.specs.Expected.{Gives}
+use Rattle.cert_text.specs.declared.fault.CertFault.{CertFault as ReadingFault}
+use Rattle.cert_text.specs.declared.fault.CertFault.TheVariants as reading
+use Rattle.cert_text.specs.Texts.{joined, ReadsBy}
+use Rattle.cert_text.specs.ByLine.{read_from, pieces, wants_memory as reading_wants_memory}
+use Rattle.cert_text.proofs.ByLineLemmas as by_line
+use Rattle.cert_text.proofs.ByLineLemmas.{run, IsReader}
+use Rattle.cert_text.proofs.CutLemmas.{AreFree}
+use Rattle.highest_water.specs.declared.certificate.PeakCertificate.{PeakCertificate}
+use Rattle.highest_water.specs.declared.draft.Draft.{Draft}
+use Rattle.highest_water.specs.declared.fault.CertFault.{CertFault}
+use Rattle.highest_water.specs.declared.fault.CertFault.TheVariants.{NoMemory, NotACertificate}
+use Rattle.highest_water.specs.declared.part.Part.{Part}
+use Rattle.highest_water.specs.declared.part.Part.TheVariants.{Title, Station, Begin, End, At, Value, Cells, Done}
+use Rattle.highest_water.specs.PeakTexts.{IsPeakCertificate, peak_lines_of, peak_text}
+use Rattle.highest_water.specs.PeakSpelling.{SpellsPeak, IsPeakTextOf, IsPeakFaultLine, ReadsPeak}
+use Rattle.highest_water.specs.PeakReadings.{fault_of, with_fault, peak_of, wants_memory}
+use Rattle.highest_water.specs.PeakDrafts.{start, next, certificate_in, whole_at, whole}
+use Rattle.highest_water.proofs.PeakLineLemmas.{lines_free}
+use Rattle.highest_water.proofs.PeakGrammarLemmas.{spells-peak_lines_of, peak_lines_of-spelled}
+use Rattle.highest_water.proofs.PeakDraftLemmas.{Knows, said_at, front, certificate_known}
+use Rattle.highest_water.proofs.PeakRunLemmas.{reached_from_start, final, run-peak_lines_of}
+
+-- ---- drafts go by the grammar
+
+taken : (c : PeakCertificate) (lines : List (List ℕ)) → SpellsPeak c lines → (d : Draft) × (run next start lines ≡ Some d) × (whole d ≡ Some c)
+taken c lines h =
+    let is = peak_lines_of-spelled c lines h in
+    (final c, ap (run next start) is.1 ∙ run-peak_lines_of c is.0, refl)
+
+begun : (lines : List (List ℕ)) (d : Draft) → run next start lines ≡ Some d → (c : PeakCertificate) × (more : List (List ℕ)) × SpellsPeak c (lines ++ more)
+begun lines d ran =
+    let reach = reached_from_start lines d ran in
+    let f = front reach.place d reach.knows in
+    (f.certificate, f.more, subst (SpellsPeak f.certificate) (f.all ∙ ap (λ ls. ls ++ f.more) reach.says) (spells-peak_lines_of f.certificate f.is))
+
+whole_is : (p : Part) (d : Draft) (c : PeakCertificate) → Knows p d → whole_at p d ≡ Some c → IsPeakCertificate c × (said_at p d ≡ peak_lines_of c)
+whole_is Title d c h k = absurd cc
+whole_is Station d c h k = absurd cc
+whole_is Begin d c h k = absurd cc
+whole_is End d c h k = absurd cc
+whole_is At d c h k = absurd cc
+whole_is Value d c h k = absurd cc
+whole_is Cells d c h k = absurd cc
+whole_is Done d c h k =
+    subst (λ c. IsPeakCertificate c × (peak_lines_of (certificate_in d) ≡ peak_lines_of c)) (same_Some (certificate_in d) c k) (certificate_known Done d d.station h h.named, refl)
+
+spelled : (lines : List (List ℕ)) (d : Draft) (c : PeakCertificate) → run next start lines ≡ Some d → whole d ≡ Some c → SpellsPeak c lines
+spelled lines d c ran is =
+    let reach = reached_from_start lines d ran in
+    let whole = whole_is reach.place d c reach.knows (subst (λ p. whole_at p d ≡ Some c) reach.knows.part is) in
+    subst (SpellsPeak c) (sym whole.1 ∙ reach.says) (spells-peak_lines_of c whole.0)
+
+free : (c : PeakCertificate) (lines : List (List ℕ)) → SpellsPeak c lines → AreFree lines
+free c lines h = let is = peak_lines_of-spelled c lines h in subst AreFree (sym is.1) (lines_free c is.0)
+
+reader : IsReader SpellsPeak start next whole
+reader = record { taken = taken; begun = begun; spelled = spelled; free = free }
+
+-- ---- texts
+
+pub one_reading : (c d : PeakCertificate) (bytes : List ℕ) → IsPeakTextOf c bytes → IsPeakTextOf d bytes → c ≡ d
+one_reading = by_line.one_reading SpellsPeak start next whole reader
+
+pub text_of-itself : (c : PeakCertificate) → IsPeakCertificate c → IsPeakTextOf c (peak_text c)
+unfolding peak_text
+text_of-itself c h = (peak_lines_of c, spells-peak_lines_of c h, refl)
+
+pub text_is : (c : PeakCertificate) (bytes : List ℕ) → IsPeakTextOf c bytes → IsPeakCertificate c × (peak_text c ≡ bytes)
+unfolding peak_text
+text_is c bytes h =
+    let is = peak_lines_of-spelled c h.0 h.1 in
+    (is.0, ap (λ (ls : List (List ℕ)). joined ls) (sym is.1) ∙ sym h.2)
+
+-- ---- any bytes
+
+own_reads : (bytes : List ℕ) (result : Result PeakCertificate ReadingFault) → ReadsBy SpellsPeak bytes result → ReadsPeak bytes (with_fault result)
+own_reads bytes (Ok c) h = h
+own_reads bytes (Err reading.NoMemory) h = tt
+own_reads bytes (Err (reading.NotACertificate line)) h = h
+
+pub reads-peak_of : (bytes : List ℕ) → ReadsPeak bytes (peak_of bytes)
+unfolding peak_of
+reads-peak_of bytes = own_reads bytes (read_from next whole start 1 (pieces bytes)) (by_line.reads SpellsPeak start next whole reader bytes)
+
+remembers : (result : Result PeakCertificate ReadingFault) → (result ≡ Err reading.NoMemory → ⊥) → with_fault result ≡ Err NoMemory → ⊥
+remembers (Ok c) never h = absurd (cc)
+remembers (Err reading.NoMemory) never h = never refl
+remembers (Err (reading.NotACertificate line)) never h = absurd (cc)
+
+pub never_memory : (bytes : List ℕ) → peak_of bytes ≡ Err NoMemory → ⊥
+unfolding peak_of
+never_memory bytes h = remembers (read_from next whole start 1 (pieces bytes)) (by_line.never_memory next whole start bytes) h
+
+pub peak_of-text : (c : PeakCertificate) → IsPeakCertificate c → peak_of (peak_text c) ≡ Ok c
+unfolding peak_of
+peak_of-text c h = ap with_fault (by_line.text_reads SpellsPeak start next whole reader c (peak_text c) (text_of-itself c h))
+
+-- what reading line by line gives, with its own faults
+pub given_whole : (bytes : List ℕ) (c : PeakCertificate) → Gives reading_wants_memory (read_from next whole start 1 (pieces bytes)) (Ok c) → Gives wants_memory (peak_of bytes) (Ok c)
+unfolding peak_of
+given_whole bytes c h = ap with_fault h
+
+pub given_fault : (bytes : List ℕ) (fault : ReadingFault) → Gives reading_wants_memory (read_from next whole start 1 (pieces bytes)) (Err fault) → Gives wants_memory (peak_of bytes) (Err (fault_of fault))
+unfolding peak_of
+given_fault bytes reading.NoMemory h = tt
+given_fault bytes (reading.NotACertificate line) h = ap with_fault h
+
+pub told_fault : (result : Result PeakCertificate CertFault) (fault : ReadingFault) → IsErrAnd result (λ own. own ≡ fault_of fault) → Err (fault_of fault) ≡ result
+told_fault (Ok c) fault h = absurd h
+told_fault (Err own) fault h = ap Err (sym h)
+
+-- what reading gives goes by the grammar
+pub reads_given : (bytes : List ℕ) (result : Result PeakCertificate CertFault) → Gives wants_memory (peak_of bytes) result → ReadsPeak bytes result
+reads_given bytes (Ok c) h = subst (ReadsPeak bytes) h (reads-peak_of bytes)
+reads_given bytes (Err NoMemory) h = tt
+reads_given bytes (Err (NotACertificate line)) h = subst (ReadsPeak bytes) h (reads-peak_of bytes)
+
+pub sound_given : (bytes : List ℕ) (result : Result PeakCertificate CertFault) → ReadsPeak bytes result → IfOk result IsPeakCertificate
+sound_given bytes (Ok c) h = (text_is c bytes h).0
+sound_given bytes (Err fault) h = tt
+
+-- ---- the line
+
+pub one_fault_line : (bytes : List ℕ) (m n : ℕ) → IsPeakFaultLine bytes m → IsPeakFaultLine bytes n → m ≡ n
+one_fault_line = by_line.one_fault_line SpellsPeak

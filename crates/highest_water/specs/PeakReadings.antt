@@ -1,0 +1,26 @@
+-- The certificate of a highest water that bytes are, as a function of them; it goes by the grammar (this project).
+use Rattle.std.specs.Prelude.{ℕ, List, Result, Ok, Err, Bool, true, false}
+use Rattle.cert_text.specs.declared.fault.CertFault.{CertFault as ReadingFault}
+use Rattle.cert_text.specs.declared.fault.CertFault.TheVariants as reading
+use Rattle.cert_text.specs.ByLine.{read_from, pieces}
+use Rattle.highest_water.specs.declared.certificate.PeakCertificate.{PeakCertificate}
+use Rattle.highest_water.specs.declared.fault.CertFault.{CertFault}
+use Rattle.highest_water.specs.declared.fault.CertFault.TheVariants.{NoMemory, NotACertificate}
+use Rattle.highest_water.specs.PeakDrafts.{start, next, whole}
+
+-- a fault of reading line by line
+abbrev pub fault_of : ReadingFault → CertFault
+fault_of reading.NoMemory = NoMemory
+fault_of (reading.NotACertificate line) = NotACertificate line
+
+abbrev pub with_fault : {C : Type 0} → Result C ReadingFault → Result C CertFault
+with_fault (Ok said) = Ok said
+with_fault (Err fault) = Err (fault_of fault)
+
+-- the certificate, or the line of the fault
+unfoldable pub peak_of : List ℕ → Result PeakCertificate CertFault
+peak_of bytes = with_fault (read_from next whole start 1 (pieces bytes))
+
+abbrev pub wants_memory : CertFault → Bool
+wants_memory NoMemory = true
+wants_memory (NotACertificate line) = false

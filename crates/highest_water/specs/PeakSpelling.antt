@@ -1,0 +1,58 @@
+-- The grammar of certificates of a highest water: which lines spell which, and where bytes stop being one (this project).
+use Rattle.std.specs.Prelude.{◌≡◌, ℕ, ◌≤◌, ℤ, List, [], ◌∷◌, ◌++◌, Result, Ok, Err, codes, decimal}
+use Rattle.std.specs.Fmt.{signed_decimal}
+use Rattle.cert_text.specs.Spelling.{SpellsStation, SpellsMoment}
+use Rattle.cert_text.specs.Texts.{IsTextBy, IsFaultBy, RefusedBy}
+use Rattle.highest_water.specs.declared.certificate.PeakCertificate.{PeakCertificate}
+use Rattle.highest_water.specs.declared.fault.CertFault.{CertFault}
+use Rattle.highest_water.specs.declared.fault.CertFault.TheVariants.{NoMemory, NotACertificate}
+use Rattle.highest_water.specs.declared.peak_cell.PeakCell.{PeakCell}
+use Rattle.highest_water.specs.declared.peak_cell.PeakCell.TheVariants.{Under, Single}
+use Rattle.highest_water.specs.PeakTexts.{IsPeakValue}
+
+-- ---- the lines of a certificate
+
+abbrev pub SpellsValue : ℤ → List ℕ → Type 0
+SpellsValue value line = IsPeakValue value × (line ≡ codes "value " ++ signed_decimal value)
+
+abbrev pub SpellsPeakCell : PeakCell → List ℕ → Type 0
+SpellsPeakCell (Under n) line = (2 ≤ n) × (n ≤ 1024) × (line ≡ codes "u " ++ decimal n)
+SpellsPeakCell Single line = line ≡ codes "m"
+
+-- a line for each cell, and then the last line
+abbrev pub SpellsPeakCells : List PeakCell → List (List ℕ) → Type 0
+SpellsPeakCells cells [] = ⊥
+SpellsPeakCells [] (line ∷ lines) = (line ≡ codes "done") × (lines ≡ [])
+SpellsPeakCells (cell ∷ cells) (line ∷ lines) = SpellsPeakCell cell line × SpellsPeakCells cells lines
+
+-- the lines, without their LF, spell the certificate
+abbrev pub SpellsPeak : PeakCertificate → List (List ℕ) → Type 0
+SpellsPeak c (title ∷ station ∷ begin ∷ end ∷ at ∷ value ∷ cells) =
+    (title ≡ codes "peak certificate 1") × SpellsStation c.station station
+    × SpellsMoment (codes "begin ") c.begin begin × SpellsMoment (codes "end ") c.end end
+    × SpellsMoment (codes "at ") c.peak.at at × SpellsValue c.peak.value value × SpellsPeakCells c.peak.cells cells
+SpellsPeak c (title ∷ station ∷ begin ∷ end ∷ at ∷ []) = ⊥
+SpellsPeak c (title ∷ station ∷ begin ∷ end ∷ []) = ⊥
+SpellsPeak c (title ∷ station ∷ begin ∷ []) = ⊥
+SpellsPeak c (title ∷ station ∷ []) = ⊥
+SpellsPeak c (title ∷ []) = ⊥
+SpellsPeak c [] = ⊥
+
+-- ---- the text of a certificate, and where bytes are none's
+
+abbrev pub IsPeakTextOf : PeakCertificate → List ℕ → Type 0
+IsPeakTextOf c bytes = IsTextBy SpellsPeak c bytes
+
+abbrev pub IsPeakFaultLine : List ℕ → ℕ → Type 0
+IsPeakFaultLine bytes line = IsFaultBy SpellsPeak bytes line
+
+-- ---- what reading says
+
+abbrev pub RefusesPeak : List ℕ → CertFault → Type 0
+RefusesPeak bytes NoMemory = Unit {0}
+RefusesPeak bytes (NotACertificate line) = RefusedBy SpellsPeak bytes line
+
+-- a certificate is the one whose text the bytes are; a fault says that they are none, and where; want of memory says nothing
+abbrev pub ReadsPeak : List ℕ → Result PeakCertificate CertFault → Type 0
+ReadsPeak bytes (Ok c) = IsPeakTextOf c bytes
+ReadsPeak bytes (Err fault) = RefusesPeak bytes fault

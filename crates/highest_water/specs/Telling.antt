@@ -1,0 +1,19 @@
+-- The line that tells what is wrong with a certificate of a highest water (this project).
+use Rattle.std.specs.Prelude.{ℕ, List, ◌++◌, codes, decimal}
+use Rattle.std.specs.Fmt.{signed_decimal}
+use Rattle.highest_water.specs.declared.verdict.PeakVerdict.{PeakVerdict}
+use Rattle.highest_water.specs.declared.verdict.PeakVerdict.TheVariants.{WrongLength, Outside, NotUnder, WrongValue, Above, Accepted}
+
+-- a cell by its number
+abbrev pub cell_line : ℕ → List ℕ → List ℕ
+cell_line cell what = codes "Rejected: cell " ++ decimal cell ++ what
+
+unfoldable pub verdict_line : PeakVerdict → List ℕ
+verdict_line (WrongLength covered wanted) =
+    (codes "Rejected: cells cover " ++ signed_decimal covered) ++ (codes " of " ++ signed_decimal wanted ++ codes " minutes\n")
+verdict_line Outside = codes "Rejected: at outside the span\n"
+verdict_line (NotUnder cell) = cell_line cell (codes " is not under\n")
+verdict_line (WrongValue written computed) =
+    (codes "Rejected: value " ++ signed_decimal written) ++ (codes ", computed " ++ signed_decimal computed ++ codes "\n")
+verdict_line (Above cell) = cell_line cell (codes " is above\n")
+verdict_line Accepted = codes "Accepted\n"

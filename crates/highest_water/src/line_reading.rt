@@ -1,0 +1,49 @@
+//! Lines of a highest water, read.
+
+ghost use Rattle.std.specs.Prelude.{◌≡◌};
+ghost use Rattle.highest_water.specs.PeakDrafts.{value_of, under_for, under_of, cell_of};
+
+use crate::peak_cell::PeakCell;
+use cert_text::{after, number_of, size_of};
+use curve_law::MOST_MINUTES;
+
+/// The most digits of a value, and those of a cell's minutes.
+const VALUE_DIGITS: usize = 37;
+
+const MINUTE_DIGITS: usize = 4;
+
+/// The value of its line.
+#[tactic(auto, unfolding(crate::specs::PeakDrafts::value_of))]
+pub fn value_of(line: &[u8]) -> Option<i128>
+    ensures { result ≡ value_of line.now }
+{
+    number_of(after(b"value ".as_slice(), line)?, VALUE_DIGITS)
+}
+
+fn under_for(minutes: u128) -> Option<PeakCell>
+    ensures { result ≡ under_for minutes }
+{
+    if 2 <= minutes && minutes <= u128::from(MOST_MINUTES) {
+        Some(PeakCell::Under(minutes as u32))
+    } else {
+        None
+    }
+}
+
+#[tactic(auto, unfolding(crate::specs::PeakDrafts::under_of))]
+fn under_of(line: &[u8]) -> Option<PeakCell>
+    ensures { result ≡ under_of line.now }
+{
+    under_for(size_of(after(b"u ".as_slice(), line)?, MINUTE_DIGITS)?)
+}
+
+/// The cell of its line.
+#[tactic(auto, unfolding(crate::specs::PeakDrafts::cell_of))]
+pub fn cell_of(line: &[u8]) -> Option<PeakCell>
+    ensures { result ≡ cell_of line.now }
+{
+    if line == b"m".as_slice() {
+        return Some(PeakCell::Single);
+    }
+    under_of(line)
+}

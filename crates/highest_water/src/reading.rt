@@ -1,0 +1,30 @@
+//! Reading a certificate of a highest water.
+
+ghost use Rattle.std.specs.Prelude.{◌≤◌, length, IfOk};
+ghost use Rattle.decimal_text.specs.Expected.{Gives};
+ghost use Rattle.decimal_text.specs.declared.limits.TheConstants.{MOST_BYTES};
+ghost use Rattle.highest_water.specs.PeakTexts.{IsPeakCertificate};
+ghost use Rattle.highest_water.specs.PeakSpelling.{ReadsPeak};
+ghost use Rattle.highest_water.specs.PeakReadings.{peak_of, wants_memory};
+
+use crate::certificate::PeakCertificate;
+use crate::draft::Draft;
+use crate::fault::CertFault;
+use cert_text::read_lines;
+use std::alloc::Global;
+
+/// The certificate of a highest water whose text the bytes are, at most 400,000,000 of them. They are gone over once.
+///
+/// # Errors
+/// [`CertFault::NotACertificate`] exactly where they are no such certificate's text. Its line is the
+/// first, counted from 1, such that no certificate begins with the lines up to it, each with its LF:
+/// a last piece without LF is no line of one, and where the bytes end too early the line is one past
+/// the last. [`CertFault::NoMemory`] may come in its place.
+pub fn read_peak(alloc: Global, bytes: &[u8]) -> Result<PeakCertificate, CertFault>
+    requires { length bytes.now ≤ MOST_BYTES }
+    ensures exact { Gives wants_memory (peak_of bytes.now) result }
+    ensures reads { ReadsPeak bytes.now result }
+    ensures sound { IfOk result IsPeakCertificate }
+{
+    Ok(read_lines(alloc, Draft::new(alloc), bytes)?)
+}

@@ -1,0 +1,42 @@
+//! What follows of the grammar of certificates of a highest water.
+
+ghost use Rattle.std.specs.Prelude.{◌≡◌, ◌≢◌, ℕ, ◌+◌, ◌*◌, ◌<◌, ◌≤◌, List, length, Ok, Err};
+ghost use Rattle.highest_water.specs.declared.certificate.PeakCertificate.{PeakCertificate};
+ghost use Rattle.highest_water.specs.declared.fault.CertFault.{CertFault};
+ghost use Rattle.highest_water.specs.PeakTexts.{IsPeakCertificate, peak_lines_of, peak_text, minutes_of};
+ghost use Rattle.highest_water.specs.PeakSpelling.{SpellsPeak, IsPeakTextOf, IsPeakFaultLine, ReadsPeak};
+ghost use Rattle.highest_water.specs.PeakReadings.{peak_of};
+
+/// Each certificate whose parts lie within their ranges has exactly one text, no other has one, and
+/// each text has at most one certificate.
+pub fn peak_certificates_have_one_text()
+    ensures lines { (c : PeakCertificate) → IsPeakCertificate c → SpellsPeak c (peak_lines_of c) }
+    ensures only_lines { (c : PeakCertificate) (lines : List (List ℕ)) →
+        SpellsPeak c lines → IsPeakCertificate c × (lines ≡ peak_lines_of c) }
+    ensures text { (c : PeakCertificate) → IsPeakCertificate c → IsPeakTextOf c (peak_text c) }
+    ensures only_text { (c : PeakCertificate) (bytes : List ℕ) →
+        IsPeakTextOf c bytes → IsPeakCertificate c × (peak_text c ≡ bytes) }
+    ensures one_certificate { (c d : PeakCertificate) (bytes : List ℕ) →
+        IsPeakTextOf c bytes → IsPeakTextOf d bytes → c ≡ d }
+{}
+
+/// A minute takes at most two bytes, and all that isn't a cell at most 545. Where the cells hold no more
+/// than 5,270,400 minutes, which is the longest span, the text is shorter than 10,542,000 bytes, and can be
+/// read again.
+pub fn peak_texts_are_short()
+    ensures short { (c : PeakCertificate) → IsPeakCertificate c →
+        length (peak_text c) ≤ 545 + 2 * minutes_of c.peak.cells }
+    ensures fits { (c : PeakCertificate) → IsPeakCertificate c → minutes_of c.peak.cells ≤ 5270400 →
+        length (peak_text c) < 10542000 }
+{}
+
+/// Reading by lines goes by the grammar for all bytes, and never tells of want of memory: it gives
+/// the certificate whose text they are, or the one line of the fault where they are none's. The text
+/// of a certificate reads as the certificate.
+pub fn peak_readings_go_by_the_grammar()
+    ensures reads { (bytes : List ℕ) → ReadsPeak bytes (peak_of bytes) }
+    ensures never_memory { (bytes : List ℕ) → peak_of bytes ≢ Err CertFault.NoMemory }
+    ensures again { (c : PeakCertificate) → IsPeakCertificate c → peak_of (peak_text c) ≡ Ok c }
+    ensures one_line { (bytes : List ℕ) (m n : ℕ) →
+        IsPeakFaultLine bytes m → IsPeakFaultLine bytes n → m ≡ n }
+{}

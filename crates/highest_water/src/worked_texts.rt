@@ -1,0 +1,24 @@
+//! Certificates of a highest water that were worked out by hand.
+
+ghost use Rattle.std.specs.Prelude.{◌≡◌, ◌++◌, codes, map, take, Ok, Err};
+ghost use Rattle.cert_text.specs.Texts.{joined};
+ghost use Rattle.highest_water.specs.declared.fault.CertFault.{CertFault};
+ghost use Rattle.highest_water.specs.PeakTexts.{peak_text};
+ghost use Rattle.highest_water.specs.PeakReadings.{peak_of};
+ghost use Rattle.highest_water.specs.PeakRows.{pier, pier_lines, pier_with, changes};
+
+/// The text of 64 minutes.
+pub fn worked_peak_texts()
+    ensures pier { peak_text pier ≡ joined pier_lines }
+{}
+
+/// What texts read as: the text's certificate, and the line of the fault where a line is another, the
+/// last lines are missing, or more follows.
+pub fn worked_peak_readings()
+    ensures pier { peak_of (joined pier_lines) ≡ Ok pier }
+    ensures changed { map (λ c. peak_of (pier_with c)) changes ≡ map (λ c. Err (CertFault.NotACertificate c.at)) changes }
+    ensures empty { peak_of (codes "") ≡ Err (CertFault.NotACertificate 1) }
+    ensures not_done { peak_of (joined (take 30 pier_lines)) ≡ Err (CertFault.NotACertificate 31) }
+    ensures no_lf { peak_of (joined (take 30 pier_lines) ++ codes "done") ≡ Err (CertFault.NotACertificate 31) }
+    ensures more { peak_of (joined pier_lines ++ codes "m\n") ≡ Err (CertFault.NotACertificate 32) }
+{}

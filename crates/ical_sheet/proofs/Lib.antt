@@ -1,0 +1,4 @@
+mod CalendarLemmas
+mod EscapingLemmas
+mod PieceLemmas
+mod UnfoldingLemmas

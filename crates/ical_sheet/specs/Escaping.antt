@@ -1,0 +1,14 @@
+-- Text as the value of a property (RFC 5545, section 3.3.11).
+use Rattle.std.specs.Prelude.{ℕ, Bool, ◌==◌, ◌||◌, if◌then◌else◌, List, [], ◌∷◌}
+use Rattle.std.specs.List.{flat_map}
+
+-- a backslash (92), a semicolon (59) or a comma (44)
+abbrev pub is_special : ℕ → Bool
+is_special octet = (octet == 92) || (octet == 59) || (octet == 44)
+
+abbrev pub escaped_octet : ℕ → List ℕ
+escaped_octet octet = if is_special octet then 92 ∷ octet ∷ [] else octet ∷ []
+
+-- a text with a backslash before each of these
+abbrev pub escaped : List ℕ → List ℕ
+escaped text = flat_map escaped_octet text

@@ -1,0 +1,20 @@
+//! The events of a station as a calendar that other programs take in (RFC 5545).
+//!
+//! [`IcalSheet`] is the sheet that writes it. A calendar is made of content lines: [`fold`] cuts one
+//! into physical lines of at most 75 octets, [`unfold`] puts the lines of a text together again, and
+//! [`escape`] marks the signs of a text that have a meaning of their own. `specs/` has the rules.
+#![tactic(auto)]
+
+mod calendar;
+mod escaping;
+mod event_lines;
+mod folding;
+mod shared;
+mod sheet;
+mod stamp;
+mod unfolding;
+
+pub use escaping::escape;
+pub use folding::fold;
+pub use sheet::IcalSheet;
+pub use unfolding::unfold;

@@ -1,0 +1,43 @@
+//! What the events of a calendar have in common.
+
+ghost use Rattle.std.specs.Prelude.{◌≡◌, IfOk, string_bytes};
+ghost use Rattle.hex.specs.Hex.{encode_lower};
+ghost use Rattle.ical_sheet.specs.Calendars.{nearest_moment, stamp_of};
+ghost use Rattle.ical_sheet.specs.Escaping.{escaped as escaped_text};
+
+use crate::escaping::push_escaped;
+use crate::stamp::{nearest_moment, stamp};
+use hex::encode;
+use report_sheets::Head;
+use std::alloc::{AllocError, Global};
+
+/// What the events of a calendar have in common.
+#[derive(Drop)]
+pub(crate) struct Shared<'a> {
+    pub head: &'a Head,
+    /// The station's name in hexadecimal digits.
+    pub digits: String,
+    /// The station's name, escaped.
+    pub escaped: String,
+    /// When the calendar was made.
+    pub made: [u8; 16],
+    ghost digits_are: { string_bytes digits ≡ encode_lower head.now.name },
+    ghost escaped_is: { string_bytes escaped ≡ escaped_text head.now.name },
+    ghost made_is: { made ≡ stamp_of (nearest_moment head.now.now) },
+}
+
+impl<'a> Shared<'a> {
+    pub fn new(alloc: Global, head: &'a Head) -> Result<Shared<'a>, AllocError>
+        ensures { IfOk result (λ shared. shared.head.now ≡ head.entry.now) }
+    {
+        let name = head.name.as_str();
+        let mut escaped = String::new(alloc);
+        push_escaped(&mut escaped, name)?;
+        Ok(Shared {
+            head,
+            digits: encode(alloc, name)?,
+            escaped,
+            made: stamp(nearest_moment(head.now)),
+        })
+    }
+}

@@ -1,0 +1,34 @@
+//! Texts, unfolded.
+
+ghost use Rattle.std.specs.Prelude.{◌≡◌, ◌+◌, ◌≤◌, ◌&&◌, nat_lt, length, slice_index, IfOk};
+ghost use Rattle.ical_sheet.specs.Folding.{is_fold, unfolded};
+
+use decimal_text::Bytes;
+use std::alloc::{AllocError, Global};
+
+/// A text without each CR LF that has a space or a tab directly after it, and without that one.
+pub fn unfold(alloc: Global, text: &[u8]) -> Result<Bytes, AllocError>
+    ensures { IfOk result (λ line. line ≡ unfolded text.now) }
+{
+    let mut line = Vec::with_capacity(alloc, text.len())?;
+    let mut at = 0;
+    while at < text.len() {
+        if is_fold_at(text, at) {
+            at += 3;
+        } else {
+            line.push(text[at])?;
+            at += 1;
+        }
+    }
+    Ok(Bytes::from_vec(line))
+}
+
+fn is_fold_at(text: &[u8], at: usize) -> bool
+    requires { at ≤ length text.now }
+    ensures { result ≡ (nat_lt (at + 2) (length text.now) && is_fold (slice_index text.now at) (slice_index text.now (at + 1)) (slice_index text.now (at + 2))) }
+{
+    text.len() - at > 2
+        && text[at] == b'\r'
+        && text[at + 1] == b'\n'
+        && matches!(text[at + 2], b' ' | b'\t')
+}

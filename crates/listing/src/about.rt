@@ -1,0 +1,56 @@
+//! What is told of a station.
+
+ghost use Rattle.std.specs.Prelude.{◌≡◌, IfOk, string_bytes};
+ghost use Rattle.listing.specs.Abouts.{about_text_of, facts_of, names_of};
+
+use decimal_text::{Bytes, Text};
+use event_text::unit_text;
+use harmonics_text::Units;
+use std::alloc::{AllocError, Global};
+
+/// Five lines: the station's name; its reference's behind `reference`; the unit of its levels behind
+/// `units`; how many constituents they are made of, behind `constituents`; and behind `agreement` how
+/// far its slope is at most from their steps, in the slope's unit.
+#[tactic(auto, unfolding(crate::specs::Abouts::about_text_of))]
+pub fn about_text(
+    alloc: Global,
+    name: &Text,
+    reference: &Text,
+    units: Units,
+    constituents: u64,
+    agreement: i128,
+) -> Result<Bytes, AllocError>
+    ensures { IfOk result (λ text. text ≡ about_text_of name.now reference.now units constituents agreement) }
+{
+    let facts = facts(alloc, units, constituents, agreement)?;
+    let mut text = names(alloc, name, reference)?;
+    text.push_str(facts.as_str())?;
+    Ok(Bytes::from_vec(text.into_bytes()))
+}
+
+fn names(alloc: Global, name: &Text, reference: &Text) -> Result<String, AllocError>
+    ensures { IfOk result (λ text. string_bytes text ≡ names_of name.now reference.now) }
+{
+    let mut text = String::from_str(alloc, name.as_str())?;
+    text.push_str("\nreference ")?;
+    text.push_str(reference.as_str())?;
+    text.push_str("\n")?;
+    Ok(text)
+}
+
+fn facts(
+    alloc: Global,
+    units: Units,
+    constituents: u64,
+    agreement: i128,
+) -> Result<String, AllocError>
+    ensures { IfOk result (λ text. string_bytes text ≡ facts_of units constituents agreement) }
+{
+    let count = format!(in alloc; "\nconstituents {constituents}")?;
+    let bound = format!(in alloc; "\nagreement {agreement}\n")?;
+    let mut text = String::from_str(alloc, "units ")?;
+    text.push_str(unit_text(units))?;
+    text.push_str(count.as_str())?;
+    text.push_str(bound.as_str())?;
+    Ok(text)
+}

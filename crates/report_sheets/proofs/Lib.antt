@@ -1,0 +1,4 @@
+mod WordLemmas
+mod PageLemmas
+mod RangeLemmas
+mod TallyLemmas

@@ -1,0 +1,13 @@
+use Rattle.std.proofs.Common.{◌≡◌, ◌≤◌, take}
+use Rattle.report_sheets.proofs.pages.give.Given as goal
+
+abbrev pub invariant-loop-event : goal.invariant-loop-event
+invariant-loop-event g l =
+    let now = goal.Sheet-dyn g (l.sheet.vtable, l.sheet.value) in
+    let then = goal.Sheet-dyn g (l.fn.sheet.vtable, l.fn.sheet.value) in
+    record {
+      same : now.meaning l.sheet.value ≡ then.meaning l.fn.sheet.value;
+      heading : now.heading l.sheet.value ≡ then.heading l.fn.sheet.value;
+      list : now.list l.sheet.value ≡ take l.event-index l.events;
+      within : l.event-index ≤ (then.meaning l.fn.sheet.value).limit;
+    }

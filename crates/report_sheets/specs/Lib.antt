@@ -1,0 +1,6 @@
+pub mod Sheets
+pub mod Pages
+pub mod Tallies
+pub mod Ranges
+pub mod Listings
+pub mod Workings

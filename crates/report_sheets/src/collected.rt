@@ -1,0 +1,89 @@
+//! What a sheet collects.
+
+ghost use Rattle.std.specs.Prelude.{◌≤◌, length, All};
+ghost use Rattle.event_text.specs.Lines.{IsListed};
+ghost use Rattle.report_sheets.specs.Sheets.{IsLimit, IsHead};
+
+use crate::head::Head;
+use crate::taken::Taken;
+use curve_law::Event;
+use decimal_text::Text;
+use harmonics_text::Units;
+use std::alloc::{AllocError, Global};
+
+/// The head that a sheet was opened with, and the events that it has taken since.
+#[derive(Drop)]
+pub struct Collected {
+    /// How many events the sheet takes, from 1 to 1,000,000.
+    pub limit: u32,
+    pub head: Head,
+    /// In their order. Each has a [`word`](event_text::word) in the head's unit, and a minute of the
+    /// years from 2 to 9300 or of the day before them.
+    pub events: Vec<Event>,
+    pub ghost limited: { IsLimit limit },
+    pub ghost headed: { IsHead head },
+    pub ghost within: { length events.items ≤ limit },
+    pub ghost listed: { All (IsListed head.units) events.items },
+}
+
+impl Collected {
+    ghost use Rattle.std.specs.Prelude.{◌≡◌, [], ◌++◌, codes, IfOk, OnOk, OnErr};
+    ghost use Rattle.report_sheets.specs.Sheets.{first_head, taken_of, list_after};
+
+    /// No event, and a head of an empty name, feet and minute 0. It takes no memory.
+    pub fn new(alloc: Global, limit: u32) -> Collected
+        requires { IsLimit limit }
+        ensures limit { result.limit ≡ limit }
+        ensures head { result.head ≡ first_head }
+        ensures empty { result.events.items ≡ [] }
+    {
+        Collected {
+            limit,
+            head: Head {
+                name: Text::empty(alloc),
+                units: Units::Feet,
+                now: 0,
+            },
+            events: Vec::new(alloc),
+        }
+    }
+
+    /// Begins anew with that head, as [`Sheet::open`](crate::Sheet::open) has it.
+    pub fn open(&mut self, head: &Head) -> Result<(), AllocError>
+        requires { IsHead head.now }
+        ensures limit { self.new.limit ≡ self.old.limit }
+        ensures empty { self.new.events.items ≡ [] }
+        ensures ok { OnOk result (self.new.head ≡ head.entry.now) }
+        ensures err { OnErr result (self.new.head ≡ self.old.head) }
+    {
+        self.events.clear();
+        self.head = head.copy()?;
+        Ok(())
+    }
+
+    /// Appends an event, as [`Sheet::take`](crate::Sheet::take) has it.
+    pub fn take(&mut self, event: &Event) -> Result<Taken, AllocError>
+        requires { IsListed self.old.head.units event.now }
+        ensures limit { self.new.limit ≡ self.old.limit }
+        ensures head { self.new.head ≡ self.old.head }
+        ensures answer { IfOk result (λ taken. taken ≡ taken_of self.old.limit self.old.events.items) }
+        ensures list { OnOk result (self.new.events.items ≡ list_after self.old.limit self.old.events.items event.now) }
+        ensures err { OnErr result (self.new.events.items ≡ self.old.events.items) }
+    {
+        if self.events.len() == self.limit as usize {
+            return Ok(Taken::Full);
+        }
+        self.events.push(*event)?;
+        Ok(Taken::Kept)
+    }
+
+    /// The line of the name, which a page begins with.
+    pub fn page(&self) -> Result<Vec<u8>, AllocError>
+        ensures { IfOk result (λ text. text.items ≡ self.now.head.name ++ codes "\n") }
+    {
+        let alloc = *self.events.allocator();
+        let mut text = Vec::from_slice(alloc, self.head.name.as_str().as_bytes())?;
+        text.push(b'\n')?;
+        Ok(text)
+    }
+}

@@ -1,0 +1,48 @@
+//! The two ends of a range.
+
+use curve_law::Kind;
+
+/// An end of the range of a station's levels.
+#[derive(Clone, Copy, Debug, PartialEq, Eq)]
+pub enum Extreme {
+    /// The highest high water.
+    Highest,
+    /// The lowest low water.
+    Lowest,
+}
+
+impl Extreme {
+    ghost use Rattle.std.specs.Prelude.{◌≡◌, ◌≤◌, length, not};
+    ghost use Rattle.report_sheets.specs.Ranges.{is_of, label_of, reaches};
+
+    /// Whether an event of that kind is a high or a low, as the end is.
+    pub fn is_of(self, kind: Kind) -> bool
+        ensures { result ≡ is_of self kind }
+    {
+        match (self, kind) {
+            (Extreme::Highest, Kind::High) | (Extreme::Lowest, Kind::Low) => true,
+            _ => false,
+        }
+    }
+
+    /// Whether the other level goes beyond the first.
+    pub fn is_passed(self, level: i64, other: i64) -> bool
+        ensures { result ≡ not (reaches self level other) }
+    {
+        match self {
+            Extreme::Highest => level < other,
+            Extreme::Lowest => other < level,
+        }
+    }
+
+    /// What its line begins with, at most 8 bytes.
+    pub fn label(self) -> &'static str
+        ensures text { result.now ≡ label_of self }
+        ensures short { length result.now ≤ 8 }
+    {
+        match self {
+            Extreme::Highest => "Highest ",
+            Extreme::Lowest => "Lowest ",
+        }
+    }
+}

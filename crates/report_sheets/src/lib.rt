@@ -1,0 +1,25 @@
+//! Sheets: listings of one station's events, each in a layout of its own, joined into a report.
+//!
+//! A [`Sheet`] has a word, is opened with a [`Head`], takes the events one by one up to its limit, and
+//! writes its text. The crate has three of them: how many events of each name there are, the highest
+//! and the lowest water, and the first events.
+#![tactic(auto)]
+
+mod collected;
+mod extreme;
+mod first_lines;
+mod head;
+mod pages;
+mod ranges;
+mod sheet;
+mod taken;
+mod tally;
+
+pub use collected::Collected;
+pub use first_lines::FirstLines;
+pub use head::Head;
+pub use pages::{fill, missing};
+pub use ranges::Ranges;
+pub use sheet::Sheet;
+pub use taken::Taken;
+pub use tally::Tally;

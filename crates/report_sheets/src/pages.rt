@@ -1,0 +1,130 @@
+//! The pages of a report.
+
+ghost use Rattle.std.specs.Prelude.{◌≡◌, [], ◌++◌, All, IfOk, OnOk, map, take};
+ghost use Rattle.std.specs.List.{list_any};
+ghost use Rattle.std.specs.Str.{bytes_eq};
+ghost use Rattle.event_text.specs.Lines.{IsListed};
+ghost use Rattle.report_sheets.specs.Sheets.{IsHead, IsLimit, taken_of, list_after};
+ghost use Rattle.report_sheets.specs.Pages.{is_wanted, page_of, pages_of, missing_of};
+
+use crate::head::Head;
+use crate::sheet::Sheet;
+use crate::taken::Taken;
+use curve_law::{Event, Events};
+use decimal_text::{Bytes, Text, Words};
+use std::alloc::{AllocError, Global};
+
+/// The place, from 0, of the first wanted word that no sheet has. It takes no memory.
+pub fn missing(sheets: &Vec<Box<dyn Sheet>>, wanted: &Words) -> Option<u64>
+    ensures { result ≡ missing_of (map meaning sheets.now.items) wanted.now }
+{
+    for (place, word) in wanted.as_slice().iter().enumerate() {
+        if !is_known(sheets.as_slice(), word) {
+            return Some(place as u64);
+        }
+    }
+    None
+}
+
+/// Whether a sheet has the word.
+fn is_known(sheets: &[Box<dyn Sheet>], word: &Text) -> bool
+    ensures { result ≡ list_any (λ sheet. bytes_eq word.now (meaning sheet).word) sheets.now }
+{
+    for sheet in sheets {
+        if is_named(sheet, word) {
+            return true;
+        }
+    }
+    false
+}
+
+fn is_named(sheet: &Box<dyn Sheet>, word: &Text) -> bool
+    ensures { result ≡ bytes_eq word.now (meaning sheet.now).word }
+{
+    sheet.named(word)
+}
+
+/// The text of a report: the pages of the sheets whose word is wanted, joined as the sheets were
+/// handed in. A page shows the head and the first events, as many as its sheet takes.
+///
+/// The name has no control characters, and the unit isn't knots squared. Each event has a
+/// [`word`](event_text::word) in that unit, and a minute of the years from 2 to 9300 or of the day
+/// before them.
+#[tactic(auto, using(crate::proofs::PageLemmas::pages_more, crate::proofs::PageLemmas::pages_kept), unfolding(crate::specs::Pages::pages_of))]
+pub fn fill(
+    alloc: Global,
+    sheets: Vec<Box<dyn Sheet>>,
+    wanted: &Words,
+    head: &Head,
+    events: &Events,
+) -> Result<Bytes, AllocError>
+    requires head { IsHead head.now }
+    requires listed { All (IsListed head.now.units) events.now }
+    ensures { IfOk result (λ text. text ≡ pages_of (map meaning sheets.items) wanted.now head.entry.now events.now) }
+{
+    let mut text = Vec::new(alloc);
+    for mut sheet in sheets {
+        if is_wanted(&sheet, wanted.as_slice()) {
+            push_page(&mut text, &mut sheet, head, events.as_slice())?;
+        }
+    }
+    Ok(Bytes::from_vec(text))
+}
+
+/// Whether a sheet's word is among the wanted ones.
+fn is_wanted(sheet: &Box<dyn Sheet>, wanted: &[Text]) -> bool
+    ensures { result ≡ is_wanted wanted.now (meaning sheet.now) }
+{
+    for word in wanted {
+        if is_named(sheet, word) {
+            return true;
+        }
+    }
+    false
+}
+
+/// Appends the page of a sheet.
+#[tactic(auto, unfolding(crate::specs::Pages::page_of))]
+fn push_page(
+    text: &mut Vec<u8>,
+    sheet: &mut Box<dyn Sheet>,
+    head: &Head,
+    events: &[Event],
+) -> Result<(), AllocError>
+    requires head { IsHead head.now }
+    requires listed { All (IsListed head.now.units) events.now }
+    ensures { OnOk result (text.new.items ≡ text.old.items ++ page_of head.entry.now events.now (meaning sheet.old)) }
+{
+    sheet.open(head)?;
+    give(sheet, events)?;
+    let page = sheet.text()?;
+    text.extend_from_slice(page.as_slice())
+}
+
+/// Gives a sheet whose list is empty each event, until it is full.
+fn give(sheet: &mut Box<dyn Sheet>, events: &[Event]) -> Result<(), AllocError>
+    requires empty { list sheet.old ≡ [] }
+    requires listed { All (IsListed (heading sheet.old).units) events.now }
+    ensures same { meaning sheet.new ≡ meaning sheet.old }
+    ensures heading { heading sheet.new ≡ heading sheet.old }
+    ensures list { OnOk result (list sheet.new ≡ take (meaning sheet.old).limit events.now) }
+{
+    for event in events {
+        match offer(sheet, event)? {
+            Taken::Kept => {}
+            Taken::Full => return Ok(()),
+        }
+    }
+    Ok(())
+}
+
+/// Gives a sheet one event.
+fn offer(sheet: &mut Box<dyn Sheet>, event: &Event) -> Result<Taken, AllocError>
+    requires { IsListed (heading sheet.old).units event.now }
+    ensures same { meaning sheet.new ≡ meaning sheet.old }
+    ensures heading { heading sheet.new ≡ heading sheet.old }
+    ensures answer { IfOk result (λ taken. taken ≡ taken_of (meaning sheet.old).limit (list sheet.old)) }
+    ensures list { OnOk result (list sheet.new ≡ list_after (meaning sheet.old).limit (list sheet.old) event.now) }
+{
+    sheet.take(event)
+}

@@ -1,0 +1,138 @@
+//! The sheet of the highest and the lowest water.
+
+ghost use Rattle.std.specs.Prelude.{◌≡◌, [], ◌++◌, All, OnOk, Some, codes};
+ghost use Rattle.event_text.specs.Lines.{IsListed};
+ghost use Rattle.report_sheets.specs.Sheets.{IsLimit, first_head};
+ghost use Rattle.report_sheets.specs.Ranges.{extreme_of, range_line, range_sheet};
+ghost use Rattle.report_sheets.specs.Workings.{better_of};
+ghost use Rattle.zone_time.specs.Zones.{InZoneYears};
+
+use crate::collected::Collected;
+use crate::extreme::Extreme;
+use crate::head::Head;
+use crate::sheet::Sheet;
+use crate::taken::Taken;
+use arrayvec::ArrayString;
+use curve_law::Event;
+use decimal_text::{Bytes, Text};
+use event_text::{unit_text, write_level};
+use harmonics_text::Units;
+use std::alloc::{AllocError, Global};
+use zone_time::write_moment;
+
+/// The sheet `range`: below the station's name, a line such as
+/// `Highest 1.00 feet 2000-01-10T11:59Z` for the first high of greatest level, and one such as
+/// `Lowest -1.00 feet 2000-01-10T06:00Z` for the first low of least level.
+#[derive(Drop)]
+pub struct Ranges {
+    collected: Collected,
+}
+
+impl Ranges {
+    /// A sheet that takes from 1 to 1,000,000 events. It takes no memory.
+    pub fn new(alloc: Global, limit: u32) -> Ranges
+        requires { IsLimit limit }
+        ensures meaning { ⟦<Ranges as Sheet>⟧.meaning result ≡ range_sheet limit }
+        ensures heading { ⟦<Ranges as Sheet>⟧.heading result ≡ first_head }
+        ensures list { ⟦<Ranges as Sheet>⟧.list result ≡ [] }
+    {
+        Ranges {
+            collected: Collected::new(alloc, limit),
+        }
+    }
+}
+
+impl Sheet for Ranges {
+    ghost meaning = { λ sheet. range_sheet sheet.collected.limit };
+
+    ghost heading = { λ sheet. sheet.collected.head };
+
+    ghost list = { λ sheet. sheet.collected.events.items };
+
+    ghost limited = { λ sheet. sheet.collected.limited };
+
+    fn named(&self, word: &Text) -> bool {
+        word.as_str() == "range"
+    }
+
+    fn open(&mut self, head: &Head) -> Result<(), AllocError> {
+        self.collected.open(head)
+    }
+
+    fn take(&mut self, event: &Event) -> Result<Taken, AllocError> {
+        self.collected.take(event)
+    }
+
+    #[tactic(auto, unfolding(crate::specs::Ranges::ranges_of))]
+    fn text(&self) -> Result<Bytes, AllocError> {
+        let units = self.collected.head.units;
+        let events = self.collected.events.as_slice();
+        let mut text = self.collected.page()?;
+        push_extreme(&mut text, Extreme::Highest, units, events)?;
+        push_extreme(&mut text, Extreme::Lowest, units, events)?;
+        Ok(Bytes::from_vec(text))
+    }
+}
+
+/// Appends the line of an end of the range.
+fn push_extreme(
+    text: &mut Vec<u8>,
+    extreme: Extreme,
+    units: Units,
+    events: &[Event],
+) -> Result<(), AllocError>
+    requires { All (IsListed units) events.now }
+    ensures { OnOk result (text.new.items ≡ text.old.items ++ range_line extreme units (extreme_of extreme events.now)) }
+{
+    match first_extreme(extreme, events) {
+        Some(event) => push_range(text, extreme, units, &event),
+        None => Ok(()),
+    }
+}
+
+/// The first high of greatest level, or the first low of least level.
+fn first_extreme(extreme: Extreme, events: &[Event]) -> Option<Event>
+    ensures { result ≡ extreme_of extreme events.now }
+{
+    let mut best = None;
+    for event in events {
+        if extreme.is_of(event.kind) {
+            best = Some(better(extreme, best, event));
+        }
+    }
+    best
+}
+
+/// The better of the best event so far and the next, and the earlier of two equals.
+fn better(extreme: Extreme, best: Option<Event>, event: &Event) -> Event
+    ensures { Some result ≡ better_of extreme best event.now }
+{
+    match best {
+        Some(best) if !extreme.is_passed(best.level, event.level) => best,
+        _ => *event,
+    }
+}
+
+fn push_range(
+    text: &mut Vec<u8>,
+    extreme: Extreme,
+    units: Units,
+    event: &Event,
+) -> Result<(), AllocError>
+    requires { InZoneYears event.now.minute }
+    ensures { OnOk result (text.new.items ≡ text.old.items ++ range_line extreme units (Some event.now)) }
+{
+    let mut level = ArrayString::new();
+    write_level(event.level, &mut level);
+    let mut moment = ArrayString::new();
+    write_moment(event.minute, &mut moment);
+    let mut line = ArrayString::<64>::new();
+    line.push_str(extreme.label());
+    line.push_str(level.as_str());
+    line.push(' ');
+    line.push_str(unit_text(units));
+    line.push(' ');
+    line.push_str(moment.as_str());
+    line.push('\n');
+    text.extend_from_slice(line.as_str().as_bytes())
+}

@@ -1,0 +1,7 @@
+mod TableChecks
+mod DegreeSlopes
+mod CircleSlopes
+mod SlopeLaws
+mod WaveGaps
+mod YearGaps
+mod YearFits

@@ -1,0 +1,89 @@
+-- How far the heights of waves, from a minute to the next, are from going by their falls.
+use Rattle.std.proofs.Common.{◌≡◌, ℕ, ◌+◌, ◌*◌, ◌%◌, ◌≤◌, List, [], ◌∷◌, ℤ, pos, ◌+ℤ◌, ◌-ℤ◌, ◌*ℤ◌, ap, ◌∙◌, refl, arith, lit<}
+use Rattle.std.specs.Prelude.{unsigned_abs, fold}
+use Rattle.std.proofs.lemmas.Int.{ints}
+use Rattle.std.proofs.lemmas.Nat.{mod_below}
+use borrow.Author.Differences.{up, down}
+use Rattle.fixed_sine.specs.Circle.{circle}
+use Rattle.fixed_sine.specs.Sine.{isin_of, icos_of}
+use Rattle.station_curve.specs.Waves.{Harmonic, phase_at, height_at, fall_at, heights_of, falls_of, amount_of, steepness_of}
+use Rattle.station_curve.specs.Sums.{fall_rate_of, far_of}
+use Rattle.station_curve.proofs.Products.{abs_times, abs_plus}
+use Rattle.slope_agreement.specs.UnitGaps.{unit_gap_of}
+use Rattle.slope_agreement.proofs.SlopeLaws.{slope_law}
+
+-- products with a sum, with so many times a difference, and with another product
+sum_is : (x y : ℤ) → up (x +ℤ y) + down x + down y ≡ down (x +ℤ y) + up x + up y
+sum_is x y = omega (arith, ints)
+
+times_sum : (a x y : ℤ) → a *ℤ (x +ℤ y) ≡ (a *ℤ x) +ℤ (a *ℤ y)
+times_sum a x y =
+    omega (arith, ints, ap (λ n. up a * n) (sum_is x y), ap (λ n. down a * n) (sum_is x y))
+
+rise_is : (x y : ℤ) → up (pos 34377467708 *ℤ (x -ℤ y)) + 34377467708 * (down x + up y) ≡ down (pos 34377467708 *ℤ (x -ℤ y)) + 34377467708 * (up x + down y)
+rise_is x y = omega (arith, ints)
+
+times_rise : (a x y : ℤ) → a *ℤ (pos 34377467708 *ℤ (x -ℤ y)) ≡ pos 34377467708 *ℤ ((a *ℤ x) -ℤ (a *ℤ y))
+times_rise a x y =
+    omega (arith, ints, ap (λ n. up a * n) (rise_is x y), ap (λ n. down a * n) (rise_is x y))
+
+product_is : (w : ℕ) (s : ℤ) → up (pos w *ℤ s) + w * down s ≡ down (pos w *ℤ s) + w * up s
+product_is w s = omega (arith, ints)
+
+steepness_is : (a : ℤ) (w : ℕ) → up (a *ℤ pos w) + w * down a ≡ down (a *ℤ pos w) + w * up a
+steepness_is a w = omega (arith, ints)
+
+times_product : (a : ℤ) (w : ℕ) (s : ℤ) → a *ℤ (pos w *ℤ s) ≡ (a *ℤ pos w) *ℤ s
+times_product a w s =
+    omega (arith, ints, ap (λ n. up a * n) (product_is w s), ap (λ n. down a * n) (product_is w s), ap (λ n. n * up s) (steepness_is a w), ap (λ n. n * down s) (steepness_is a w))
+
+-- one wave: so large an amplitude times the gap of its cosine
+wave_slope : (a x y s : ℤ) (w m : ℕ) → unsigned_abs ((pos 34377467708 *ℤ (x -ℤ y)) +ℤ (pos w *ℤ s)) ≤ m → unsigned_abs ((pos 34377467708 *ℤ ((a *ℤ x) -ℤ (a *ℤ y))) +ℤ ((a *ℤ pos w) *ℤ s)) ≤ unsigned_abs a * m
+wave_slope a x y s w m near =
+    let rise = pos 34377467708 *ℤ (x -ℤ y) in
+    let parts : a *ℤ (rise +ℤ (pos w *ℤ s)) ≡ (pos 34377467708 *ℤ ((a *ℤ x) -ℤ (a *ℤ y))) +ℤ ((a *ℤ pos w) *ℤ s) =
+    times_sum a rise (pos w *ℤ s) ∙ ap (λ z. z +ℤ (a *ℤ (pos w *ℤ s))) (times_rise a x y)
+    ∙ ap (λ z. (pos 34377467708 *ℤ ((a *ℤ x) -ℤ (a *ℤ y))) +ℤ z) (times_product a w s) in
+    rw parts at (abs_times a (rise +ℤ (pos w *ℤ s)) (unsigned_abs a) m (omega arith) near)
+
+later : (p w t : ℕ) → (p + w * (t + 1)) % circle ≡ ((p + w * t) % circle + w) % circle
+later p w t = omega arith
+
+-- the most that one wave's height is from going by its fall
+abbrev pub wave_gap : Harmonic → ℕ
+wave_gap h = unsigned_abs h.amplitude * unit_gap_of h.speed
+
+height_gap : (t : ℕ) (h : Harmonic) → unsigned_abs ((pos 34377467708 *ℤ (height_at (t + 1) h -ℤ height_at t h)) +ℤ fall_at t h) ≤ wave_gap h
+height_gap t h =
+    let p = phase_at h t in
+    let slope = slope_law h.speed p (mod_below (h.phase + h.speed * t) circle (lit< tt)) in
+    rw (later h.phase h.speed t)
+    (wave_slope h.amplitude (icos_of ((p + h.speed) % circle)) (icos_of p) (isin_of p) h.speed (unit_gap_of h.speed) slope)
+
+-- the waves of a year
+regrouped : (a x b y c z : ℤ) → (pos 34377467708 *ℤ ((a +ℤ x) -ℤ (b +ℤ y))) +ℤ (c +ℤ z) ≡ ((pos 34377467708 *ℤ (a -ℤ b)) +ℤ c) +ℤ ((pos 34377467708 *ℤ (x -ℤ y)) +ℤ z)
+regrouped a x b y c z = omega (arith, ints)
+
+sums_gap : (t : ℕ) (hs : List Harmonic) (a b c : ℤ) (d : ℕ) → unsigned_abs ((pos 34377467708 *ℤ (a -ℤ b)) +ℤ c) ≤ d → unsigned_abs ((pos 34377467708 *ℤ (fold (λ sum h. sum +ℤ height_at (t + 1) h) a hs -ℤ fold (λ sum h. sum +ℤ height_at t h) b hs)) +ℤ fold (λ sum h. sum +ℤ fall_at t h) c hs) ≤ fold (λ sum h. sum + wave_gap h) d hs
+sums_gap t [] a b c d near = near
+sums_gap t (h ∷ hs) a b c d near =
+    let more = height_at (t + 1) h in
+    let less = height_at t h in
+    sums_gap t hs (a +ℤ more) (b +ℤ less) (c +ℤ fall_at t h) (d + wave_gap h)
+    (rw (regrouped a more b less c (fall_at t h))
+    (abs_plus ((pos 34377467708 *ℤ (a -ℤ b)) +ℤ c) ((pos 34377467708 *ℤ (more -ℤ less)) +ℤ fall_at t h) d (wave_gap h) near (height_gap t h)))
+
+-- by the sums of the year
+gap_parts : (a b c : ℕ) (h : Harmonic) → (a + 100000 * b + 68754935416 * c) + wave_gap h ≡ (a + fall_rate_of h) + 100000 * (b + unsigned_abs h.amplitude * h.speed) + 68754935416 * (c + unsigned_abs h.amplitude)
+unfolding unit_gap_of
+gap_parts a b c h = omega arith
+
+gaps_parts : (hs : List Harmonic) (a b c : ℕ) → fold (λ sum h. sum + wave_gap h) (a + 100000 * b + 68754935416 * c) hs ≡ fold (λ sum h. sum + fall_rate_of h) a hs + 100000 * fold (λ sum h. sum + unsigned_abs h.amplitude * h.speed) b hs + 68754935416 * fold (λ sum h. sum + unsigned_abs h.amplitude) c hs
+gaps_parts [] a b c = refl
+gaps_parts (h ∷ hs) a b c =
+    ap (λ d. fold (λ sum h. sum + wave_gap h) d hs) (gap_parts a b c h)
+    ∙ gaps_parts hs (a + fall_rate_of h) (b + unsigned_abs h.amplitude * h.speed) (c + unsigned_abs h.amplitude)
+
+pub heights_gap : (t : ℕ) (hs : List Harmonic) → unsigned_abs ((pos 34377467708 *ℤ (heights_of (t + 1) hs -ℤ heights_of t hs)) +ℤ falls_of t hs) ≤ far_of hs + 100000 * steepness_of hs + 68754935416 * amount_of hs
+heights_gap t hs =
+    rw (gaps_parts hs 0 0 0) at (sums_gap t hs (pos 0) (pos 0) (pos 0) 0 (omega arith))

@@ -1,0 +1,2 @@
+pub mod UnitGaps
+pub mod Agreements

@@ -1,0 +1,19 @@
+//! How far a station's slope is from the steps of its level.
+//!
+//! Level and slope are sums of cosines and sines in whole numbers, so the slope isn't exactly what
+//! the level gains in a minute. [`unit_gap`] bounds how far both are apart for one wave, by its speed
+//! alone, and [`agreement`] for a station, over all its years.
+#![tactic(auto)]
+
+mod laws;
+mod station_gaps;
+mod unit_gaps;
+mod worked;
+
+pub use laws::{predicted_agreements, table_checks};
+pub use station_gaps::agreement;
+pub use unit_gaps::unit_gap;
+pub use worked::{worked_agreements, worked_gaps, worked_unit_gaps};
+
+#[cfg(test)]
+mod tests;

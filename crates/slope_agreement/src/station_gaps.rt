@@ -1,0 +1,39 @@
+//! How far a station's level, from a minute to the next, is from going by its slope.
+
+ghost use Rattle.std.specs.Prelude.{◌≡◌, ℕ, ◌*◌, ◌^◌, ◌≤◌, length, ℤ, pos, ◌≤ℤ◌, unsigned_abs};
+ghost use Rattle.station_curve.specs.Limits.{AreGentle};
+ghost use Rattle.slope_agreement.specs.Agreements.{gap_of, IsPlainMinute, year_agreement, agreement_of};
+
+use crate::unit_gaps::{EACH_UNIT, TWO_CUTS};
+use station_curve::{StationCurve, Sums};
+use year_blend::TOTAL_WEIGHT;
+
+/// The whole weight.
+const WEIGHT: i128 = TOTAL_WEIGHT as i128;
+
+/// How far what a station's level gains in a minute is at most from the slope where it begins, over
+/// all minutes that lie in the plain part of a year together with the next one. The greatest bound
+/// of the years, in the slope's unit.
+pub fn agreement(station: &StationCurve) -> i128
+    ensures value { result ≡ agreement_of station.now }
+    ensures law { (m : ℤ) (year : ℕ) → IsPlainMinute station.now.first_year (length station.now.years) m year
+        → pos (gap_of station.now m) ≤ℤ result }
+    ensures least { pos 0 ≤ℤ result }
+    ensures most { result ≤ℤ pos (5 * 10 ^ 34) }
+{
+    station.known();
+    let mut most: i128 = 0;
+    for year in 0..station.years() {
+        most = most.max(year_agreement(&station.sums(year)));
+    }
+    most
+}
+
+/// The bound of a year by its sums.
+fn year_agreement(year: &Sums) -> i128
+    requires { AreGentle year.now }
+    ensures value { result ≡ year_agreement year.now }
+    ensures size { unsigned_abs result ≤ 5 * 10 ^ 34 }
+{
+    WEIGHT * (year.far + EACH_UNIT as i128 * year.steep + TWO_CUTS as i128 * year.amount)
+}

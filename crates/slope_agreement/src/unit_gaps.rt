@@ -1,0 +1,26 @@
+//! How far the cosine's change is from its slope.
+
+ghost use Rattle.std.specs.Prelude.{◌≡◌, pos, unsigned_abs};
+ghost use Rattle.fixed_sine.specs.Rate.{IsSpeed};
+ghost use Rattle.slope_agreement.specs.UnitGaps.{unit_gap_of, SlopeLaw};
+
+use fixed_sine::{RADIAN, step};
+
+/// The most that the cosine's change over one unit is from its slope, in billionths.
+pub const EACH_UNIT: u64 = 100_000;
+
+/// What two cuts to whole billionths may come to, times the units of a radian.
+pub const TWO_CUTS: u64 = 2 * RADIAN as u64;
+
+/// How far what the cosine changes by in a minute is at most from its slope, both times the units of
+/// a radian and in billionths, for a wave that turns by `w` units a minute, `w` from 0 to
+/// 3,600,000,000.
+pub fn unit_gap(w: i64) -> i128
+    requires { IsSpeed w }
+    ensures value { result ≡ pos (unit_gap_of (unsigned_abs w)) }
+    ensures law { SlopeLaw (unsigned_abs w) }
+{
+    let step = step(w) as u64;
+    let w = w as u64;
+    i128::from(w * step + EACH_UNIT * w + TWO_CUTS)
+}

@@ -1,0 +1,38 @@
+//! Gaps and bounds that were worked out elsewhere.
+
+ghost use Rattle.std.specs.Prelude.{◌≡◌, ◌*◌, [], ◌∷◌, pos};
+ghost use Rattle.harmonics_text.specs.declared.book.Units.TheVariants.{Feet};
+ghost use Rattle.station_curve.specs.Curves.{tide_of};
+ghost use Rattle.station_curve.specs.Worked.{small_station, pier_book, pier, harbour_book, harbour};
+ghost use Rattle.slope_agreement.specs.Agreements.{gap_of, predicted_gap, agreement_of, predicted_agreement};
+ghost use Rattle.slope_agreement.specs.UnitGaps.{unit_gap_of};
+
+/// The gaps of waves that stand still, that turn by a unit, by M2's speed, by half a degree and by six
+/// degrees a minute.
+#[tactic(auto, unfolding(fixed_sine::specs::Rate::step_of, crate::specs::UnitGaps::unit_gap_of))]
+pub fn worked_unit_gaps()
+    ensures still { unit_gap_of 0 ≡ 68754935416 }
+    ensures one_unit { unit_gap_of 1 ≡ 68755035417 }
+    ensures lunar { unit_gap_of 289841042 ≡ 2472840648573408 }
+    ensures half_a_degree { unit_gap_of 300000000 ≡ 2648169054935416 }
+    ensures six_degrees { unit_gap_of 3600000000 ≡ 377366472354935416 }
+{}
+
+/// Half a day's tide at noon and midnight, 1 high, also with a node factor that is greatest in the
+/// second of three years; a tide of two constituents, larger in the first of two years; and none.
+pub fn worked_agreements()
+    ensures tide { agreement_of (tide_of pier_book pier) ≡ pos 10982486704628157235200000000000 }
+    ensures one_wave { predicted_agreement pier_book pier ≡ pos 10982486704628157235200000000000 }
+    ensures second_year { predicted_agreement (record pier_book { factors = pos 1000000 ∷ pos 1200000 ∷ pos 900000 ∷ [] }) pier
+        ≡ pos 13178984045553788682240000000000 }
+    ensures first_year { predicted_agreement harbour_book harbour ≡ pos 16858287966955586830516224000000 }
+    ensures no_tide { predicted_agreement pier_book (small_station (pos 0) Feet) ≡ pos 0 }
+{}
+
+/// The same tides' gaps at single minutes, the first at a high water.
+pub fn worked_gaps()
+    ensures tide { gap_of (tide_of pier_book pier) (pos 15791040) ≡ 4147200000 * 1000000 * 1309093970320640 }
+    ensures midnight { predicted_gap pier_book pier (pos 15791040) ≡ 4147200000 * 1000000 * 1309093970320640 }
+    ensures harbour_2000 { predicted_gap harbour_book harbour (pos 15778380) ≡ 2604381509775785907188736000000 }
+    ensures harbour_2001 { predicted_gap harbour_book harbour (pos 16390080) ≡ 6070143806716623885374054400000 }
+{}

@@ -1,0 +1,19 @@
+use Rattle.std.proofs.Common.{sym}
+use Rattle.station_span.proofs.PeakLemmas.{has_highest, peak_alike, verdict_alike, whole_site}
+use Rattle.station_span.proofs.peaks.find_level.Goals as goal
+
+pub returns-clause-exact : goal.returns-clause-exact
+returns-clause-exact c =
+    let site = c.in_ok-found.ensures.exact in
+    let highest = has_highest c.args.book.now c.args.asked.now site.0 c.in_ok-found.found site.2 c.in_ok-check_level.ensures.equal in (
+      site.0,
+      whole_site c.args.book.now c.args.table.now c.args.name.now c.args.asked.now site.0 c.in_ok-found.found site.1 site.2.basis (sym c.in_ok-check_level.ensures.exact),
+      record {
+        basis = site.2.basis;
+        units = site.2.units;
+        predicts = site.2.predicts;
+        highest = highest;
+        peak = peak_alike c.args.book.now c.args.asked.now site.0 c.in_ok-found.found site.2 highest;
+        verdict = λ peak. verdict_alike c.args.book.now c.args.asked.now site.0 c.in_ok-found.found peak site.2 highest;
+      },
+    )

@@ -1,0 +1,18 @@
+use Rattle.std.proofs.Common.{◌≡◌, ◌∙◌, ◌≤ℤ◌, ◌<ℤ◌, FitsSigned, w64, to_z, of_z, rules, subst}
+use Rattle.std.proofs.lemmas.Int.{to_z-of_z}
+use Rattle.station_span.specs.Workings.Levels.{source_of}
+use Rattle.station_span.proofs.PeakLemmas.{source_inside}
+use Rattle.station_span.proofs.peaks.judge_highest.Goals as goal
+
+pub returns-clause-inside : goal.returns-clause-inside
+returns-clause-inside c = λ accepted. (
+    let begin : FitsSigned w64 c.args.asked.now.begin = search rules in
+    let end : FitsSigned w64 c.args.asked.now.end = search rules in
+    let first : c.source-begin.result ≡ source_of c.args.found.now c.args.asked.now.begin = simp to_z-of_z at c.source-begin.ensures in
+    let last : c.source-end.result ≡ source_of c.args.found.now c.args.asked.now.end = simp to_z-of_z at c.source-end.ensures in
+    let fits : FitsSigned w64 c.source-begin.result = search rules in
+    let fits_too : FitsSigned w64 c.source-end.result = search rules in
+    let highest = c.check_peak.ensures.highest accepted in
+    source_inside c.args.found.now c.args.asked.now c.args.peak.now.at
+    (subst (λ b. b ≤ℤ c.args.peak.now.at) (to_z-of_z w64 _ fits ∙ first) highest.from)
+    (subst (λ e. c.args.peak.now.at <ℤ e) (to_z-of_z w64 _ fits_too ∙ last) highest.before))

@@ -1,0 +1,44 @@
+-- The highest water of a station over a span (this project).
+use Rattle.std.specs.Prelude.{ℕ, ℤ, pos, ◌-ℤ◌, unsigned_abs, true, List, Result, Ok}
+use Rattle.curve_law.specs.Meaning.{Meaning}
+use Rattle.decimal_text.specs.Expected.{◌>>=◌}
+use Rattle.harmonics_text.specs.declared.book.Book.{Book}
+use Rattle.highest_water.specs.declared.peak.Peak.{Peak}
+use Rattle.highest_water.specs.declared.verdict.PeakVerdict.{PeakVerdict}
+use Rattle.highest_water.specs.Covers.{peak_of}
+use Rattle.highest_water.specs.Verdicts.{peak_verdict}
+use Rattle.rate_bound.specs.declared.version.Version.TheVariants.{Second}
+use Rattle.rate_bound.specs.Meanings.{predicted_mark}
+use Rattle.station_table.specs.declared.offsets.Offsets.{Offsets}
+use Rattle.tide_fault.specs.declared.refusal.Refusal.{Refusal}
+use Rattle.station_span.specs.declared.asked.Asked.{Asked}
+use Rattle.station_span.specs.declared.reach.Reach.TheVariants.{Highest}
+use Rattle.station_span.specs.Levels.{level_in}
+use Rattle.station_span.specs.Sites.{Site, site_in}
+
+-- the station of a name with a span of it that has a highest water: one that has levels
+unfoldable pub highest_site : Book → List Offsets → List ℕ → Asked → Result Site Refusal
+highest_site book table name asked = do
+  site ← site_in Highest book table name asked
+  level ← level_in site.basis
+  Ok site
+
+-- the level of the reference, in its own unit and against no mark
+abbrev pub level_curve : Book → Site → Meaning
+level_curve book site = predicted_mark Second book site.station (pos 1000000) (pos 0) (pos 0) true
+
+-- the reference's minute that is moved to the span's first one, and how many minutes the span has
+abbrev pub first_source : Site → Asked → ℤ
+first_source site asked = asked.begin -ℤ site.basis.high.add
+
+abbrev pub minute_count : Asked → ℕ
+minute_count asked = unsigned_abs (asked.end -ℤ asked.begin)
+
+-- the highest water of the reference's minutes that are moved into the span, with its cells
+unfoldable pub highest_of : Book → Site → Asked → Peak
+highest_of book site asked = peak_of (level_curve book site) (first_source site asked) (minute_count asked)
+
+-- what a check finds on one that somebody wrote
+unfoldable pub highest_verdict : Book → Site → Asked → Peak → PeakVerdict
+highest_verdict book site asked peak =
+    peak_verdict (level_curve book site) (first_source site asked) (minute_count asked) peak
