@@ -1,5 +1,5 @@
 -- How long the text of a certificate is.
-use Rattle.std.proofs.Common.{◌≡◌, ℕ, suc, ◌+◌, ◌*◌, ◌<◌, ◌≤◌, List, [], ◌∷◌, ◌++◌, codes, map, length, get_or, Option, Some, None, ℤ, pos, negsuc, ◌⊎◌, inl, inr, refl, sym, ap, ◌∙◌, append_assoc, length-append, lit<, arith}
+use Rattle.std.proofs.Common.{◌≡◌, ℕ, ◌+◌, ◌*◌, ◌<◌, ◌≤◌, List, [], ◌∷◌, ◌++◌, codes, map, length, get_or, Option, Some, None, ℤ, pos, ◌⊎◌, inl, inr, refl, sym, ap, ◌∙◌, append_assoc, length-append, lit<, arith}
 use Rattle.std.specs.Prelude.{unsigned_abs, unwrap_or, decimal, All, IfSome}
 use Rattle.std.specs.Fmt.{signed_decimal}
 use Rattle.std.specs.List.{AllByRecursion}

@@ -28,3 +28,6 @@ pub use text_laws::{
 };
 pub use worked_texts::{worked_peak_readings, worked_peak_texts};
 pub use writing::write_peak;
+
+#[cfg(test)]
+mod text_tests;

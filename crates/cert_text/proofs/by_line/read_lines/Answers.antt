@@ -1,4 +1,4 @@
-use Rattle.std.proofs.Common.{◌≡◌, false, true, eqb, length, sym, ap, ◌∙◌, arith}
+use Rattle.std.proofs.Common.{◌≡◌, false, true, eqb, length, sym, ◌∙◌, arith}
 use Rattle.cert_text.proofs.ByLineLemmas.{goes_on, ends, gives_fault, gives_same}
 use Rattle.cert_text.proofs.by_line.read_lines.Goals as goal
 

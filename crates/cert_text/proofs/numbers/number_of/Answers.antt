@@ -1,4 +1,4 @@
-use Rattle.std.proofs.Common.{◌≡◌, ◌<◌, ◌^◌, Some, None, ap, sym, ◌∙◌, codes, arith, rules}
+use Rattle.std.proofs.Common.{◌≡◌, Some, None, ap, sym, ◌∙◌, codes, arith, rules}
 use Rattle.std.proofs.lemmas.Int.{ints}
 use Rattle.cert_text.specs.Workings.LineReading.{after, size_of, number_of}
 use Rattle.cert_text.proofs.NumberLemmas.{within}

@@ -1,4 +1,4 @@
-use Rattle.std.proofs.Common.{sym, ap, subst}
+use Rattle.std.proofs.Common.{subst}
 use Rattle.decimal_text.specs.Expected.{Gives}
 use Rattle.cert_text.specs.ByLine.{wants_memory, read_from, pieces}
 use Rattle.cert_text.specs.Readings.{certificate_of}

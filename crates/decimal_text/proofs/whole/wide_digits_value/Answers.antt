@@ -1,5 +1,4 @@
-use Rattle.std.proofs.Common.{◌≡◌, ◌<◌, ◌^◌, length, sym, ◌∙◌, subst, arith}
-use Rattle.std.specs.Str.Parse.{digits_value}
+use Rattle.std.proofs.Common.{◌<◌, ◌^◌, length, sym, subst, arith}
 use Rattle.decimal_text.proofs.DigitsLemmas.{digits_value-split, digits_value_small}
 use Rattle.decimal_text.proofs.whole.wide_digits_value.Goals as goal
 
