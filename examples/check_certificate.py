@@ -1,6 +1,6 @@
 #!/usr/bin/env python3
-"""Checks a certificate by docs/CERTIFICATES.md and prints the first line of what `tide check` prints, over constants and
-a table that are in order.
+"""Checks a certificate by docs/CERTIFICATES.md and prints the first line of what `tide check` prints, or `tide peakcheck`
+where its first line is `peak certificate 1`, over constants and a table that are in order.
 
 check_certificate.py file=CONSTANTS certificate=C [offsets=TABLE]
 """
@@ -8,8 +8,9 @@ check_certificate.py file=CONSTANTS certificate=C [offsets=TABLE]
 import re
 import sys
 
-from tide_numbers import Constants, Refused, asked, moment
+from tide_numbers import Constants, Refused, asked, asked_highest, moment
 
+PEAK_TITLE = 'peak certificate 1'
 KINDS = {'turn': ('high', 'low'), 'slack': ('flood', 'ebb'), 'mark': ('rise', 'fall')}
 
 
@@ -18,14 +19,14 @@ class NotACertificate(Exception):
 
 
 class Rejected(Exception):
-    """What is wrong with the tracks."""
+    """What is wrong with the cells."""
 
 
 # ---- the text
 
 def number(text, most):
     """The number that a text writes, at most so large in size, or None."""
-    if not re.fullmatch('0|-?[1-9][0-9]*', text) or len(text) > 20 or abs(int(text)) > most:
+    if not re.fullmatch('0|-?[1-9][0-9]*', text) or len(text) > 40 or abs(int(text)) > most:
         return None
     return int(text)
 
@@ -44,24 +45,20 @@ def cell(track, line):
     return None
 
 
-class Certificate:
-    """What the text of a certificate says."""
+def peak_cell(line):
+    """The minutes of a cell of a highest water, or None."""
+    if line == 'm':
+        return 1
+    minutes = number(line[2:], 1024) if line.startswith('u ') else None
+    return minutes if minutes is not None and minutes >= 2 else None
+
+
+class Text:
+    """A text that is read line by line."""
 
     def __init__(self, data):
         self.lines = data.split(b'\n')
         self.at = 0
-        title = self.line()
-        self.version = {'tide certificate 1': 1, 'tide certificate 2': 2}.get(title) or self.fault()
-        self.station = self.value('station ')
-        if not 1 <= len(self.station.encode()) <= 400 or re.search('[\0-\37\177]', self.station):
-            self.fault()
-        self.begin, self.end = self.moment('begin '), self.moment('end ')
-        mark = self.value('mark ')
-        self.mark = None if mark == 'none' else number(mark, 10000000000)
-        if mark != 'none' and self.mark is None:
-            self.fault()
-        self.tracks = {}
-        self.read_tracks()
 
     def fault(self):
         raise NotACertificate(self.at)
@@ -83,6 +80,37 @@ class Certificate:
         minute = moment(self.value(word))
         return self.fault() if minute is None else minute
 
+    def number(self, word, most):
+        size = number(self.value(word), most)
+        return self.fault() if size is None else size
+
+    def question(self):
+        station = self.value('station ')
+        if not 1 <= len(station.encode()) <= 400 or re.search('[\0-\37\177]', station):
+            self.fault()
+        return station, self.moment('begin '), self.moment('end ')
+
+    def end_of_text(self):
+        self.at += 1
+        if self.lines[self.at - 1:] != [b'']:
+            self.fault()
+
+
+class Certificate(Text):
+    """What the text of a certificate of events says."""
+
+    def __init__(self, data):
+        super().__init__(data)
+        self.version = {'tide certificate 1': 1, 'tide certificate 2': 2}.get(self.line()) or self.fault()
+        self.station, self.begin, self.end = self.question()
+        mark = self.value('mark ')
+        self.mark = None if mark == 'none' else number(mark, 10000000000)
+        if mark != 'none' and self.mark is None:
+            self.fault()
+        self.tracks = {}
+        self.read_tracks()
+        self.end_of_text()
+
     def read_tracks(self):
         if self.line() != 'track turn':
             self.fault()
@@ -97,9 +125,21 @@ class Certificate:
                 self.tracks[track].append(cell(track, line) or self.fault())
         if self.mark is not None and track != 'mark':
             self.fault()
-        self.at += 1
-        if self.lines[self.at - 1:] != [b'']:
+
+
+class PeakCertificate(Text):
+    """What the text of a certificate of a highest water says."""
+
+    def __init__(self, data):
+        super().__init__(data)
+        if self.line() != PEAK_TITLE:
             self.fault()
+        self.station, self.begin, self.end = self.question()
+        self.highest = self.moment('at '), self.number('value ', 10 ** 37 - 1)
+        self.cells = []
+        while (line := self.line()) != 'done':
+            self.cells.append(peak_cell(line) or self.fault())
+        self.end_of_text()
 
 
 # ---- the tracks
@@ -129,11 +169,48 @@ def check(constants, table, certificate):
         check_track(name, track, c.tracks[name], first, last)
 
 
+# ---- the highest water
+
+def is_under(track, a, minutes, at, value):
+    """Whether the end values and the rate leave a stretch no room: before `at` for the value, behind it for a greater."""
+    rate = track.rate(a, minutes)
+    if a <= at < a + minutes or rate is None:
+        return False
+    most = track.value(a) + track.value(a + minutes) + rate * minutes
+    return most < 2 * value if a < at else most <= 2 * value
+
+
+def check_peak(constants, table, certificate):
+    c = certificate
+    first, last, track = asked_highest(constants, table, c.station, c.begin, c.end)
+    if sum(c.cells) != last - first:
+        raise Rejected(f'cells cover {sum(c.cells)} of {last - first} minutes')
+    at, value = c.highest
+    if not first <= at < last:
+        raise Rejected('at outside the span')
+    a = first
+    for i, minutes in enumerate(c.cells, 1):
+        if minutes > 1:
+            if not is_under(track, a, minutes, at, value):
+                raise Rejected(f'cell {i} is not under')
+        elif a == at:
+            if track.value(a) != value:
+                raise Rejected(f'value {value}, computed {track.value(a)}')
+        elif track.value(a) > value or a < at and track.value(a) == value:
+            raise Rejected(f'cell {i} is above')
+        a += minutes
+
+
 def answer(file, certificate, offsets=None):
     """The line and the status."""
     try:
+        constants = Constants(file)
         with open(certificate, 'rb') as text:
-            check(Constants(file), offsets, Certificate(text.read()))
+            data = text.read()
+        if data.startswith(PEAK_TITLE.encode() + b'\n'):
+            check_peak(constants, offsets, PeakCertificate(data))
+        else:
+            check(constants, offsets, Certificate(data))
     except OSError:
         return 'read fault', 6
     except NotACertificate as fault:

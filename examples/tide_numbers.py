@@ -1,4 +1,4 @@
-"""The numbers of docs/CERTIFICATES.md: constants, curve, tracks, rates, quiet cells. Whole numbers only."""
+"""The numbers of docs/CERTIFICATES.md: constants, curve, tracks, rates, quiet cells, questions. Whole numbers only."""
 
 import csv
 import datetime
@@ -251,15 +251,20 @@ class Track:
         return v + u > rate * n if v > 0 else -(v + u) >= rate * n
 
 
-def asked(constants, table, name, begin, end, mark, version):
-    """The first and the last minute of the widened span, and the tracks by their names."""
+# ---- questions
+
+def settled(constants, table, name, begin, end, adds_of, may_be_empty=True):
+    """The curve, the offsets, and the first and the last of the reference's minutes, by the adds that count."""
     record, offsets = find(constants, table, name)
     curve = Curve(constants, record)
     if curve.unit == 'knots^2':
         raise Refused('refused: hydraulic')
     if begin > end:
         raise Refused('refused: backward span')
-    first, last = begin - max(offsets.adds()), end - min(offsets.adds())
+    if begin == end and not may_be_empty:
+        raise Refused('refused: empty span')
+    adds = adds_of(offsets)
+    first, last = begin - max(adds), end - min(adds)
     if first < curve.starts[0] or last > curve.starts[-1]:
         years = f'{moment_text(curve.starts[0])} to {moment_text(curve.starts[-1])}'
         raise Refused('refused: out of years: file has ' + years)
@@ -268,6 +273,12 @@ def asked(constants, table, name, begin, end, mark, version):
             raise Refused(f'limit: too {"large" if amount > 10 ** 9 else "steep"} in {year}', 5)
     if end - begin > 5270400:
         raise Refused(f'limit: span of {end - begin} minutes', 5)
+    return curve, offsets, first, last
+
+
+def asked(constants, table, name, begin, end, mark, version):
+    """The first and the last minute of the widened span, and the tracks by their names."""
+    curve, offsets, first, last = settled(constants, table, name, begin, end, Offsets.adds)
     if mark is not None and offsets.high != offsets.low:
         raise Refused('refused: mark not here')
     tracks = {'turn': Track(curve, version, ('low', 'high'))}
@@ -278,3 +289,13 @@ def asked(constants, table, name, begin, end, mark, version):
     if mark is not None:
         tracks['mark'] = Track(curve, version, ('rise', 'fall'), times, plus - mark)
     return first, last, tracks
+
+
+def asked_highest(constants, table, name, begin, end):
+    """The first and the last of the reference's minutes, and its level as a track."""
+    def adds_of(offsets):
+        return [offsets.high[0]] if offsets.high == offsets.low else offsets.adds()
+    curve, offsets, first, last = settled(constants, table, name, begin, end, adds_of, may_be_empty=False)
+    if offsets.high != offsets.low:
+        raise Refused('refused: level not here')
+    return first, last, Track(curve, 2, None, MILLION)

@@ -37,6 +37,31 @@ front_runs : {D : Type 0} (after : D → List ℕ → Option D) (xs ys : List (L
 front_runs after xs ys d e k =
     option_and_then_some (λ x. run after x ys) (run after d xs) e (sym (run-append after xs ys d) ∙ k) (λ x found rest. (x, found))
 
+-- ---- drafts that know which lines they were read from
+
+-- what lines leave of a draft was read from them too
+pub record Reached {P D : Type 0} (Knows : P → D → Type 0) (said : P → D → List (List ℕ)) (p : P) (d e : D) (lines : List (List ℕ)) : Type 0 where
+  pub place : P
+  pub knows : Knows place e
+  pub says : said place e ≡ said p d ++ lines
+
+-- many lines, where one is so
+pub reached : {P D : Type 0} (Knows : P → D → Type 0) (said : P → D → List (List ℕ)) (after : D → List ℕ → Option D)
+    → ((p : P) (d e : D) (line : List ℕ) → Knows p d → after d line ≡ Some e → Reached Knows said p d e (line ∷ []))
+    → (lines : List (List ℕ)) (p : P) (d e : D) → Knows p d → run after d lines ≡ Some e → Reached Knows said p d e lines
+unfolding run
+reached Knows said after step [] p d e h k =
+    subst (λ e. Reached Knows said p d e []) (same_Some d e k) (record { place = p; knows = h; says = sym (append-nil (said p d)) })
+reached Knows said after step (line ∷ lines) p d e h k =
+    option_and_then_some (λ e. run after e lines) (after d line) e k (λ x found rest.
+    let one = step p d x line h found in
+    let more = reached Knows said after step lines one.place x e one.knows rest in
+    record {
+      place = more.place;
+      knows = more.knows;
+      says = more.says ∙ ap (λ ls. ls ++ lines) one.says ∙ append_assoc (said p d) (line ∷ []) lines;
+    })
+
 -- ---- one line
 
 module _ {C D : Type 0} (after : D → List ℕ → Option D) (whole : D → Option C) where

@@ -21,6 +21,7 @@ use Rattle.cert_text.specs.Lines.{title_of, station_line_of, begin_line_of, end_
 use Rattle.cert_text.specs.Workings.LineReading.{version_of, station_of, moment_after, mark_of, cell_of}
 use Rattle.cert_text.specs.Workings.Drafts.{start, next, next_at, with_version, with_station, with_begin, with_end, with_mark, after_heading, after_last, after_slack, after_turn, with_turn, with_slack, with_crossing, if_there, certificate_in}
 use Rattle.cert_text.proofs.OptionLemmas.{option_map_some}
+use Rattle.cert_text.proofs.ByLineLemmas.{Reached}
 use Rattle.cert_text.proofs.LineLemmas.{same_bytes, x_is_name, moment_zero, version_is, station_is, moment_is, mark_is, cell_is}
 
 -- ---- what a draft knows
@@ -89,10 +90,8 @@ said_at Done d = lines_of (certificate_in d)
 
 -- ---- one more line
 
-pub record Steps (p : Part) (d e : Draft) (line : List ℕ) : Type 0 where
-  pub place : Part
-  pub knows : Knows place e
-  pub says : said_at place e ≡ said_at p d ++ line ∷ []
+abbrev pub Steps : Part → Draft → Draft → List ℕ → Type 0
+Steps p d e line = Reached Knows said_at p d e (line ∷ [])
 
 title_steps : (d e : Draft) (line : List ℕ) → Knows Title d → option_map (with_version d) (version_of line) ≡ Some e → Steps Title d e line
 title_steps d e line h k =

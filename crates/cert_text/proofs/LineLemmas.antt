@@ -1,6 +1,6 @@
 -- What is read of a line is what the line says, and no other line says it.
 use Rattle.std.proofs.Common.{◌≡◌, ◌≢◌, ℕ, zero, suc, ◌<◌, ◌≤◌, Bool, true, false, cond, List, [], ◌∷◌, ◌++◌, codes, length, get_or, take, drop, Option, Some, None, ℤ, pos, negsuc, ◌⊎◌, inl, inr, refl, sym, ap, ◌∙◌, subst, take-append-drop, lit<, lit≤, arith}
-use Rattle.std.specs.Prelude.{unsigned_abs, decimal, ◌&&◌, IfSome, option_and_then}
+use Rattle.std.specs.Prelude.{unsigned_abs, decimal, nat_lt, nat_le, ◌&&◌, IfSome, option_and_then}
 use Rattle.std.specs.Fmt.{signed_decimal}
 use Rattle.std.specs.List.{list_all}
 use Rattle.std.specs.Option.{option_or}
@@ -8,7 +8,6 @@ use Rattle.std.specs.Str.{IsUtf8, is_utf8, bytes_eq}
 use Rattle.std.proofs.lemmas.Bool.{ltb-true, leb-true, lt-ltb, le-leb, and_parts, and_from, eqb-false, ne_eqb, not-true, not_from_false}
 use Rattle.std.proofs.lemmas.Int.{ints}
 use Rattle.std.proofs.lemmas.List.{take_at, drop_at}
-use Rattle.std.proofs.lemmas.List.Elements.{All-from_recursion}
 use Rattle.std.proofs.lemmas.List.Sums.{AllPass-from_list_all, list_all-from_AllPass}
 use Rattle.std.proofs.lemmas.Option.{cond_some, same_Some, option_and_then_some}
 use Rattle.std.proofs.lemmas.Slice.Eq.{bytes_eq-Decides}
@@ -130,18 +129,28 @@ station_of-line name h =
     let printed : list_all is_name_byte name ≡ true = list_all-from_AllPass is_name_byte name (λ k d lt. name_byte-from _ (h.printed k d lt)) in
     rw (after-append (codes "station ") name) (named_yes name h.some h.short printed h.text)
 
--- some name
-x_is_ascii : (i : ℕ) → get_or (codes "x") i 0 < 128
-x_is_ascii zero = lit< tt
-x_is_ascii (suc i) = lit< tt
+-- a name of printed ASCII
+abbrev pub is_plain : ℕ → Bool
+is_plain b = nat_le 32 b && nat_lt b 127
+
+plain_is : (b : ℕ) → is_plain b ≡ true → (32 ≤ b) × (b < 127)
+plain_is b e = let both = and_parts _ _ e in (leb-true 32 b both.0, ltb-true b 127 both.1)
+
+plain_is_ascii : (name : List ℕ) → list_all is_plain name ≡ true → (i : ℕ) → get_or name i 0 < 128
+plain_is_ascii [] h i = lit< tt
+plain_is_ascii (b ∷ bs) h zero = omega (arith, (plain_is b (and_parts _ _ h).0).1)
+plain_is_ascii (b ∷ bs) h (suc i) = plain_is_ascii bs (and_parts _ _ h).1 i
+
+pub plain_name : (name : List ℕ) → 1 ≤ length name → length name ≤ 400 → list_all is_plain name ≡ true → IsStationName name
+plain_name name some few plain = record {
+  text = IsUtf8-from_ascii name (plain_is_ascii name plain);
+  some = some;
+  short = few;
+  printed = λ k d lt. let is = plain_is _ (AllPass-from_list_all is_plain name plain k d lt) in (is.0, λ e. omega (arith, is.1, e));
+}
 
 pub x_is_name : IsStationName (codes "x")
-x_is_name = record {
-  text = IsUtf8-from_ascii (codes "x") x_is_ascii;
-  some = lit≤ tt;
-  short = lit≤ tt;
-  printed = All-from_recursion (λ (b : ℕ). (32 ≤ b) × (b ≢ 127)) (codes "x") ((lit≤ tt, λ e. absurd (omega (arith, e))), tt);
-}
+x_is_name = plain_name (codes "x") (lit≤ tt) (lit≤ tt) refl
 
 -- ---- moments
 

@@ -1,16 +1,14 @@
 -- A draft after many lines: reading the lines of a certificate leaves the certificate.
-use Rattle.std.proofs.Common.{◌≡◌, ℕ, Bool, true, false, List, [], ◌∷◌, ◌++◌, codes, map, Option, Some, None, ℤ, refl, sym, ap, ◌∙◌, subst, append-nil, append_assoc}
+use Rattle.std.proofs.Common.{◌≡◌, ℕ, Bool, true, false, List, [], ◌∷◌, ◌++◌, codes, map, Option, Some, None, ℤ, refl, sym, ap, ◌∙◌, append-nil, append_assoc}
 use Rattle.std.specs.Prelude.{is_some, unwrap_or, All, IfSome}
 use Rattle.std.specs.List.{AllByRecursion}
 use Rattle.std.specs.Str.{bytes_eq}
 use Rattle.std.proofs.lemmas.List.Elements.{recursion_from_All}
-use Rattle.std.proofs.lemmas.Option.{same_Some, option_and_then_some}
 use Rattle.curve_law.specs.declared.cell.Cell.{Cell}
 use Rattle.zone_time.specs.Moments.{IsMoment}
 use Rattle.cert_text.specs.declared.certificate.Certificate.{Certificate}
 use Rattle.cert_text.specs.declared.track_name.TrackName.{TrackName}
 use Rattle.cert_text.specs.declared.track_name.TrackName.TheVariants as tracks
-use Rattle.cert_text.specs.declared.part.Part.{Part}
 use Rattle.cert_text.specs.declared.part.Part.TheVariants.{Title, Turn, Slack, Crossings, Done}
 use Rattle.cert_text.specs.declared.draft.Draft.{Draft}
 use Rattle.cert_text.specs.Tracks.{track_word}
@@ -19,33 +17,13 @@ use Rattle.cert_text.specs.Lines.{begin_line_of, end_line_of, heading_of, cell_l
 use Rattle.cert_text.specs.Workings.LineReading.{moment_after}
 use Rattle.cert_text.specs.Workings.Drafts.{start, next, after_slack, if_there, certificate_in}
 use Rattle.cert_text.proofs.LineLemmas.{version_of-title, station_of-line, moment_after-text, mark_of-line, cell_of-line, heading_no_cell, last_no_cell}
-use Rattle.cert_text.proofs.ByLineLemmas.{run}
+use Rattle.cert_text.proofs.ByLineLemmas.{run, Reached, reached}
 use Rattle.cert_text.proofs.DraftLemmas.{Knows, knows_start, said_at, step}
 
 -- ---- many lines
 
--- what a run of lines leaves was read from them
-pub record Reached (p : Part) (d e : Draft) (lines : List (List ℕ)) : Type 0 where
-  pub place : Part
-  pub knows : Knows place e
-  pub says : said_at place e ≡ said_at p d ++ lines
-
-reached : (lines : List (List ℕ)) (p : Part) (d e : Draft) → Knows p d → run next d lines ≡ Some e → Reached p d e lines
-unfolding run
-reached [] p d e h k =
-    subst (λ e. Reached p d e []) (same_Some d e k) (record { place = p; knows = h; says = sym (append-nil (said_at p d)) })
-reached (line ∷ lines) p d e h k =
-    option_and_then_some (λ e. run next e lines) (next d line) e k (λ x found rest.
-    let one = step p d x line h found in
-    let more = reached lines one.place x e one.knows rest in
-    record {
-      place = more.place;
-      knows = more.knows;
-      says = more.says ∙ ap (λ ls. ls ++ lines) one.says ∙ append_assoc (said_at p d) (line ∷ []) lines;
-    })
-
-pub reached_from_start : (lines : List (List ℕ)) (e : Draft) → run next start lines ≡ Some e → Reached Title start e lines
-reached_from_start lines e k = reached lines Title start e knows_start k
+pub reached_from_start : (lines : List (List ℕ)) (e : Draft) → run next start lines ≡ Some e → Reached Knows said_at Title start e lines
+reached_from_start lines e k = reached Knows said_at next step lines Title start e knows_start k
 
 -- ---- cells
 

@@ -1,8 +1,6 @@
 -- A draft and the lines that it was read from: a certificate of a highest water begins with them.
-use Rattle.std.proofs.Common.{◌≡◌, ℕ, true, false, cond, List, [], ◌∷◌, ◌++◌, codes, map, drop, Some, None, lit<, refl, sym, ap, ◌∙◌, subst, append-nil, arith}
+use Rattle.std.proofs.Common.{◌≡◌, ℕ, List, [], ◌∷◌, ◌++◌, codes, map, drop, Some, None, lit<, refl, sym, ap, ◌∙◌, subst, append-nil}
 use Rattle.std.specs.List.{AllByRecursion}
-use Rattle.std.specs.Option.{option_map}
-use Rattle.std.specs.Str.{bytes_eq}
 use Rattle.std.proofs.lemmas.List.{map_push}
 use Rattle.std.proofs.lemmas.List.Elements.{All-from_recursion}
 use Rattle.std.proofs.lemmas.Option.{cond_some, same_Some}
@@ -11,13 +9,14 @@ use Rattle.cert_text.specs.Certificates.{IsStationName}
 use Rattle.cert_text.specs.Lines.{station_line_of, begin_line_of, end_line_of, last_line}
 use Rattle.cert_text.specs.Workings.LineReading.{station_of, moment_after}
 use Rattle.cert_text.proofs.OptionLemmas.{option_map_some}
+use Rattle.cert_text.proofs.ByLineLemmas.{Reached}
 use Rattle.cert_text.proofs.LineLemmas.{same_bytes, x_is_name, moment_zero, station_is, moment_is}
 use Rattle.highest_water.specs.declared.certificate.PeakCertificate.{PeakCertificate}
 use Rattle.highest_water.specs.declared.draft.Draft.{Draft}
 use Rattle.highest_water.specs.declared.part.Part.{Part}
 use Rattle.highest_water.specs.declared.part.Part.TheVariants.{Title, Station, Begin, End, At, Value, Cells, Done}
 use Rattle.highest_water.specs.declared.peak_cell.PeakCell.{PeakCell}
-use Rattle.highest_water.specs.PeakTexts.{IsPeakValue, IsPeakCell, IsPeakCertificate, peak_title, at_line_of, value_line_of, peak_cell_line_of, cell_lines_of, peak_lines_of}
+use Rattle.highest_water.specs.PeakTexts.{IsPeakValue, IsPeakCell, IsPeakCertificate, peak_title, at_line_of, value_line_of, peak_cell_line_of, peak_lines_of}
 use Rattle.highest_water.specs.PeakDrafts.{value_of, cell_of, start, with_station, with_begin, with_end, with_at, with_value, with_cell, next_at, next, certificate_in}
 use Rattle.highest_water.proofs.PeakLineLemmas.{value_is, cell_is}
 
@@ -76,10 +75,8 @@ said_at Done d = peak_lines_of (certificate_in d)
 
 -- ---- one more line
 
-pub record Steps (p : Part) (d e : Draft) (line : List ℕ) : Type 0 where
-  pub place : Part
-  pub knows : Knows place e
-  pub says : said_at place e ≡ said_at p d ++ line ∷ []
+abbrev pub Steps : Part → Draft → Draft → List ℕ → Type 0
+Steps p d e line = Reached Knows said_at p d e (line ∷ [])
 
 title_steps : (d e : Draft) (line : List ℕ) → Knows Title d → next_at Title d line ≡ Some e → Steps Title d e line
 unfolding peak_title

@@ -1,6 +1,6 @@
 -- What is read of a line of a highest water is what the line says, no other line says it, and none has an LF.
-use Rattle.std.proofs.Common.{◌≡◌, ℕ, ◌<◌, ◌≤◌, true, false, cond, List, [], ◌∷◌, ◌++◌, codes, map, Some, None, ℤ, refl, sym, ap, ◌∙◌, subst, lit<, lit≤, arith}
-use Rattle.std.specs.Prelude.{decimal, ◌&&◌, option_and_then}
+use Rattle.std.proofs.Common.{◌≡◌, ℕ, ◌≤◌, true, false, cond, List, [], ◌∷◌, ◌++◌, codes, Some, None, ℤ, refl, sym, ◌∙◌, subst, lit<, lit≤, arith}
+use Rattle.std.specs.Prelude.{decimal, option_and_then}
 use Rattle.std.specs.Fmt.{signed_decimal}
 use Rattle.std.specs.List.{AllByRecursion}
 use Rattle.std.specs.Str.{bytes_eq}
@@ -12,7 +12,7 @@ use Rattle.cert_text.specs.Lines.{last_line}
 use Rattle.cert_text.specs.Workings.LineReading.{after, size_of, number_of}
 use Rattle.cert_text.proofs.NumberLemmas.{size_is, size_of-decimal, number_is, number_of-signed}
 use Rattle.cert_text.proofs.LineLemmas.{same_bytes, after_is, after-append}
-use Rattle.cert_text.proofs.CutLemmas.{is_free, AreFree, are_free-append}
+use Rattle.cert_text.proofs.CutLemmas.{is_free, AreFree}
 use Rattle.cert_text.proofs.FreeLemmas.{free-append, decimal_free, moment_free, signed_free, station_free, begin_free, end_free, last_free}
 use Rattle.highest_water.specs.declared.certificate.PeakCertificate.{PeakCertificate}
 use Rattle.highest_water.specs.declared.peak_cell.PeakCell.{PeakCell}

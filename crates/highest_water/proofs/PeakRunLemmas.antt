@@ -1,46 +1,25 @@
 -- A draft after many lines: reading the lines of a certificate of a highest water leaves the certificate.
-use Rattle.std.proofs.Common.{◌≡◌, ℕ, true, List, [], ◌∷◌, ◌++◌, codes, map, Some, ℤ, refl, sym, ap, ◌∙◌, subst, append-nil, append_assoc}
+use Rattle.std.proofs.Common.{◌≡◌, ℕ, true, List, [], ◌∷◌, ◌++◌, codes, Some, ℤ, refl, sym, ap, ◌∙◌, append-nil, append_assoc}
 use Rattle.std.specs.List.{AllByRecursion}
 use Rattle.std.specs.Str.{bytes_eq}
 use Rattle.std.proofs.lemmas.List.Elements.{recursion_from_All}
-use Rattle.std.proofs.lemmas.Option.{same_Some, option_and_then_some}
 use Rattle.zone_time.specs.Moments.{IsMoment}
 use Rattle.cert_text.specs.Lines.{begin_line_of, end_line_of, last_line}
 use Rattle.cert_text.specs.Workings.LineReading.{moment_after}
 use Rattle.cert_text.proofs.LineLemmas.{station_of-line, moment_after-text}
-use Rattle.cert_text.proofs.ByLineLemmas.{run}
+use Rattle.cert_text.proofs.ByLineLemmas.{run, Reached, reached}
 use Rattle.highest_water.specs.declared.certificate.PeakCertificate.{PeakCertificate}
 use Rattle.highest_water.specs.declared.draft.Draft.{Draft}
 use Rattle.highest_water.specs.declared.part.Part.{Part}
 use Rattle.highest_water.specs.declared.part.Part.TheVariants.{Title, Cells, Done}
 use Rattle.highest_water.specs.declared.peak_cell.PeakCell.{PeakCell}
-use Rattle.highest_water.specs.PeakTexts.{IsPeakCell, IsPeakCertificate, peak_title, at_line_of, peak_cell_line_of, cell_lines_of, peak_lines_of}
+use Rattle.highest_water.specs.PeakTexts.{IsPeakCell, IsPeakCertificate, peak_title, at_line_of, cell_lines_of, peak_lines_of}
 use Rattle.highest_water.specs.PeakDrafts.{start, next}
 use Rattle.highest_water.proofs.PeakLineLemmas.{value_of-line, cell_of-line, last_no_cell}
 use Rattle.highest_water.proofs.PeakDraftLemmas.{Knows, knows_start, said_at, step}
 
--- what a run of lines leaves was read from them
-pub record Reached (p : Part) (d e : Draft) (lines : List (List ℕ)) : Type 0 where
-  pub place : Part
-  pub knows : Knows place e
-  pub says : said_at place e ≡ said_at p d ++ lines
-
-reached : (lines : List (List ℕ)) (p : Part) (d e : Draft) → Knows p d → run next d lines ≡ Some e → Reached p d e lines
-unfolding run
-reached [] p d e h k =
-    subst (λ e. Reached p d e []) (same_Some d e k) (record { place = p; knows = h; says = sym (append-nil (said_at p d)) })
-reached (line ∷ lines) p d e h k =
-    option_and_then_some (λ e. run next e lines) (next d line) e k (λ x found rest.
-    let one = step p d x line h found in
-    let more = reached lines one.place x e one.knows rest in
-    record {
-      place = more.place;
-      knows = more.knows;
-      says = more.says ∙ ap (λ ls. ls ++ lines) one.says ∙ append_assoc (said_at p d) (line ∷ []) lines;
-    })
-
-pub reached_from_start : (lines : List (List ℕ)) (e : Draft) → run next start lines ≡ Some e → Reached Title start e lines
-reached_from_start lines e k = reached lines Title start e knows_start k
+pub reached_from_start : (lines : List (List ℕ)) (e : Draft) → run next start lines ≡ Some e → Reached Knows said_at Title start e lines
+reached_from_start lines e k = reached Knows said_at next step lines Title start e knows_start k
 
 -- ---- the lines of a certificate
 

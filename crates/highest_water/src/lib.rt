@@ -60,3 +60,5 @@ pub use writing::write_peak;
 mod hills;
 #[cfg(test)]
 mod tests;
+#[cfg(test)]
+mod text_tests;

@@ -1,10 +1,9 @@
 use lib.Utf8.{encode}
-use Rattle.std.proofs.Common.{◌≡◌, ◌≢◌, ℕ, ◌≤◌, true, codes, inl, refl, sym, ap, ◌∙◌, lit≤, arith}
+use Rattle.std.proofs.Common.{◌≡◌, codes, inl, refl, sym, ap, ◌∙◌, lit≤, arith}
 use Rattle.std.specs.Fmt.{digits}
 use Rattle.std.specs.Str.{chars, is_utf8}
 use Rattle.std.proofs.lemmas.Int.{ints}
 use Rattle.std.proofs.lemmas.List.Elements.{All-from_recursion}
-use Rattle.std.proofs.lemmas.Str.{IsUtf8-from_is_utf8}
 use Rattle.zone_time.specs.Dates.{two_digits, date_text, clock_text, date_of, date_from_year, date_from_month}
 use Rattle.zone_time.specs.Moments.{moment_of, moment_text, has_form}
 use Rattle.cert_text.specs.declared.track_name.TrackName.TheVariants.{Turn}
@@ -12,6 +11,7 @@ use Rattle.cert_text.specs.Certificates.{IsStationName, IsCellOf, IsCertificate}
 use Rattle.cert_text.specs.Lines.{title_of, station_line_of, begin_line_of, end_line_of, mark_line_of, heading_of, cell_line_of, last_line, joined, certificate_text}
 use Rattle.cert_text.specs.Tracks.{track_word, kind_word}
 use Rattle.cert_text.specs.Worked.{pier, pier_lines}
+use Rattle.cert_text.proofs.LineLemmas.{plain_name}
 use Rattle.cert_text.proofs.ReadingLemmas.{certificate_of-text}
 use Rattle.decimal_text.specs.Digits.{digits_of}
 use Rattle.cert_text.specs.Workings.LineReading.{after, size_of, number_of, version_of, station_of, moment_after, mark_of, quiet_of, turn_of, cell_of}
@@ -20,18 +20,8 @@ use Rattle.cert_text.specs.Workings.Drafts.{next}
 use Rattle.cert_text.specs.Readings.{certificate_of}
 use Rattle.cert_text.proofs.worked.worked_readings.Goals as goal
 
-ascii_name : is_utf8 (codes "Pier") ≡ true
-unfolding encode chars is_utf8
-ascii_name = refl
-
 pier_name : IsStationName (codes "Pier")
-pier_name = record {
-  text = IsUtf8-from_is_utf8 (codes "Pier") ascii_name;
-  some = lit≤ tt;
-  short = lit≤ tt;
-  printed = All-from_recursion (λ (b : ℕ). (32 ≤ b) × (b ≢ 127)) (codes "Pier")
-      ((lit≤ tt, λ e. absurd (omega (arith, e))), ((lit≤ tt, λ e. absurd (omega (arith, e))), ((lit≤ tt, λ e. absurd (omega (arith, e))), ((lit≤ tt, λ e. absurd (omega (arith, e))), tt))));
-}
+pier_name = plain_name (codes "Pier") (lit≤ tt) (lit≤ tt) refl
 
 pier_is : IsCertificate pier
 pier_is = record {

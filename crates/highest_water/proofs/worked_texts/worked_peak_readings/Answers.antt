@@ -1,12 +1,11 @@
 use lib.Utf8.{encode}
-use Rattle.std.proofs.Common.{◌≡◌, ◌≢◌, ℕ, zero, suc, ◌≤◌, true, List, [], ◌∷◌, ◌++◌, codes, refl, sym, ap, ◌∙◌, lit<, lit≤, arith}
+use Rattle.std.proofs.Common.{◌≡◌, ℕ, zero, suc, List, [], ◌∷◌, ◌++◌, codes, refl, sym, ap, ◌∙◌, lit<, lit≤, arith}
 use Rattle.std.specs.Prelude.{replicate}
 use Rattle.std.specs.Fmt.{digits}
 use Rattle.std.specs.List.{AllByRecursion}
 use Rattle.std.specs.Str.{chars, is_utf8}
 use Rattle.std.proofs.lemmas.Int.{ints}
 use Rattle.std.proofs.lemmas.List.Elements.{All-from_recursion}
-use Rattle.std.proofs.lemmas.Str.{IsUtf8-from_is_utf8}
 use Rattle.decimal_text.specs.Digits.{digits_of}
 use Rattle.zone_time.specs.Dates.{two_digits, date_text, clock_text, date_of, date_from_year, date_from_month}
 use Rattle.zone_time.specs.Moments.{moment_of, moment_text, has_form}
@@ -15,6 +14,7 @@ use Rattle.cert_text.specs.Lines.{station_line_of, begin_line_of, end_line_of, l
 use Rattle.cert_text.specs.Texts.{joined}
 use Rattle.cert_text.specs.ByLine.{read_from}
 use Rattle.cert_text.specs.Workings.LineReading.{after, size_of, number_of, station_of, moment_after}
+use Rattle.cert_text.proofs.LineLemmas.{plain_name}
 use Rattle.highest_water.specs.declared.peak_cell.PeakCell.{PeakCell}
 use Rattle.highest_water.specs.declared.peak_cell.PeakCell.TheVariants.{Under, Single}
 use Rattle.highest_water.specs.PeakTexts.{IsPeakCell, IsPeakCertificate, peak_title, at_line_of, value_line_of, peak_cell_line_of, peak_text}
@@ -24,18 +24,8 @@ use Rattle.highest_water.specs.PeakRows.{pier, pier_lines}
 use Rattle.highest_water.proofs.PeakReadingLemmas.{peak_of-text}
 use Rattle.highest_water.proofs.worked_texts.worked_peak_readings.Goals as goal
 
-ascii_name : is_utf8 (codes "Pier") ≡ true
-unfolding encode chars is_utf8
-ascii_name = refl
-
 pier_name : IsStationName (codes "Pier")
-pier_name = record {
-  text = IsUtf8-from_is_utf8 (codes "Pier") ascii_name;
-  some = lit≤ tt;
-  short = lit≤ tt;
-  printed = All-from_recursion (λ (b : ℕ). (32 ≤ b) × (b ≢ 127)) (codes "Pier")
-      ((lit≤ tt, λ e. absurd (omega (arith, e))), ((lit≤ tt, λ e. absurd (omega (arith, e))), ((lit≤ tt, λ e. absurd (omega (arith, e))), ((lit≤ tt, λ e. absurd (omega (arith, e))), tt))));
-}
+pier_name = plain_name (codes "Pier") (lit≤ tt) (lit≤ tt) refl
 
 singles : (n : ℕ) (cs : List PeakCell) → AllByRecursion IsPeakCell cs → AllByRecursion IsPeakCell (replicate n Single ++ cs)
 singles zero cs h = h
