@@ -14,6 +14,7 @@ mod ranges;
 mod sheet;
 mod taken;
 mod tally;
+mod worked;
 
 pub use collected::Collected;
 pub use first_lines::FirstLines;
@@ -23,3 +24,7 @@ pub use ranges::Ranges;
 pub use sheet::Sheet;
 pub use taken::Taken;
 pub use tally::Tally;
+pub use worked::{worked_pages, worked_ranges, worked_tallies, worked_words};
+
+#[cfg(test)]
+mod tests;
