@@ -1,4 +1,5 @@
 mod CalendarLemmas
+mod ContentLemmas
 mod EscapingLemmas
 mod PieceLemmas
 mod UnfoldingLemmas
