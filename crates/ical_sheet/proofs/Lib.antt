@@ -3,3 +3,4 @@ mod ContentLemmas
 mod EscapingLemmas
 mod PieceLemmas
 mod UnfoldingLemmas
+mod WorkedLemmas

@@ -21,4 +21,6 @@ pub use folding::fold;
 pub use laws::{folded_lines_unfold, lines_are_cut_between_characters};
 pub use sheet::IcalSheet;
 pub use unfolding::unfold;
-pub use worked::{worked_escapes, worked_folds, worked_unfolds};
+pub use worked::{
+    worked_calendars, worked_escapes, worked_folds, worked_stamps, worked_unfolds,
+};

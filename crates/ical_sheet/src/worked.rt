@@ -3,10 +3,10 @@
 ghost use Rattle.std.specs.Prelude.{◌≡◌, [], ◌∷◌, ◌++◌, codes, length, map, negsuc, pos, replicate};
 ghost use Rattle.event_text.specs.Worked.{high_tide, low_tide};
 ghost use Rattle.harmonics_text.specs.declared.book.Units.{Units};
-ghost use Rattle.curve_law.specs.declared.kind.Kind.{Kind};
 ghost use Rattle.ical_sheet.specs.Calendars.{calendar_of, nearest_moment, stamp_of, summary_line, uid_line};
 ghost use Rattle.ical_sheet.specs.Escaping.{escaped};
 ghost use Rattle.ical_sheet.specs.Folding.{folded, physical_lines, pieces_of, unfolded};
+ghost use Rattle.ical_sheet.specs.Worked.{long_name, pier};
 
 /// Lines of ASCII at the lengths where they are cut, and a letter of two octets and a sign of four
 /// that don't fit any more.
@@ -38,4 +38,25 @@ pub fn worked_unfolds()
 pub fn worked_escapes()
     ensures all { escaped (codes "Pier, North; A\\B") ≡ codes "Pier\\, North\\; A\\\\B" }
     ensures others { escaped (codes "Ca\"d:iz") ≡ codes "Ca\"d:iz" }
+{}
+
+/// Moments as dates and times, and the nearest ones to minutes of other years.
+#[tactic(auto, unfolding(crate::specs::Calendars::stamp_of, zone_time::specs::Dates::two_digits, zone_time::specs::Dates::date_of, zone_time::specs::Dates::date_from_year, zone_time::specs::Dates::date_from_month))]
+pub fn worked_stamps()
+    ensures usual { stamp_of (pos 15791400) ≡ codes "20000110T060000Z" }
+    ensures before_zero { stamp_of (negsuc 0) ≡ codes "19691231T235900Z" }
+    ensures first { stamp_of (nearest_moment (negsuc 9223372036854775807)) ≡ codes "00010101T000000Z" }
+    ensures last { stamp_of (nearest_moment (pos 9223372036854775807)) ≡ codes "99991231T235900Z" }
+    ensures within { nearest_moment (pos 15791220) ≡ pos 15791220 }
+    ensures year_zero { nearest_moment (negsuc 1035593280) ≡ negsuc 1035593279 }
+{}
+
+/// A calendar of one event and one of none, and where the lines of a long name are cut.
+pub fn worked_calendars()
+    ensures one { calendar_of pier (low_tide ∷ [])
+        ≡ codes "BEGIN:VCALENDAR\r\nVERSION:2.0\r\nPRODID:-//Tide desk//Tide predictor//EN\r\nBEGIN:VEVENT\r\nUID:15791400-1-50696572@tide.invalid\r\nDTSTAMP:20000110T030000Z\r\nDTSTART:20000110T060000Z\r\nSUMMARY:Pier Low Tide -1.00 feet\r\nEND:VEVENT\r\nEND:VCALENDAR\r\n" }
+    ensures none { calendar_of pier [] ≡ [] }
+    ensures long_uid { map length (pieces_of (uid_line long_name low_tide)) ≡ 75 ∷ 74 ∷ 39 ∷ [] }
+    ensures long_summary { map length (pieces_of (summary_line long_name Units.Feet low_tide)) ≡ 75 ∷ 33 ∷ [] }
+    ensures escaped { summary_line (codes "Pier, North; A\\B") Units.Feet high_tide ≡ codes "SUMMARY:Pier\\, North\\; A\\\\B High Tide 1.00 feet" }
 {}
