@@ -1,4 +1,6 @@
 mod CalendarLemmas
+mod ContentLemmas
 mod EscapingLemmas
 mod PieceLemmas
 mod UnfoldingLemmas
+mod WorkedLemmas

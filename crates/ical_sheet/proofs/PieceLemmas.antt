@@ -5,8 +5,8 @@ use Rattle.std.proofs.lemmas.List.{drop_all, get_or_past, take_all}
 use Rattle.std.proofs.Math.Utf8.{scalars, encodes, encode}
 use Rattle.std.specs.Char.{len_utf8}
 use Rattle.std.specs.Str.{IsUtf8, IsCharBoundary}
-use Rattle.std.proofs.lemmas.Str.{IsUtf8-drop, IsCharBoundary-end, IsCharBoundary-start, IsCharBoundary-from_take, IsCharBoundary-past_char, len_utf8_bounds}
-use Rattle.ical_sheet.specs.Folding.{ends_at, is_inner, folded, greatest, prefix_length, cut_up, further_pieces}
+use Rattle.std.proofs.lemmas.Str.{IsUtf8-drop, IsUtf8-take, IsCharBoundary-end, IsCharBoundary-start, IsCharBoundary-from_take, IsCharBoundary-past_char, len_utf8_bounds}
+use Rattle.ical_sheet.specs.Folding.{IsLongestPrefix, ends_at, is_inner, folded, greatest, prefix_length, cut_up, further_pieces}
 
 pub greatest-le : (passes : ℕ → Bool) (n : ℕ) → greatest passes n ≤ n
 unfolding greatest
@@ -83,9 +83,17 @@ prefix-positive most text utf8 h room =
     let first = first_character text utf8 h in
     omega (arith, first.1, first.2, greatest-most (ends_at text) most first.0 (omega (arith, first.2, room)) (end_from_boundary text first.0 first.3))
 
-pub prefix-longest : (most : ℕ) (text : List ℕ) → IsUtf8 text → (k : ℕ) → k ≤ most → k ≤ length text → IsUtf8 (take k text) → k ≤ prefix_length most text
+prefix-longest : (most : ℕ) (text : List ℕ) → IsUtf8 text → (k : ℕ) → k ≤ most → k ≤ length text → IsUtf8 (take k text) → k ≤ prefix_length most text
 prefix-longest most text utf8 k short within front =
     greatest-most (ends_at text) most k short (end_from_boundary text k (IsCharBoundary-from_take text k utf8 within front))
+
+pub prefix-IsLongestPrefix : (most : ℕ) (text : List ℕ) → IsUtf8 text → IsLongestPrefix most text (prefix_length most text)
+prefix-IsLongestPrefix most text utf8 = record {
+  short = greatest-le (ends_at text) most;
+  within = (prefix-boundary most text utf8).0;
+  utf8 = IsUtf8-take text (prefix_length most text) utf8 (prefix-boundary most text utf8);
+  longest = prefix-longest most text utf8;
+}
 
 -- ---- the pieces after the first
 

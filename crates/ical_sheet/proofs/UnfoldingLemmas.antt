@@ -5,15 +5,12 @@ use Rattle.std.proofs.lemmas.List.{take-append-drop, drop_more}
 use Rattle.std.proofs.lemmas.List.Elements.{All-head, All-tail, All-take, All-drop, All-nil, All-cons, All-same, All-weaker}
 use Rattle.std.specs.List.{flat_map, join_by}
 use Rattle.std.specs.Str.{IsUtf8}
-use Rattle.ical_sheet.specs.Folding.{AreShort, IsContentLine, begun_with, cut_up, folded, further_pieces, is_fold, physical_lines, pieces_of, ends_at, prefix_length, unfolded}
+use Rattle.ical_sheet.specs.Folding.{AreShort, IsContentLine, IsUnindented, begun_with, cut_up, folded, further_pieces, is_fold, physical_lines, pieces_of, ends_at, prefix_length, unfolded}
 use Rattle.ical_sheet.proofs.PieceLemmas.{greatest-le, rest-text, prefix-positive}
 
 -- no octet of it is a CR
 abbrev pub LacksReturn : List ℕ → Type 0
 LacksReturn text = All (λ octet. octet ≢ 13) text
-
-pub lacks_return : (line : List ℕ) → IsContentLine line → LacksReturn line
-lacks_return line is = All-weaker (λ octet. (octet ≢ 13) × (octet ≢ 10)) (λ octet. octet ≢ 13) (λ octet h. h.0) line is.unbroken
 
 -- a piece after the first as it is written
 abbrev pub continued : List (List ℕ) → List ℕ
@@ -86,75 +83,91 @@ unfolded-octet text at within h =
           rw (drop_more text at 0 within) (unfolded-short (slice_index text at) (drop (at + 1) text) (simp length-drop (omega (arith, last))))
     ] refl
 
--- ---- the pieces after the first
+-- ---- the pieces after the first, and what comes after the line
 
-unfolded-continued : (more : ℕ) (text : List ℕ) → IsUtf8 text → LacksReturn text → length text ≤ more → unfolded (continued (cut_up more text) ++ codes "\r\n") ≡ text ++ codes "\r\n"
+unfolded-end : (rest : List ℕ) → IsUnindented rest → unfolded (codes "\r\n" ++ rest) ≡ codes "\r\n" ++ unfolded rest
+unfolding unfolded
+unfolded-end [] start = refl
+unfolded-end (octet ∷ rest) start =
+    let other : is_fold 13 10 octet ≡ false = grind (arith, nat_tests, start.0, start.1) in
+    rw other (ap (λ text. 13 ∷ text) (unfolded-other 10 (octet ∷ rest) (omega arith)))
+
+unfolded-continued : (more : ℕ) (text rest : List ℕ) → IsUtf8 text → LacksReturn text → IsUnindented rest → length text ≤ more
+    → unfolded (continued (cut_up more text) ++ (codes "\r\n" ++ rest)) ≡ text ++ (codes "\r\n" ++ unfolded rest)
 unfolding unfolded cut_up
-unfolded-continued more [] utf8 clean h = refl
-unfolded-continued zero (octet ∷ rest) utf8 clean h = absurd (omega (arith, h))
-unfolded-continued (suc more) (octet ∷ rest) utf8 clean h =
-    let text : List ℕ = octet ∷ rest in
+unfolded-continued more [] rest utf8 clean start h = unfolded-end rest start
+unfolded-continued zero (octet ∷ others) rest utf8 clean start h = absurd (omega (arith, h))
+unfolded-continued (suc more) (octet ∷ others) rest utf8 clean start h =
+    let text : List ℕ = octet ∷ others in
     let n = prefix_length 74 text in
     let later : List ℕ = continued (cut_up more (drop n text)) in
-    let next : unfolded (later ++ codes "\r\n") ≡ drop n text ++ codes "\r\n" =
-        unfolded-continued more (drop n text) (rest-text 74 text utf8) (All-drop (λ octet. octet ≢ 13) n text clean)
+    let next : unfolded (later ++ (codes "\r\n" ++ rest)) ≡ drop n text ++ (codes "\r\n" ++ unfolded rest) =
+        unfolded-continued more (drop n text) rest (rest-text 74 text utf8) (All-drop (λ octet. octet ≢ 13) n text clean) start
         (simp length-drop (omega (arith, h, prefix-positive 74 text utf8 (omega arith) (omega arith))))
     in
-    ap unfolded (append_assoc (take n text) later (codes "\r\n"))
-    ∙ unfolded-append (take n text) (later ++ codes "\r\n") (All-take (λ octet. octet ≢ 13) n text clean)
+    ap unfolded (append_assoc (take n text) later (codes "\r\n" ++ rest))
+    ∙ unfolded-append (take n text) (later ++ (codes "\r\n" ++ rest)) (All-take (λ octet. octet ≢ 13) n text clean)
     ∙ ap (λ t. take n text ++ t) next
-    ∙ sym (append_assoc (take n text) (drop n text) (codes "\r\n"))
-    ∙ ap (λ t. t ++ codes "\r\n") (take-append-drop n text)
+    ∙ sym (append_assoc (take n text) (drop n text) (codes "\r\n" ++ unfolded rest))
+    ∙ ap (λ t. t ++ (codes "\r\n" ++ unfolded rest)) (take-append-drop n text)
 
--- ---- a whole line
-
-pub unfolded-folded : (line : List ℕ) → IsUtf8 line → LacksReturn line → unfolded (folded line) ≡ line ++ codes "\r\n"
-unfolding folded
-unfolded-folded line utf8 clean =
-    let n = prefix_length 75 line in
-    let later : List ℕ = continued (further_pieces (drop n line)) in
-    let next : unfolded (later ++ codes "\r\n") ≡ drop n line ++ codes "\r\n" =
-        unfolded-continued (length (drop n line)) (drop n line) (rest-text 75 line utf8) (All-drop (λ octet. octet ≢ 13) n line clean) (omega arith)
-    in
-    ap unfolded (append_assoc (take n line) later (codes "\r\n"))
-    ∙ unfolded-append (take n line) (later ++ codes "\r\n") (All-take (λ octet. octet ≢ 13) n line clean)
-    ∙ ap (λ t. take n line ++ t) next
-    ∙ sym (append_assoc (take n line) (drop n line) (codes "\r\n"))
-    ∙ ap (λ t. t ++ codes "\r\n") (take-append-drop n line)
-
--- ---- how long the lines are
-
+-- how long the lines are
 abbrev IsShort : List ℕ → Type 0
 IsShort line = length line ≤ 75
 
-lines-continued : (more : ℕ) (line text : List ℕ) → IsUtf8 text → LacksReturn line → LacksReturn text → length line ≤ 75 → length text ≤ more
-    → AreShort (physical_lines (line ++ continued (cut_up more text) ++ codes "\r\n"))
-unfolding cut_up physical_lines
-lines-continued more line [] utf8 head clean short h =
-    rw (append-nil, physical_lines-line line [] head) (All-cons IsShort line [] short (All-nil IsShort))
-lines-continued zero line (octet ∷ rest) utf8 head clean short h = absurd (omega (arith, h))
-lines-continued (suc more) line (octet ∷ rest) utf8 head clean short h =
-    let text : List ℕ = octet ∷ rest in
+lines-continued : (more : ℕ) (line text rest : List ℕ) → IsUtf8 text → LacksReturn line → LacksReturn text → length line ≤ 75 → length text ≤ more → AreShort (physical_lines rest)
+    → AreShort (physical_lines (line ++ continued (cut_up more text) ++ (codes "\r\n" ++ rest)))
+unfolding cut_up
+lines-continued more line [] rest utf8 head clean short h others =
+    rw (append-nil line, physical_lines-line line rest head) (All-cons IsShort line (physical_lines rest) short others)
+lines-continued zero line (octet ∷ text) rest utf8 head clean short h others = absurd (omega (arith, h))
+lines-continued (suc more) line (octet ∷ remainder) rest utf8 head clean short h others =
+    let text : List ℕ = octet ∷ remainder in
     let n = prefix_length 74 text in
     let next : List ℕ = 32 ∷ take n text in
     let later : List ℕ = continued (cut_up more (drop n text)) in
-    let first : physical_lines (line ++ 13 ∷ 10 ∷ (next ++ later) ++ codes "\r\n") ≡ line ∷ physical_lines (next ++ later ++ codes "\r\n") =
-        ap physical_lines (append_assoc line (13 ∷ 10 ∷ (next ++ later)) (codes "\r\n")) ∙ physical_lines-line line (next ++ later ++ codes "\r\n") head
+    let first : physical_lines (line ++ 13 ∷ 10 ∷ (next ++ later) ++ (codes "\r\n" ++ rest)) ≡ line ∷ physical_lines (next ++ later ++ (codes "\r\n" ++ rest)) =
+        ap physical_lines (append_assoc line (13 ∷ 10 ∷ (next ++ later)) (codes "\r\n" ++ rest)) ∙ physical_lines-line line (next ++ later ++ (codes "\r\n" ++ rest)) head
     in
-    let others : AreShort (physical_lines (next ++ later ++ codes "\r\n")) =
-        lines-continued more next (drop n text) (rest-text 74 text utf8)
+    let further : AreShort (physical_lines (next ++ later ++ (codes "\r\n" ++ rest))) =
+        lines-continued more next (drop n text) rest (rest-text 74 text utf8)
         (All-cons (λ octet. octet ≢ 13) 32 (take n text) (omega arith) (All-take (λ octet. octet ≢ 13) n text clean))
         (All-drop (λ octet. octet ≢ 13) n text clean)
         (simp length-take (omega (arith, greatest-le (ends_at text) 74)))
         (simp length-drop (omega (arith, h, prefix-positive 74 text utf8 (omega arith) (omega arith))))
+        others
     in
-    All-same IsShort (physical_lines (line ++ 13 ∷ 10 ∷ (next ++ later) ++ codes "\r\n")) (line ∷ physical_lines (next ++ later ++ codes "\r\n")) first
-    (All-cons IsShort line (physical_lines (next ++ later ++ codes "\r\n")) short others)
+    All-same IsShort (physical_lines (line ++ 13 ∷ 10 ∷ (next ++ later) ++ (codes "\r\n" ++ rest))) (line ∷ physical_lines (next ++ later ++ (codes "\r\n" ++ rest))) first
+    (All-cons IsShort line (physical_lines (next ++ later ++ (codes "\r\n" ++ rest))) short further)
 
-pub lines-folded : (line : List ℕ) → IsUtf8 line → LacksReturn line → AreShort (physical_lines (folded line))
-unfolding folded
-lines-folded line utf8 clean =
-    let n = prefix_length 75 line in
-    lines-continued (length (drop n line)) (take n line) (drop n line) (rest-text 75 line utf8)
-    (All-take (λ octet. octet ≢ 13) n line clean) (All-drop (λ octet. octet ≢ 13) n line clean)
-    (simp length-take (omega (arith, greatest-le (ends_at line) 75))) (omega arith)
+-- ---- a whole line, and what comes after it
+
+module _ (line rest : List ℕ) (is : IsContentLine line) where
+  abbrev first : ℕ
+  first = prefix_length 75 line
+
+  abbrev later : List ℕ
+  later = continued (further_pieces (drop first line))
+
+  written : folded line ++ rest ≡ take first line ++ later ++ (codes "\r\n" ++ rest)
+  unfolding folded
+  written = append_assoc (take first line ++ later) (codes "\r\n") rest
+
+  clean : LacksReturn line
+  clean = All-weaker (λ octet. (octet ≢ 13) × (octet ≢ 10)) (λ octet. octet ≢ 13) (λ octet h. h.0) line is.unbroken
+
+  pub unfolded-folded : IsUnindented rest → unfolded (folded line ++ rest) ≡ line ++ (codes "\r\n" ++ unfolded rest)
+  unfolded-folded start =
+      ap unfolded (written ∙ append_assoc (take first line) later (codes "\r\n" ++ rest))
+      ∙ unfolded-append (take first line) (later ++ (codes "\r\n" ++ rest)) (All-take (λ octet. octet ≢ 13) first line clean)
+      ∙ ap (λ t. take first line ++ t) (unfolded-continued (length (drop first line)) (drop first line) rest (rest-text 75 line is.utf8) (All-drop (λ octet. octet ≢ 13) first line clean) start (omega arith))
+      ∙ sym (append_assoc (take first line) (drop first line) (codes "\r\n" ++ unfolded rest))
+      ∙ ap (λ t. t ++ (codes "\r\n" ++ unfolded rest)) (take-append-drop first line)
+
+  pub lines-folded : AreShort (physical_lines rest) → AreShort (physical_lines (folded line ++ rest))
+  lines-folded others =
+      rw written (
+        lines-continued (length (drop first line)) (take first line) (drop first line) rest (rest-text 75 line is.utf8)
+        (All-take (λ octet. octet ≢ 13) first line clean) (All-drop (λ octet. octet ≢ 13) first line clean)
+        (simp length-take (omega (arith, greatest-le (ends_at line) 75))) (omega arith) others
+      )

@@ -5,11 +5,15 @@ use Rattle.std.specs.Str.{IsUtf8}
 
 -- ---- what can be a content line
 
--- text without a CR (13) and an LF (10), which begins with no space (32) and no tab (9)
+-- it begins with no space (32) and no tab (9)
+abbrev pub IsUnindented : List ℕ → Type 0
+IsUnindented text = (slice_index text 0 ≢ 32) × (slice_index text 0 ≢ 9)
+
+-- text without CR (13) and LF (10)
 pub record IsContentLine (line : List ℕ) : Type 0 where
   pub utf8 : IsUtf8 line
   pub unbroken : All (λ octet. (octet ≢ 13) × (octet ≢ 10)) line
-  pub unindented : (slice_index line 0 ≢ 32) × (slice_index line 0 ≢ 9)
+  pub unindented : IsUnindented line
 
 -- ---- folding
 
@@ -26,7 +30,7 @@ unfoldable pub greatest : (ℕ → Bool) → (n : ℕ) → ℕ
 greatest passes zero = 0
 greatest passes (suc n) = if passes (suc n) then suc n else greatest passes n
 
--- how many octets the longest prefix has that ends where a character does, of those with at most so many
+-- how many octets the longest prefix has, of those of at most so many that end where a character does
 abbrev pub prefix_length : (most : ℕ) → List ℕ → ℕ
 prefix_length most text = greatest (ends_at text) most
 
@@ -47,6 +51,13 @@ pieces_of line = let n = prefix_length 75 line in take n line ∷ further_pieces
 -- a content line as it is written: a CR LF and a space between its pieces, and a CR LF at its end
 unfoldable pub folded : List ℕ → List ℕ
 folded line = join_by (λ piece. piece) (codes "\r\n ") (pieces_of line) ++ codes "\r\n"
+
+-- a prefix of n octets is text, and so ends where a character does; and no longer one of at most so many octets is
+pub record IsLongestPrefix (most : ℕ) (text : List ℕ) (n : ℕ) : Type 0 where
+  pub short : n ≤ most
+  pub within : n ≤ length text
+  pub utf8 : IsUtf8 (take n text)
+  pub longest : (k : ℕ) → k ≤ most → k ≤ length text → IsUtf8 (take k text) → k ≤ n
 
 -- ---- unfolding
 
@@ -75,6 +86,6 @@ physical_lines (a ∷ b ∷ rest) =
 physical_lines (a ∷ []) = (a ∷ []) ∷ []
 physical_lines [] = []
 
--- each has at most 75 octets
+-- each of them has at most 75 octets
 abbrev pub AreShort : List (List ℕ) → Type 0
 AreShort lines = All (λ line. length line ≤ 75) lines

@@ -1,3 +1,4 @@
 pub mod Calendars
 pub mod Escaping
 pub mod Folding
+pub mod Worked

@@ -9,12 +9,18 @@ mod calendar;
 mod escaping;
 mod event_lines;
 mod folding;
+mod laws;
 mod shared;
 mod sheet;
 mod stamp;
 mod unfolding;
+mod worked;
 
 pub use escaping::escape;
 pub use folding::fold;
+pub use laws::{folded_lines_unfold, lines_are_cut_between_characters};
 pub use sheet::IcalSheet;
 pub use unfolding::unfold;
+pub use worked::{
+    worked_calendars, worked_escapes, worked_folds, worked_stamps, worked_unfolds,
+};

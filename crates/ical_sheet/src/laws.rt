@@ -1,0 +1,24 @@
+//! What follows of lines, folded and unfolded.
+
+ghost use Rattle.std.specs.Prelude.{◌≡◌, ℕ, ◌<◌, List, ◌∷◌, ◌++◌, All, codes, drop, length, take};
+ghost use Rattle.std.specs.List.{flat_map};
+ghost use Rattle.std.specs.Str.{IsUtf8};
+ghost use Rattle.ical_sheet.specs.Folding.{AreShort, IsContentLine, IsLongestPrefix, folded, further_pieces, physical_lines, prefix_length, unfolded};
+
+/// A prefix that is taken is the longest one of so many octets that is text too, and so cuts no
+/// character. What follows the first piece is such a prefix of at most 74 octets, and then what
+/// follows that one in pieces.
+pub fn lines_are_cut_between_characters()
+    ensures longest { (most : ℕ) (text : List ℕ) → IsUtf8 text → IsLongestPrefix most text (prefix_length most text) }
+    ensures further { (text : List ℕ) → IsUtf8 text → 0 < length text →
+        further_pieces text ≡ take (prefix_length 74 text) text ∷ further_pieces (drop (prefix_length 74 text) text) }
+{}
+
+/// Content lines that are folded, one after the other, have at most 75 octets each, and unfolded they
+/// are the lines again, each with a CR LF.
+pub fn folded_lines_unfold()
+    ensures line { (line : List ℕ) → IsContentLine line → unfolded (folded line) ≡ line ++ codes "\r\n" }
+    ensures lines { (lines : List (List ℕ)) → All IsContentLine lines →
+        unfolded (flat_map folded lines) ≡ flat_map (λ line. line ++ codes "\r\n") lines }
+    ensures short { (lines : List (List ℕ)) → All IsContentLine lines → AreShort (physical_lines (flat_map folded lines)) }
+{}
