@@ -17,7 +17,7 @@ use Rattle.highest_water.specs.declared.part.Part.{Part}
 use Rattle.highest_water.specs.declared.part.Part.TheVariants.{Title, Station, Begin, End, At, Value, Cells, Done}
 use Rattle.highest_water.specs.declared.peak_cell.PeakCell.{PeakCell}
 use Rattle.highest_water.specs.PeakTexts.{IsPeakValue, IsPeakCell, IsPeakCertificate, peak_title, at_line_of, value_line_of, peak_cell_line_of, peak_lines_of}
-use Rattle.highest_water.specs.PeakDrafts.{value_of, cell_of, start, with_station, with_begin, with_end, with_at, with_value, with_cell, next_at, next, certificate_in}
+use Rattle.highest_water.specs.Workings.PeakDrafts.{value_of, cell_of, start, with_station, with_begin, with_end, with_at, with_value, with_cell, next_at, next, certificate_in}
 use Rattle.highest_water.proofs.PeakLineLemmas.{value_is, cell_is}
 
 -- ---- what a draft knows

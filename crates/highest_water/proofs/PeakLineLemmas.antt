@@ -18,7 +18,7 @@ use Rattle.highest_water.specs.declared.certificate.PeakCertificate.{PeakCertifi
 use Rattle.highest_water.specs.declared.peak_cell.PeakCell.{PeakCell}
 use Rattle.highest_water.specs.declared.peak_cell.PeakCell.TheVariants.{Under, Single}
 use Rattle.highest_water.specs.PeakTexts.{IsPeakValue, IsPeakCell, IsPeakCertificate, peak_title, at_line_of, value_line_of, peak_cell_line_of, cell_lines_of, peak_lines_of}
-use Rattle.highest_water.specs.PeakDrafts.{value_of, under_for, under_of, cell_of}
+use Rattle.highest_water.specs.Workings.PeakDrafts.{value_of, under_for, under_of, cell_of}
 
 -- ---- values
 

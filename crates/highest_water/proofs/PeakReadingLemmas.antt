@@ -19,7 +19,7 @@ use Rattle.highest_water.specs.declared.part.Part.TheVariants.{Title, Station, B
 use Rattle.highest_water.specs.PeakTexts.{IsPeakCertificate, peak_lines_of, peak_text}
 use Rattle.highest_water.specs.PeakSpelling.{SpellsPeak, IsPeakTextOf, IsPeakFaultLine, ReadsPeak}
 use Rattle.highest_water.specs.PeakReadings.{fault_of, with_fault, peak_of, wants_memory}
-use Rattle.highest_water.specs.PeakDrafts.{start, next, certificate_in, whole_at, whole}
+use Rattle.highest_water.specs.Workings.PeakDrafts.{start, next, certificate_in, whole_at, whole}
 use Rattle.highest_water.proofs.PeakLineLemmas.{lines_free}
 use Rattle.highest_water.proofs.PeakGrammarLemmas.{spells-peak_lines_of, peak_lines_of-spelled}
 use Rattle.highest_water.proofs.PeakDraftLemmas.{Knows, said_at, front, certificate_known}

@@ -14,7 +14,7 @@ use Rattle.highest_water.specs.declared.part.Part.{Part}
 use Rattle.highest_water.specs.declared.part.Part.TheVariants.{Title, Cells, Done}
 use Rattle.highest_water.specs.declared.peak_cell.PeakCell.{PeakCell}
 use Rattle.highest_water.specs.PeakTexts.{IsPeakCell, IsPeakCertificate, peak_title, at_line_of, cell_lines_of, peak_lines_of}
-use Rattle.highest_water.specs.PeakDrafts.{start, next}
+use Rattle.highest_water.specs.Workings.PeakDrafts.{start, next}
 use Rattle.highest_water.proofs.PeakLineLemmas.{value_of-line, cell_of-line, last_no_cell}
 use Rattle.highest_water.proofs.PeakDraftLemmas.{Knows, knows_start, said_at, step}
 

@@ -1,11 +1,10 @@
 pub mod Covers
-pub mod PeakDrafts
 pub mod PeakReadings
-pub mod PeakRows
 pub mod PeakSpelling
 pub mod PeakTexts
 pub mod Peaks
 pub mod Samples
 pub mod Telling
 pub mod Verdicts
+pub mod Worked
 pub mod Workings

@@ -6,7 +6,7 @@ use Rattle.cert_text.specs.ByLine.{read_from, pieces}
 use Rattle.highest_water.specs.declared.certificate.PeakCertificate.{PeakCertificate}
 use Rattle.highest_water.specs.declared.fault.CertFault.{CertFault}
 use Rattle.highest_water.specs.declared.fault.CertFault.TheVariants.{NoMemory, NotACertificate}
-use Rattle.highest_water.specs.PeakDrafts.{start, next, whole}
+use Rattle.highest_water.specs.Workings.PeakDrafts.{start, next, whole}
 
 -- a fault of reading line by line
 abbrev pub fault_of : ReadingFault → CertFault

@@ -1,4 +1,5 @@
 pub mod Below
 pub mod Findings
+pub mod PeakDrafts
 pub mod SampleLaws
 pub mod Walk

@@ -26,7 +26,7 @@ pub struct Draft {
 
 impl Draft {
     ghost use Rattle.cert_text.specs.ByLine.{Takes};
-    ghost use Rattle.highest_water.specs.PeakDrafts.{start, next_at, certificate_in};
+    ghost use Rattle.highest_water.specs.Workings.PeakDrafts.{start, next_at, certificate_in};
 
     /// Before the first line. It takes no memory.
     pub fn new(alloc: Global) -> Draft
@@ -127,7 +127,7 @@ impl Draft {
 }
 
 impl LineDraft for Draft {
-    ghost use Rattle.highest_water.specs.PeakDrafts.{next, whole};
+    ghost use Rattle.highest_water.specs.Workings.PeakDrafts.{next, whole};
 
     type Whole = PeakCertificate;
 
@@ -135,7 +135,7 @@ impl LineDraft for Draft {
 
     ghost said = { whole };
 
-    #[tactic(auto, unfolding(crate::specs::PeakDrafts::next))]
+    #[tactic(auto, unfolding(crate::specs::Workings::PeakDrafts::next))]
     fn take_line(&mut self, alloc: Global, line: &[u8]) -> Result<(), LineFault> {
         match self.part {
             Part::Title => self.take_title(line),

@@ -1,7 +1,7 @@
 //! Lines of a highest water, read.
 
 ghost use Rattle.std.specs.Prelude.{◌≡◌};
-ghost use Rattle.highest_water.specs.PeakDrafts.{value_of, under_for, under_of, cell_of};
+ghost use Rattle.highest_water.specs.Workings.PeakDrafts.{value_of, under_for, under_of, cell_of};
 
 use crate::peak_cell::PeakCell;
 use cert_text::{after, number_of, size_of};
@@ -13,7 +13,7 @@ const VALUE_DIGITS: usize = 37;
 const MINUTE_DIGITS: usize = 4;
 
 /// The value of its line.
-#[tactic(auto, unfolding(crate::specs::PeakDrafts::value_of))]
+#[tactic(auto, unfolding(crate::specs::Workings::PeakDrafts::value_of))]
 pub fn value_of(line: &[u8]) -> Option<i128>
     ensures { result ≡ value_of line.now }
 {
@@ -30,7 +30,7 @@ fn under_for(minutes: u128) -> Option<PeakCell>
     }
 }
 
-#[tactic(auto, unfolding(crate::specs::PeakDrafts::under_of))]
+#[tactic(auto, unfolding(crate::specs::Workings::PeakDrafts::under_of))]
 fn under_of(line: &[u8]) -> Option<PeakCell>
     ensures { result ≡ under_of line.now }
 {
@@ -38,7 +38,7 @@ fn under_of(line: &[u8]) -> Option<PeakCell>
 }
 
 /// The cell of its line.
-#[tactic(auto, unfolding(crate::specs::PeakDrafts::cell_of))]
+#[tactic(auto, unfolding(crate::specs::Workings::PeakDrafts::cell_of))]
 pub fn cell_of(line: &[u8]) -> Option<PeakCell>
     ensures { result ≡ cell_of line.now }
 {

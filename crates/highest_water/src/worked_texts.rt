@@ -5,7 +5,7 @@ ghost use Rattle.cert_text.specs.Texts.{joined};
 ghost use Rattle.highest_water.specs.declared.fault.CertFault.{CertFault};
 ghost use Rattle.highest_water.specs.PeakTexts.{peak_text};
 ghost use Rattle.highest_water.specs.PeakReadings.{peak_of};
-ghost use Rattle.highest_water.specs.PeakRows.{pier, pier_lines, pier_with, changes};
+ghost use Rattle.highest_water.specs.Worked.{pier, pier_lines, pier_with, changes};
 
 /// The text of 64 minutes.
 pub fn worked_peak_texts()

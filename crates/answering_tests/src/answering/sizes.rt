@@ -8,10 +8,10 @@ use super::asked;
 use decimal_text::{Bytes, MOST_BYTES};
 use harmonics_text::{Book, BookFault, read_book};
 use question::Command;
-use station_table::OffsetTable;
+use station_table::{OffsetTable, read_offsets};
 use std::alloc::{AllocError, Global};
 use std::test::Fail;
-use tide_answer::{Given, answer, answer_into, prepare};
+use tide_answer::{Fault, Given, Refusal, answer, answer_into, fault_line, prepare};
 use tide_edge::MemorySink;
 use zone_time::Zone;
 
@@ -108,6 +108,7 @@ const YEAR: &str = "|begin=2000-01-01T00:00Z|end=2001-01-01T00:00Z";
 const LINES: &[(&str, &str, usize)] = &[
     ("heights", "", 8786),
     ("heights", "|layout=csv", 8786),
+    ("predict", "|layout=csv", 1415),
     ("calendar", "", 367),
 ];
 
@@ -125,6 +126,28 @@ fn a_year_of_ten_constituents_is_answered(rt: HostRuntime) -> Result<(), Fail> {
     }
     let clock = line_of(alloc, "clock", "")?;
     assert!(rt; !answered(alloc, clock.as_str(), b"")?.as_slice().is_empty());
+    Ok(())
+}
+
+// A station whose reference, of 400 bytes, no file has is told with that name.
+#[test]
+fn the_longest_reference_is_told(rt: HostRuntime) -> Result<(), Fail> {
+    let alloc = rt.alloc();
+    let mut rows = String::from_str(
+        alloc,
+        "name,reference,high_add,low_add,high_times,low_times,high_plus,low_plus\nPier,z",
+    )?;
+    rows.push_str(&NAME[2..])?;
+    rows.push_str(",0:00,0:00,1,1,0,0\n")?;
+    let Ok(table) = read_offsets(alloc, rows.as_bytes()) else {
+        return Err(Fail::from(AllocError));
+    };
+    let fault = Fault::Refused(Refusal::NoReference { row: 0 });
+    let line = fault_line(alloc, &fault, &table)?;
+    let mut told = String::from_str(alloc, "refused: no reference z")?;
+    told.push_str(&NAME[2..])?;
+    told.push_str("\n")?;
+    assert_eq!(rt; line.as_slice(), told.as_bytes());
     Ok(())
 }
 

@@ -2,7 +2,7 @@ use Rattle.std.proofs.Common.{Ok, Err, sym, ap, ◌∙◌, subst}
 use Rattle.decimal_text.specs.Expected.{Gives}
 use Rattle.cert_text.specs.ByLine.{read_from, pieces, wants_memory as reading_wants_memory}
 use Rattle.highest_water.specs.PeakReadings.{peak_of, wants_memory}
-use Rattle.highest_water.specs.PeakDrafts.{next, whole}
+use Rattle.highest_water.specs.Workings.PeakDrafts.{next, whole}
 use Rattle.highest_water.proofs.PeakReadingLemmas.{given_whole, given_fault, told_fault, reads_given, sound_given}
 use Rattle.highest_water.proofs.reading.read_peak.Goals as goal
 

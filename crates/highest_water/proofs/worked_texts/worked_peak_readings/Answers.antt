@@ -18,9 +18,9 @@ use Rattle.cert_text.proofs.LineLemmas.{plain_name}
 use Rattle.highest_water.specs.declared.peak_cell.PeakCell.{PeakCell}
 use Rattle.highest_water.specs.declared.peak_cell.PeakCell.TheVariants.{Under, Single}
 use Rattle.highest_water.specs.PeakTexts.{IsPeakCell, IsPeakCertificate, peak_title, at_line_of, value_line_of, peak_cell_line_of, peak_text}
-use Rattle.highest_water.specs.PeakDrafts.{value_of, under_of, cell_of, next}
+use Rattle.highest_water.specs.Workings.PeakDrafts.{value_of, under_of, cell_of, next}
 use Rattle.highest_water.specs.PeakReadings.{peak_of}
-use Rattle.highest_water.specs.PeakRows.{pier, pier_lines}
+use Rattle.highest_water.specs.Worked.{pier, pier_lines}
 use Rattle.highest_water.proofs.PeakReadingLemmas.{peak_of-text}
 use Rattle.highest_water.proofs.worked_texts.worked_peak_readings.Goals as goal
 
