@@ -257,6 +257,49 @@ pub const TABLE: &[u8] =
     Lost,Nowhere,,,,,,\n\
     Pier,Dock,,,,,,\n";
 
+// A station's highest water by two clocks, and what is known of one whose name has commas.
+#[test]
+fn stations_are_told_of(rt: HostRuntime) -> Result<(), Fail> {
+    let alloc = rt.alloc();
+    let name = Text::from_str(alloc, "Boston, Boston Harbor")?;
+    let reference = Text::from_str(alloc, "Pier")?;
+    for (ahead, line) in [
+        (
+            0,
+            "Boston, Boston Harbor\nHighest 2025-04-29 04:33 UTC      12.22 feet\n",
+        ),
+        (
+            -300,
+            "Boston, Boston Harbor\nHighest 2025-04-28 23:33 -05:00      12.22 feet\n",
+        ),
+    ] {
+        let text = highest_text(
+            alloc,
+            &name,
+            Units::Feet,
+            29_098_353,
+            12_220_455,
+            &zone_of(ahead),
+        )?;
+        assert_eq!(rt; text.as_slice(), line.as_bytes());
+    }
+    let text = about_text(
+        alloc,
+        &name,
+        &reference,
+        Units::Feet,
+        30,
+        98_943_212_089_632_423_480_202_598_400_000,
+    )?;
+    let expected = "Boston, Boston Harbor\n\
+        reference Pier\n\
+        units feet\n\
+        constituents 30\n\
+        agreement 98943212089632423480202598400000\n";
+    assert_eq!(rt; text.as_slice(), expected.as_bytes());
+    Ok(())
+}
+
 #[test]
 fn stations_are_listed(rt: HostRuntime) -> Result<(), Fail> {
     let alloc = rt.alloc();
