@@ -17,27 +17,34 @@ unfoldable pub all_minutes : List PeakCell → ℕ
 all_minutes [] = 0
 all_minutes (cell ∷ cells) = minutes_of cell + all_minutes cells
 
--- Between two values so many minutes apart a rate leads to half of their sum and of the rate times the minutes at most.
+-- twice the most that a rate leads to between two values so many minutes apart: both values, and the rate times the minutes
 abbrev pub twice_most : ℤ → ℕ → ℤ → ℤ → ℤ
-twice_most rate n v w = v +ℤ w +ℤ rate *ℤ pos n
+twice_most rate n v w = v +ℤ w +ℤ (rate *ℤ pos n)
 
--- that is less than a value
+-- the most is less than a value
 unfoldable pub stays_below : Option ℤ → ℕ → ℤ → ℤ → ℤ → Bool
 stays_below None n v w value = false
 stays_below (Some rate) n v w value = int_lt (twice_most rate n v w) (pos 2 *ℤ value)
 
--- that is not greater than a value
+-- the most is not greater than a value
 unfoldable pub stays_within : Option ℤ → ℕ → ℤ → ℤ → ℤ → Bool
 stays_within None n v w value = false
 stays_within (Some rate) n v w value = int_le (twice_most rate n v w) (pos 2 *ℤ value)
 
--- A cell of so many minutes from a minute on is under a minute's value: all that it can hold is less, where it ends by that
--- minute, and is not greater, where it begins after it. A cell that holds the minute is not.
+-- a cell of so many minutes from a minute on ends by another minute, and all that it can hold is less than a value
+abbrev pub ends_below : Meaning → ℤ → ℤ → ℤ → ℕ → Bool
+ends_below c at value a n =
+    int_le (a +ℤ pos n) at && stays_below (c.rate a n) n (c.track.value a) (c.track.value (a +ℤ pos n)) value
+
+-- it begins after that minute, and nothing that it can hold is greater than the value
+abbrev pub begins_within : Meaning → ℤ → ℤ → ℤ → ℕ → Bool
+begins_within c at value a n =
+    int_lt at a && stays_within (c.rate a n) n (c.track.value a) (c.track.value (a +ℤ pos n)) value
+
+-- It is under the minute's value: it is one of these, and has 2 to 1,024 minutes. A cell that holds the minute is neither.
 unfoldable pub is_under : Meaning → ℤ → ℤ → ℤ → ℕ → Bool
 is_under c at value a n =
-    nat_le 2 n && nat_le n MOST_MINUTES
-    && ((int_le (a +ℤ pos n) at && stays_below (c.rate a n) n (c.track.value a) (c.track.value (a +ℤ pos n)) value)
-    || (int_lt at a && stays_within (c.rate a n) n (c.track.value a) (c.track.value (a +ℤ pos n)) value))
+    nat_le 2 n && nat_le n MOST_MINUTES && (ends_below c at value a n || begins_within c at value a n)
 
 -- the cells of so many minutes, with as many halvings as are allowed
 unfoldable pub split_within : ℕ → Meaning → ℤ → ℤ → ℤ → ℕ → List PeakCell

@@ -1,9 +1,9 @@
 //! A walk over a span, cell by cell.
 
-ghost use Rattle.std.specs.Prelude.{◌≡◌, ◌+◌, ◌*◌, ◌^◌, ◌<◌, ◌≤◌, pos, ◌+ℤ◌, ◌≤ℤ◌, ◌<ℤ◌, unsigned_abs, [], ◌∷◌, length, MatchOption};
+ghost use Rattle.std.specs.Prelude.{◌≡◌, ◌+◌, ◌*◌, ◌^◌, ◌<◌, ◌≤◌, ◌≤ℤ◌, ◌<ℤ◌, unsigned_abs, [], ◌∷◌, length, MatchOption};
 ghost use Rattle.curve_law.specs.declared.point.Point.{Point};
 ghost use Rattle.interval_search.specs.Workings.Ahead.{minutes_to};
-ghost use Rattle.highest_water.specs.Covers.{minutes_of, peak_split, peak_cover};
+ghost use Rattle.highest_water.specs.Covers.{peak_split, peak_cover};
 ghost use Rattle.highest_water.specs.Workings.Walk.{cells_ahead, Stands, StepsTo};
 
 use crate::peak_cell::PeakCell;
