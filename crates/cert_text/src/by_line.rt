@@ -38,11 +38,13 @@ fn at_line(line: u32, fault: LineFault) -> CertFault
     }
 }
 
-/// What a text says, read by a draft before its first line, from at most 400,000,000 bytes. They are gone over once.
+/// What a text says, read by a draft that stands before its first line, from at most 400,000,000
+/// bytes. They are gone over once.
 ///
 /// # Errors
-/// [`CertFault::NotACertificate`] exactly where the draft refuses a line, bytes stand behind the last LF, or lines are
-/// missing. Its line is the one refused, or one past the last. [`CertFault::NoMemory`] may come in its place.
+/// [`CertFault::NotACertificate`] exactly where the draft refuses a line, bytes stand behind the last
+/// LF, or lines are missing. Its line is the one refused, or one past the last that LF ends.
+/// [`CertFault::NoMemory`] may come in its place.
 pub fn read_lines<D: LineDraft>(
     alloc: Global,
     draft: D,

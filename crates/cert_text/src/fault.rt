@@ -20,6 +20,7 @@ pub enum CertFault {
 #[derive(Clone, Copy, Debug, PartialEq, Eq)]
 pub enum LineFault {
     NoMemory,
+    /// It can't stand behind the lines before it.
     Bad,
 }
 

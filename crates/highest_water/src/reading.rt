@@ -13,7 +13,8 @@ use crate::fault::CertFault;
 use cert_text::read_lines;
 use std::alloc::Global;
 
-/// The certificate of a highest water whose text the bytes are, at most 400,000,000 of them. They are gone over once.
+/// The certificate of a highest water whose text the bytes are, at most 400,000,000 of them. They are
+/// gone over once.
 ///
 /// # Errors
 /// [`CertFault::NotACertificate`] exactly where they are no such certificate's text. Its line is the

@@ -20,9 +20,9 @@ pub fn peak_certificates_have_one_text()
         IsPeakTextOf c bytes → IsPeakTextOf d bytes → c ≡ d }
 {}
 
-/// A minute takes at most two bytes, and all that isn't a cell at most 545. Where the cells hold no more
-/// than 5,270,400 minutes, which is the longest span, the text is shorter than 10,542,000 bytes, and can be
-/// read again.
+/// The cells take at most two bytes for each minute that they hold, and all the rest at most 545. Where
+/// they hold no more than the 5,270,400 minutes of the longest span, the text is shorter than 10,542,000
+/// bytes, and so can be read again.
 pub fn peak_texts_are_short()
     ensures short { (c : PeakCertificate) → IsPeakCertificate c →
         length (peak_text c) ≤ 545 + 2 * minutes_of c.peak.cells }
