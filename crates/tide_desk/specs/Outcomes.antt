@@ -12,10 +12,6 @@ use Rattle.tide_edge.specs.Whole.{Allowance, ReadWithin}
 use Rattle.named_files.specs.declared.no_answer.NoAnswer.{NoAnswer}
 use Rattle.named_files.specs.NoAnswers.{status_of, line_of}
 
-abbrev pub is_read_fault : Status → Bool
-is_read_fault ReadFault = true
-is_read_fault _ = false
-
 abbrev pub is_write_fault : Status → Bool
 is_write_fault WriteFault = true
 is_write_fault _ = false
