@@ -7,7 +7,7 @@ pub returns-clause-exact : goal.returns-clause-exact
 returns-clause-exact c =
     let site : Site = record { basis = c.in_ok-basis.basis; station = c.station_at-station.result.now } in (
       site,
-      known_whole _ _ _ site _ _ (sym c.in_ok-basis.ensures.exact) c.station_at-station.ensures (sym c.in_ok-units.ensures.exact) c.in_ok-curve.ensures.exact,
+      known_whole _ _ _ site _ _ (sym c.in_ok-basis.ensures.exact) (rw c.get.ensures.exact at c.station_at-station.ensures) (sym c.in_ok-units.ensures.exact) c.in_ok-curve.ensures.exact,
       record {
         basis = refl;
         sound = c.in_ok-basis.ensures.sound;
