@@ -48,6 +48,11 @@ source_of Unread = outside
 source_of (Told fault) = if fault_wants_memory fault then memory else given
 source_of (Refused refusal rows) = if wants_memory_of_refusal refusal then memory else given
 
+-- a status says that something couldn't be read
+abbrev pub is_read_fault : Status → Bool
+is_read_fault status.ReadFault = true
+is_read_fault _ = false
+
 -- a file or the clock couldn't be read
 abbrev pub is_unread : NoAnswer → Bool
 is_unread Unread = true

@@ -3,8 +3,7 @@
 ghost use Rattle.std.specs.Prelude.{◌≡◌, ◌≤◌, ℕ, false, IsTrue, length, List, Option, IfOk, IfErr};
 ghost use Rattle.decimal_text.specs.Expected.{Gives};
 ghost use Rattle.harmonics_text.specs.Books.{IsBook};
-ghost use Rattle.question.specs.Asked.{IsAsked, IsZoneWord};
-ghost use Rattle.station_table.specs.Offsets.{IsTable};
+ghost use Rattle.question.specs.Asked.{IsZoneWord};
 ghost use Rattle.station_table.specs.Table.{table_of};
 ghost use Rattle.zone_time.specs.Zones.{IsZone, zone_of};
 ghost use Rattle.tide_edge.specs.FileStates.{Folder};
@@ -20,7 +19,7 @@ use crate::no_answer::NoAnswer;
 use book_loading::{LoadFault, load_book};
 use decimal_text::{Bytes, MOST_BYTES, Text};
 use harmonics_text::Book;
-use question::{Question, ZoneWord};
+use question::{SoundQuestion, ZoneWord};
 use station_table::{OffsetTable, read_offsets};
 use std::alloc::Global;
 use tide_edge::{Files, ReadAllFault, read_all};
@@ -33,10 +32,9 @@ use zone_time::{Zone, ZoneFault, read_zone};
 pub fn read_files<F: Files>(
     alloc: Global,
     files: &mut F,
-    question: &Question,
+    question: &SoundQuestion<'_>,
     name: &Text,
 ) -> Result<Materials, NoAnswer>
-    requires { IsAsked question.now }
     ensures own { IsTrue (F.state files.old).store.tells
         → Meets source_of (IsTrue (F.state files.old).store.is_steady) (files_in (λ slot. (F.state files.old).store.folder) question.now name.now) result }
     ensures some { (folders : Folders) × Meets source_of (Unit {0}) (files_in folders question.now name.now) result }
@@ -44,6 +42,7 @@ pub fn read_files<F: Files>(
     ensures told { IfErr result IsTold }
     ensures read { ReadWithin (files_allowed question.now) (reading_failed result) (F.state files.old) (F.state files.new) }
 {
+    let question = question.get();
     let book = read_book(alloc, files, name)?;
     let table = read_table(alloc, files, &question.offsets)?;
     let zone = read_zone_named(alloc, files, &question.zone)?;
@@ -80,7 +79,6 @@ pub fn read_table<F: Files>(
     ensures own { IsTrue (F.state files.old).store.tells
         → Meets source_of (IsTrue (F.state files.old).store.is_steady) (table_named (F.state files.old).store.folder name.now) result }
     ensures some { (folder : Folder) × Meets source_of (Unit {0}) (table_named folder name.now) result }
-    ensures sound { IfOk result IsTable }
     ensures told { IfErr result IsTold }
     ensures read { ReadWithin (allowed_for Slot.Offsets name.now) (reading_failed result) (F.state files.old) (F.state files.new) }
 {
@@ -96,7 +94,6 @@ pub fn read_table<F: Files>(
 fn table_in(alloc: Global, bytes: &Bytes) -> Result<OffsetTable, NoAnswer>
     requires { length bytes.now ≤ MOST_BYTES }
     ensures exact { Gives wants_memory (table_from (table_of bytes.now)) result }
-    ensures sound { IfOk result IsTable }
     ensures told { IfErr result IsTold }
     ensures read { reading_failed result ≡ false }
 {

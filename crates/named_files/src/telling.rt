@@ -2,7 +2,7 @@
 
 ghost use Rattle.std.specs.Prelude.{◌≡◌, Bool};
 ghost use Rattle.tide_fault.specs.Faults.{IsTold as IsToldFault, line_of as line_of_fault, status_of as status_of_fault};
-ghost use Rattle.named_files.specs.NoAnswers.{IsTold};
+ghost use Rattle.named_files.specs.NoAnswers.{IsTold, is_read_fault, is_unread};
 ghost use Rattle.tide_edge.specs.SinkStates.{Wrote};
 ghost use Rattle.named_files.specs.Telling.{Tells, TellsFault};
 
@@ -15,7 +15,8 @@ use tide_fault::{Fault, Status, fault_line, fault_status};
 /// Writes the line of what kept the words from an answer, and answers its status.
 pub fn tell<E: Sink>(alloc: Global, none: NoAnswer, err: &mut E) -> Status
     requires { IsTold none }
-    ensures { Tells none result (E.state err.old) (E.state err.new) }
+    ensures told { Tells none result (E.state err.old) (E.state err.new) }
+    ensures read { is_read_fault result ≡ is_unread none }
 {
     match none {
         NoAnswer::Unread => refuse(err, Status::ReadFault, b"read fault\n"),

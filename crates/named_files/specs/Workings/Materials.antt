@@ -1,13 +1,11 @@
 -- What is known of what the files of a question hold.
 use Rattle.std.specs.Prelude.{◌≤◌, length}
 use Rattle.harmonics_text.specs.Books.{IsBook}
-use Rattle.station_table.specs.Offsets.{IsTable}
 use Rattle.zone_time.specs.Zones.{IsZone}
 use Rattle.named_files.specs.declared.materials.Materials.{Materials}
 use Rattle.decimal_text.specs.declared.limits.TheConstants.{MOST_BYTES}
 
 pub record AreMaterials (read : Materials) : Type 0 where
   pub book : IsBook read.book
-  pub table : IsTable read.table
   pub zone : IsZone read.zone
   pub certificate : length read.certificate ≤ MOST_BYTES

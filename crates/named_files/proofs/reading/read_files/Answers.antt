@@ -26,15 +26,15 @@ unfolding files_in
 returns-in_err-table-clause-own g c =
     let book = c.in_ok-book.ensures.own in
     let table = rw c.read_book.ensures.read.store at c.in_err-table.ensures.own in
-    λ t. rw (book t) (meets_at (IsTrue (g.F.Files.state c.args.files.now).store.is_steady) (table_named (g.F.Files.state c.args.files.now).store.folder c.args.question.now.offsets) _ c.from_residual-in_err-table.result _ c.from_residual-in_err-table.ensures.1 (table t))
+    rw (← c.get-question.ensures.exact) (λ t. rw (book t) (meets_at (IsTrue (g.F.Files.state c.args.files.now).store.is_steady) (table_named (g.F.Files.state c.args.files.now).store.folder c.get-question.result.now.offsets) _ c.from_residual-in_err-table.result _ c.from_residual-in_err-table.ensures.1 (table t)))
 
 pub returns-in_err-table-clause-some : goal.returns-in_err-table-clause-some
 unfolding files_in
 returns-in_err-table-clause-some g c =
     let book = c.in_ok-book.ensures.some in
-    let table = c.in_err-table.ensures.some in (
+    let table = c.in_err-table.ensures.some in rw (← c.get-question.ensures.exact) (
       by_slot book.0 table.0 (λ _. None) (λ _. None),
-      rw (book.1) (meets_at (Unit {0}) (table_named table.0 c.args.question.now.offsets) _ c.from_residual-in_err-table.result _ c.from_residual-in_err-table.ensures.1 table.1),
+      rw (book.1) (meets_at (Unit {0}) (table_named table.0 c.get-question.result.now.offsets) _ c.from_residual-in_err-table.result _ c.from_residual-in_err-table.ensures.1 table.1),
     )
 
 pub returns-in_err-zone-clause-own : goal.returns-in_err-zone-clause-own
@@ -43,16 +43,16 @@ returns-in_err-zone-clause-own g c =
     let book = c.in_ok-book.ensures.own in
     let table = rw c.read_book.ensures.read.store at c.in_ok-table.ensures.own in
     let zone = rw (c.read_table.ensures.read.store, c.read_book.ensures.read.store) at c.in_err-zone.ensures.own in
-    λ t. rw (book t, table t) (meets_at (IsTrue (g.F.Files.state c.args.files.now).store.is_steady) (zone_named (g.F.Files.state c.args.files.now).store.folder c.args.question.now.zone) _ c.from_residual-in_err-zone.result _ c.from_residual-in_err-zone.ensures.1 (zone t))
+    rw (← c.get-question.ensures.exact) (λ t. rw (book t, table t) (meets_at (IsTrue (g.F.Files.state c.args.files.now).store.is_steady) (zone_named (g.F.Files.state c.args.files.now).store.folder c.get-question.result.now.zone) _ c.from_residual-in_err-zone.result _ c.from_residual-in_err-zone.ensures.1 (zone t)))
 
 pub returns-in_err-zone-clause-some : goal.returns-in_err-zone-clause-some
 unfolding files_in
 returns-in_err-zone-clause-some g c =
     let book = c.in_ok-book.ensures.some in
     let table = c.in_ok-table.ensures.some in
-    let zone = c.in_err-zone.ensures.some in (
+    let zone = c.in_err-zone.ensures.some in rw (← c.get-question.ensures.exact) (
       by_slot book.0 table.0 zone.0 (λ _. None),
-      rw (book.1, table.1) (meets_at (Unit {0}) (zone_named zone.0 c.args.question.now.zone) _ c.from_residual-in_err-zone.result _ c.from_residual-in_err-zone.ensures.1 zone.1),
+      rw (book.1, table.1) (meets_at (Unit {0}) (zone_named zone.0 c.get-question.result.now.zone) _ c.from_residual-in_err-zone.result _ c.from_residual-in_err-zone.ensures.1 zone.1),
     )
 
 pub returns-in_err-certificate-clause-own : goal.returns-in_err-certificate-clause-own
@@ -62,7 +62,7 @@ returns-in_err-certificate-clause-own g c =
     let table = rw c.read_book.ensures.read.store at c.in_ok-table.ensures.own in
     let zone = rw (c.read_table.ensures.read.store, c.read_book.ensures.read.store) at c.in_ok-zone.ensures.own in
     let certificate = rw (c.read_zone_named.ensures.read.store, c.read_table.ensures.read.store, c.read_book.ensures.read.store) at c.in_err-certificate.ensures.own in
-    λ t. rw (book t, table t, zone t) (meets_at (IsTrue (g.F.Files.state c.args.files.now).store.is_steady) (certificate_named (g.F.Files.state c.args.files.now).store.folder c.args.question.now.certificate) _ c.from_residual-in_err-certificate.result _ c.from_residual-in_err-certificate.ensures.1 (certificate t))
+    rw (← c.get-question.ensures.exact) (λ t. rw (book t, table t, zone t) (meets_at (IsTrue (g.F.Files.state c.args.files.now).store.is_steady) (certificate_named (g.F.Files.state c.args.files.now).store.folder c.get-question.result.now.certificate) _ c.from_residual-in_err-certificate.result _ c.from_residual-in_err-certificate.ensures.1 (certificate t)))
 
 pub returns-in_err-certificate-clause-some : goal.returns-in_err-certificate-clause-some
 unfolding files_in
@@ -70,9 +70,9 @@ returns-in_err-certificate-clause-some g c =
     let book = c.in_ok-book.ensures.some in
     let table = c.in_ok-table.ensures.some in
     let zone = c.in_ok-zone.ensures.some in
-    let certificate = c.in_err-certificate.ensures.some in (
+    let certificate = c.in_err-certificate.ensures.some in rw (← c.get-question.ensures.exact) (
       by_slot book.0 table.0 zone.0 certificate.0,
-      rw (book.1, table.1, zone.1) (meets_at (Unit {0}) (certificate_named certificate.0 c.args.question.now.certificate) _ c.from_residual-in_err-certificate.result _ c.from_residual-in_err-certificate.ensures.1 certificate.1),
+      rw (book.1, table.1, zone.1) (meets_at (Unit {0}) (certificate_named certificate.0 c.get-question.result.now.certificate) _ c.from_residual-in_err-certificate.result _ c.from_residual-in_err-certificate.ensures.1 certificate.1),
     )
 
 pub returns-clause-own : goal.returns-clause-own
@@ -82,7 +82,7 @@ returns-clause-own g c =
     let table = rw c.read_book.ensures.read.store at c.in_ok-table.ensures.own in
     let zone = rw (c.read_table.ensures.read.store, c.read_book.ensures.read.store) at c.in_ok-zone.ensures.own in
     let certificate = rw (c.read_zone_named.ensures.read.store, c.read_table.ensures.read.store, c.read_book.ensures.read.store) at c.in_ok-certificate.ensures.own in
-    λ t. rw (book t, table t, zone t, certificate t) refl
+    rw (← c.get-question.ensures.exact) (λ t. rw (book t, table t, zone t, certificate t) refl)
 
 pub returns-clause-some : goal.returns-clause-some
 unfolding files_in
@@ -91,7 +91,7 @@ returns-clause-some g c =
     let table = c.in_ok-table.ensures.some in
     let zone = c.in_ok-zone.ensures.some in
     let certificate = c.in_ok-certificate.ensures.some in
-    (by_slot book.0 table.0 zone.0 certificate.0, rw (book.1, table.1, zone.1, certificate.1) refl)
+    rw (← c.get-question.ensures.exact) ((by_slot book.0 table.0 zone.0 certificate.0, rw (book.1, table.1, zone.1, certificate.1) refl))
 
 pub returns-in_err-book-clause-read : goal.returns-in_err-book-clause-read
 returns-in_err-book-clause-read g c =
@@ -100,19 +100,19 @@ returns-in_err-book-clause-read g c =
 
 pub returns-in_err-table-clause-read : goal.returns-in_err-table-clause-read
 returns-in_err-table-clause-read g c =
-    rw (failed_at c.from_residual-in_err-table.result _ c.from_residual-in_err-table.ensures.1)
-    (read_then (one_file (limit_of File)) (both (allowed_for Offsets c.args.question.now.offsets) (both (allowed_for Zone (zone_file c.args.question.now.zone)) (allowed_for Certificate c.args.question.now.certificate))) _ (g.F.Files.state c.args.files.now) (g.F.Files.state c.read_book.new.files) (g.F.Files.state c.read_table.new.files) c.in_ok-book.ensures.read (read_more (allowed_for Offsets c.args.question.now.offsets) (both (allowed_for Zone (zone_file c.args.question.now.zone)) (allowed_for Certificate c.args.question.now.certificate)) _ (g.F.Files.state c.read_book.new.files) (g.F.Files.state c.read_table.new.files) c.in_err-table.ensures.read))
+    rw (← c.get-question.ensures.exact) (rw (failed_at c.from_residual-in_err-table.result _ c.from_residual-in_err-table.ensures.1)
+    (read_then (one_file (limit_of File)) (both (allowed_for Offsets c.get-question.result.now.offsets) (both (allowed_for Zone (zone_file c.get-question.result.now.zone)) (allowed_for Certificate c.get-question.result.now.certificate))) _ (g.F.Files.state c.args.files.now) (g.F.Files.state c.read_book.new.files) (g.F.Files.state c.read_table.new.files) c.in_ok-book.ensures.read (read_more (allowed_for Offsets c.get-question.result.now.offsets) (both (allowed_for Zone (zone_file c.get-question.result.now.zone)) (allowed_for Certificate c.get-question.result.now.certificate)) _ (g.F.Files.state c.read_book.new.files) (g.F.Files.state c.read_table.new.files) c.in_err-table.ensures.read)))
 
 pub returns-in_err-zone-clause-read : goal.returns-in_err-zone-clause-read
 returns-in_err-zone-clause-read g c =
-    rw (failed_at c.from_residual-in_err-zone.result _ c.from_residual-in_err-zone.ensures.1)
-    (read_then (one_file (limit_of File)) (both (allowed_for Offsets c.args.question.now.offsets) (both (allowed_for Zone (zone_file c.args.question.now.zone)) (allowed_for Certificate c.args.question.now.certificate))) _ (g.F.Files.state c.args.files.now) (g.F.Files.state c.read_book.new.files) (g.F.Files.state c.read_zone_named.new.files) c.in_ok-book.ensures.read (read_then (allowed_for Offsets c.args.question.now.offsets) (both (allowed_for Zone (zone_file c.args.question.now.zone)) (allowed_for Certificate c.args.question.now.certificate)) _ (g.F.Files.state c.read_book.new.files) (g.F.Files.state c.read_table.new.files) (g.F.Files.state c.read_zone_named.new.files) c.in_ok-table.ensures.read (read_more (allowed_for Zone (zone_file c.args.question.now.zone)) (allowed_for Certificate c.args.question.now.certificate) _ (g.F.Files.state c.read_table.new.files) (g.F.Files.state c.read_zone_named.new.files) c.in_err-zone.ensures.read)))
+    rw (← c.get-question.ensures.exact) (rw (failed_at c.from_residual-in_err-zone.result _ c.from_residual-in_err-zone.ensures.1)
+    (read_then (one_file (limit_of File)) (both (allowed_for Offsets c.get-question.result.now.offsets) (both (allowed_for Zone (zone_file c.get-question.result.now.zone)) (allowed_for Certificate c.get-question.result.now.certificate))) _ (g.F.Files.state c.args.files.now) (g.F.Files.state c.read_book.new.files) (g.F.Files.state c.read_zone_named.new.files) c.in_ok-book.ensures.read (read_then (allowed_for Offsets c.get-question.result.now.offsets) (both (allowed_for Zone (zone_file c.get-question.result.now.zone)) (allowed_for Certificate c.get-question.result.now.certificate)) _ (g.F.Files.state c.read_book.new.files) (g.F.Files.state c.read_table.new.files) (g.F.Files.state c.read_zone_named.new.files) c.in_ok-table.ensures.read (read_more (allowed_for Zone (zone_file c.get-question.result.now.zone)) (allowed_for Certificate c.get-question.result.now.certificate) _ (g.F.Files.state c.read_table.new.files) (g.F.Files.state c.read_zone_named.new.files) c.in_err-zone.ensures.read))))
 
 pub returns-in_err-certificate-clause-read : goal.returns-in_err-certificate-clause-read
 returns-in_err-certificate-clause-read g c =
-    rw (failed_at c.from_residual-in_err-certificate.result _ c.from_residual-in_err-certificate.ensures.1)
-    (read_then (one_file (limit_of File)) (both (allowed_for Offsets c.args.question.now.offsets) (both (allowed_for Zone (zone_file c.args.question.now.zone)) (allowed_for Certificate c.args.question.now.certificate))) _ (g.F.Files.state c.args.files.now) (g.F.Files.state c.read_book.new.files) (g.F.Files.state c.read_certificate.new.files) c.in_ok-book.ensures.read (read_then (allowed_for Offsets c.args.question.now.offsets) (both (allowed_for Zone (zone_file c.args.question.now.zone)) (allowed_for Certificate c.args.question.now.certificate)) _ (g.F.Files.state c.read_book.new.files) (g.F.Files.state c.read_table.new.files) (g.F.Files.state c.read_certificate.new.files) c.in_ok-table.ensures.read (read_then (allowed_for Zone (zone_file c.args.question.now.zone)) (allowed_for Certificate c.args.question.now.certificate) _ (g.F.Files.state c.read_table.new.files) (g.F.Files.state c.read_zone_named.new.files) (g.F.Files.state c.read_certificate.new.files) c.in_ok-zone.ensures.read c.in_err-certificate.ensures.read)))
+    rw (← c.get-question.ensures.exact) (rw (failed_at c.from_residual-in_err-certificate.result _ c.from_residual-in_err-certificate.ensures.1)
+    (read_then (one_file (limit_of File)) (both (allowed_for Offsets c.get-question.result.now.offsets) (both (allowed_for Zone (zone_file c.get-question.result.now.zone)) (allowed_for Certificate c.get-question.result.now.certificate))) _ (g.F.Files.state c.args.files.now) (g.F.Files.state c.read_book.new.files) (g.F.Files.state c.read_certificate.new.files) c.in_ok-book.ensures.read (read_then (allowed_for Offsets c.get-question.result.now.offsets) (both (allowed_for Zone (zone_file c.get-question.result.now.zone)) (allowed_for Certificate c.get-question.result.now.certificate)) _ (g.F.Files.state c.read_book.new.files) (g.F.Files.state c.read_table.new.files) (g.F.Files.state c.read_certificate.new.files) c.in_ok-table.ensures.read (read_then (allowed_for Zone (zone_file c.get-question.result.now.zone)) (allowed_for Certificate c.get-question.result.now.certificate) _ (g.F.Files.state c.read_table.new.files) (g.F.Files.state c.read_zone_named.new.files) (g.F.Files.state c.read_certificate.new.files) c.in_ok-zone.ensures.read c.in_err-certificate.ensures.read))))
 
 pub returns-clause-read : goal.returns-clause-read
 returns-clause-read g c =
-    (read_then (one_file (limit_of File)) (both (allowed_for Offsets c.args.question.now.offsets) (both (allowed_for Zone (zone_file c.args.question.now.zone)) (allowed_for Certificate c.args.question.now.certificate))) false (g.F.Files.state c.args.files.now) (g.F.Files.state c.read_book.new.files) (g.F.Files.state c.read_certificate.new.files) c.in_ok-book.ensures.read (read_then (allowed_for Offsets c.args.question.now.offsets) (both (allowed_for Zone (zone_file c.args.question.now.zone)) (allowed_for Certificate c.args.question.now.certificate)) false (g.F.Files.state c.read_book.new.files) (g.F.Files.state c.read_table.new.files) (g.F.Files.state c.read_certificate.new.files) c.in_ok-table.ensures.read (read_then (allowed_for Zone (zone_file c.args.question.now.zone)) (allowed_for Certificate c.args.question.now.certificate) false (g.F.Files.state c.read_table.new.files) (g.F.Files.state c.read_zone_named.new.files) (g.F.Files.state c.read_certificate.new.files) c.in_ok-zone.ensures.read c.in_ok-certificate.ensures.read)))
+    rw (← c.get-question.ensures.exact) ((read_then (one_file (limit_of File)) (both (allowed_for Offsets c.get-question.result.now.offsets) (both (allowed_for Zone (zone_file c.get-question.result.now.zone)) (allowed_for Certificate c.get-question.result.now.certificate))) false (g.F.Files.state c.args.files.now) (g.F.Files.state c.read_book.new.files) (g.F.Files.state c.read_certificate.new.files) c.in_ok-book.ensures.read (read_then (allowed_for Offsets c.get-question.result.now.offsets) (both (allowed_for Zone (zone_file c.get-question.result.now.zone)) (allowed_for Certificate c.get-question.result.now.certificate)) false (g.F.Files.state c.read_book.new.files) (g.F.Files.state c.read_table.new.files) (g.F.Files.state c.read_certificate.new.files) c.in_ok-table.ensures.read (read_then (allowed_for Zone (zone_file c.get-question.result.now.zone)) (allowed_for Certificate c.get-question.result.now.certificate) false (g.F.Files.state c.read_table.new.files) (g.F.Files.state c.read_zone_named.new.files) (g.F.Files.state c.read_certificate.new.files) c.in_ok-zone.ensures.read c.in_ok-certificate.ensures.read))))

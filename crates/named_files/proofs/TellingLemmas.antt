@@ -1,26 +1,22 @@
 -- A fault of reading is told as one, and no other is.
-use Rattle.std.proofs.Common.{◌≡◌, false, inl, inr, refl}
+use Rattle.std.proofs.Common.{◌≡◌, false, refl}
 use Rattle.question.specs.declared.fault.AskFault.TheVariants as ask
 use Rattle.harmonics_text.specs.declared.fault.BookFault.TheVariants as form
 use Rattle.station_table.specs.declared.fault.OffsetFault.TheVariants as table
 use Rattle.tide_fault.specs.declared.fault.Fault.TheVariants.{Ask, TooLong, Book, Offsets, BadZone, Refused}
 use Rattle.tide_fault.specs.declared.refusal.Refusal.{Refusal}
 use Rattle.tide_fault.specs.declared.refusal.Refusal.TheVariants as refusals
-use Rattle.tide_fault.specs.declared.status.Status.{Status}
 use Rattle.tide_fault.specs.Faults.{status_of_refusal}
-use Rattle.tide_edge.specs.SinkStates.{SinkState}
 use Rattle.named_files.specs.declared.no_answer.NoAnswer.{NoAnswer}
 use Rattle.named_files.specs.declared.no_answer.NoAnswer.TheVariants.{Unread, Told}
 use Rattle.named_files.specs.declared.no_answer.NoAnswer.TheVariants as none_of
-use Rattle.named_files.specs.NoAnswers.{status_of, is_unread}
-use Rattle.named_files.specs.Telling.{Tells}
-use Rattle.tide_server.specs.Openings.{is_read_fault}
+use Rattle.named_files.specs.NoAnswers.{status_of, is_read_fault, is_unread}
 
 refusal_is_none : (refusal : Refusal) → is_read_fault (status_of_refusal refusal) ≡ false
 refusal_is_none refusals.NoMemory = refl
 refusal_is_none _ = refl
 
-told_as_it_is : (none : NoAnswer) → is_read_fault (status_of none) ≡ is_unread none
+pub told_as_it_is : (none : NoAnswer) → is_read_fault (status_of none) ≡ is_unread none
 told_as_it_is Unread = refl
 told_as_it_is (Told (Ask ask.NoMemory)) = refl
 told_as_it_is (Told (Ask _)) = refl
@@ -32,8 +28,3 @@ told_as_it_is (Told (Offsets (table.At row why))) = refl
 told_as_it_is (Told BadZone) = refl
 told_as_it_is (Told (Refused refusal)) = refusal_is_none refusal
 told_as_it_is (none_of.Refused refusal rows) = refusal_is_none refusal
-
-pub told_as_read : (none : NoAnswer) (status : Status) (before after : SinkState) → Tells none status before after
-    → is_read_fault status ≡ is_unread none
-told_as_read none status before after told =
-    elim told [ inl t ↦ rw t.0 (told_as_it_is none) | inr t ↦ rw (t.0, t.1) refl ]
