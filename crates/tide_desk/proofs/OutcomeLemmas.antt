@@ -5,19 +5,18 @@ use Rattle.question.specs.declared.fault.AskFault.TheVariants as ask
 use Rattle.harmonics_text.specs.declared.fault.BookFault.TheVariants as form
 use Rattle.station_table.specs.declared.fault.OffsetFault.TheVariants as table
 use Rattle.tide_fault.specs.declared.fault.Fault.TheVariants.{Ask, TooLong, Book, Offsets, BadZone, Refused}
-use Rattle.tide_fault.specs.declared.refusal.Refusal.{Refusal}
 use Rattle.tide_fault.specs.declared.refusal.Refusal.TheVariants as refusals
 use Rattle.tide_fault.specs.declared.status.Status.{Status}
-use Rattle.tide_fault.specs.declared.status.Status.TheVariants.{Done, Rejected, ReadFault, NoMemory}
+use Rattle.tide_fault.specs.declared.status.Status.TheVariants.{Done, Rejected, ReadFault}
 use Rattle.tide_answer.specs.declared.text.Answer.{Answer}
-use Rattle.tide_fault.specs.Faults.{wants_memory as fault_wants_memory, wants_memory_of_refusal, status_of_refusal, line_of as line_of_fault, ask_line, form_line, table_line, refusal_line as line_of_refusal}
+use Rattle.tide_fault.specs.Faults.{wants_memory as fault_wants_memory, wants_memory_of_refusal, line_of as line_of_fault, ask_line, form_line, table_line, refusal_line as line_of_refusal}
 use Rattle.decimal_text.specs.Expected.{Excuses, memory, given}
 use Rattle.tide_edge.specs.SinkStates.{Wrote, put}
 use Rattle.named_files.specs.declared.no_answer.NoAnswer.{NoAnswer}
 use Rattle.named_files.specs.declared.no_answer.NoAnswer.TheVariants.{Unread, Told}
 use Rattle.named_files.specs.declared.no_answer.NoAnswer.TheVariants as none_of
-use Rattle.named_files.specs.NoAnswers.{status_of, line_of, source_of, wants_memory, is_unread}
-use Rattle.tide_desk.specs.Outcomes.{Says, EndsAs, Outputs, is_read_fault, is_write_fault, output_with, line_with}
+use Rattle.named_files.specs.NoAnswers.{status_of, line_of, source_of, wants_memory}
+use Rattle.tide_desk.specs.Outcomes.{Says, EndsAs, Outputs, is_write_fault, output_with, line_with}
 use Rattle.named_files.specs.Telling.{Tells}
 
 -- the status of a fault says the expected answer, its line goes with it, and nothing is to be written
@@ -74,28 +73,6 @@ ends_own firm expected none status before after excuses either quiet told =
           rw t.0 (ends_itself expected none before after t.1.0 (own_excused firm expected none excuses same) quiet t.1.1)
       | inr t ↦ rw t.0 (record { says = tt; output = quiet; failed = t.2.0; line = t.2.1 })
     ]
-
-refl_of_refusal : (refusal : Refusal) → is_read_fault (status_of_refusal refusal) ≡ false
-refl_of_refusal refusals.NoMemory = refl
-refl_of_refusal _ = refl
-
--- a fault of reading is told as one, and no other is
-reads_itself : (none : NoAnswer) → is_read_fault (status_of none) ≡ is_unread none
-reads_itself Unread = refl
-reads_itself (Told (Ask ask.NoMemory)) = refl
-reads_itself (Told (Ask _)) = refl
-reads_itself (Told (TooLong slot)) = refl
-reads_itself (Told (Book form.NoMemory)) = refl
-reads_itself (Told (Book (form.At line why))) = refl
-reads_itself (Told (Offsets table.NoMemory)) = refl
-reads_itself (Told (Offsets (table.At row why))) = refl
-reads_itself (Told BadZone) = refl
-reads_itself (Told (Refused refusal)) = refl_of_refusal refusal
-reads_itself (none_of.Refused refusal rows) = refl_of_refusal refusal
-
-pub told_as_read : {X Y : Type 0} (none : NoAnswer) (status : Status) → ((status ≡ status_of none) × X) ⊎ ((status ≡ NoMemory) × (is_unread none ≡ false) × Y) → is_read_fault status ≡ is_unread none
-told_as_read none status told =
-    elim told [ inl t ↦ rw t.0 (reads_itself none) | inr t ↦ rw (t.0, t.1) refl ]
 
 -- where the text was written whole, and nothing beside it
 pub ends_whole : (expected : Result Answer NoAnswer) (answer : Answer) (rejected : Bool) (status : Status) (before after : Outputs)

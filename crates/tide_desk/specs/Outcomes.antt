@@ -2,7 +2,7 @@
 use Rattle.std.specs.Prelude.{◌≡◌, ℕ, Bool, true, false, if◌then◌else◌, IsTrue, List, [], ◌∷◌, count_by, codes, Result, Ok, Err, IsErrAnd}
 use Rattle.std.specs.Result.{IsOkAnd}
 use Rattle.tide_fault.specs.declared.status.Status.{Status}
-use Rattle.tide_fault.specs.declared.status.Status.TheVariants.{Done, Rejected, ReadFault, WriteFault, NoMemory}
+use Rattle.tide_fault.specs.declared.status.Status.TheVariants.{Done, Rejected, WriteFault, NoMemory}
 use Rattle.tide_answer.specs.declared.text.Answer.{Answer}
 use Rattle.tide_edge.specs.Clocks.{ClockState, clock_after}
 use Rattle.tide_edge.specs.Faults.{Rose}
@@ -11,10 +11,6 @@ use Rattle.tide_edge.specs.SinkStates.{SinkState, Wrote}
 use Rattle.tide_edge.specs.Whole.{Allowance, ReadWithin}
 use Rattle.named_files.specs.declared.no_answer.NoAnswer.{NoAnswer}
 use Rattle.named_files.specs.NoAnswers.{status_of, line_of}
-
-abbrev pub is_read_fault : Status → Bool
-is_read_fault ReadFault = true
-is_read_fault _ = false
 
 abbrev pub is_write_fault : Status → Bool
 is_write_fault WriteFault = true

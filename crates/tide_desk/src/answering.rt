@@ -5,7 +5,6 @@ ghost use Rattle.decimal_text.specs.Expected.{Gives};
 ghost use Rattle.named_files.specs.NoAnswers.{IsTold, reading_failed, refused_over, source_of, told, wants_memory};
 ghost use Rattle.named_files.specs.Readings.{Folders, files_allowed, files_in};
 ghost use Rattle.named_files.specs.Workings.Materials.{AreMaterials};
-ghost use Rattle.question.specs.Asked.{IsAsked};
 ghost use Rattle.tide_answer.specs.Answers.{answered, answered_alone};
 ghost use Rattle.tide_desk.specs.Answers.{AsksClock, HasFiles, NamesFile, allowed_by, answer_from, answer_of, answered_over, asked_of, asks_clock, given_with, minute_for, refused_from};
 ghost use Rattle.tide_desk.specs.Outcomes.{IsFirm, WentOn, sources};
@@ -16,8 +15,9 @@ use crate::asking::read_words;
 use crate::reply::Reply;
 use crate::replying::reply_to;
 use decimal_text::{Text, Words};
+use harmonics_text::SoundBook;
 use named_files::{Materials, NoAnswer, read_files};
-use question::{Command, Question};
+use question::{Command, SoundQuestion};
 use std::alloc::Global;
 use tide_answer::{Given, answer_alone};
 use tide_edge::{Clock, Files};
@@ -44,15 +44,15 @@ pub fn answer_words<F: Files, K: Clock>(
         → ¬ (HasFiles (λ slot. (F.state files.old).store.folder) (asked_of words.now)) → clock.new ≡ clock.old }
 {
     let question = read_words(alloc, words)?;
+    let sound = SoundQuestion::new(&question);
     match &question.file {
-        Some(name) => answer_over(alloc, &question, name, files, clock),
-        None => answer_without(alloc, &question),
+        Some(name) => answer_over(alloc, &sound, name, files, clock),
+        None => answer_without(alloc, &sound),
     }
 }
 
 // The answer to a question that names no file.
-fn answer_without(alloc: Global, question: &Question) -> Result<Reply, NoAnswer>
-    requires { IsAsked question.now }
+fn answer_without(alloc: Global, question: &SoundQuestion<'_>) -> Result<Reply, NoAnswer>
     ensures exact { Gives wants_memory (told (refused_from (answered_alone question.now))) result }
     ensures told { IfErr result IsTold }
     ensures read { reading_failed result ≡ false }
@@ -66,12 +66,11 @@ fn answer_without(alloc: Global, question: &Question) -> Result<Reply, NoAnswer>
 // The answer over files, of which the first has this name. The clock is asked after them.
 fn answer_over<F: Files, K: Clock>(
     alloc: Global,
-    question: &Question,
+    question: &SoundQuestion<'_>,
     name: &Text,
     files: &mut F,
     clock: &mut K,
 ) -> Result<Reply, NoAnswer>
-    requires { IsAsked question.now }
     ensures own { IsTrue (F.state files.old).store.tells → (IsTrue (asks_clock question.now.command) → IsTrue (K.state clock.old).tells)
         → Meets source_of (IsFirm (IsTrue (asks_clock question.now.command)) (sources (F.state files.old) (K.state clock.old)) (sources (F.state files.new) (K.state clock.new)))
         (answered_over (λ slot. (F.state files.old).store.folder) (next_minute (K.state clock.old)) question.now name.now) result }
@@ -84,22 +83,22 @@ fn answer_over<F: Files, K: Clock>(
         → ¬ (IsOk (files_in (λ slot. (F.state files.old).store.folder) question.now name.now)) → clock.new ≡ clock.old }
 {
     let read = read_files(alloc, files, question, name)?;
-    let now = read_minute(clock, question.command)?;
+    let now = read_minute(clock, question)?;
     answer_with(alloc, read, question, now)
 }
 
 // The present minute where the command asks for it, and else none.
-fn read_minute<K: Clock>(clock: &mut K, command: Command) -> Result<i64, NoAnswer>
-    ensures own { (IsTrue (asks_clock command) → IsTrue (K.state clock.old).tells)
-        → IfOk result (λ now. now ≡ minute_for command (next_minute (K.state clock.old))) }
-    ensures some { IfOk result (λ now. (minute : ℤ) × (now ≡ minute_for command minute)) }
+fn read_minute<K: Clock>(clock: &mut K, question: &SoundQuestion<'_>) -> Result<i64, NoAnswer>
+    ensures own { (IsTrue (asks_clock question.now.command) → IsTrue (K.state clock.old).tells)
+        → IfOk result (λ now. now ≡ minute_for question.now.command (next_minute (K.state clock.old))) }
+    ensures some { IfOk result (λ now. (minute : ℤ) × (now ≡ minute_for question.now.command minute)) }
     ensures in_range { IfOk result IsClockMinute }
     ensures unread { IfErr result (λ none. none ≡ NoAnswer.Unread) }
-    ensures asked { OnErr result (IsTrue (asks_clock command)) }
-    ensures time { K.state clock.new ≡ (if asks_clock command then clock_after (is_err result) (K.state clock.old) else K.state clock.old) }
-    ensures unasked { ¬ (IsTrue (asks_clock command)) → clock.new ≡ clock.old }
+    ensures asked { OnErr result (IsTrue (asks_clock question.now.command)) }
+    ensures time { K.state clock.new ≡ (if asks_clock question.now.command then clock_after (is_err result) (K.state clock.old) else K.state clock.old) }
+    ensures unasked { ¬ (IsTrue (asks_clock question.now.command)) → clock.new ≡ clock.old }
 {
-    if !asks_clock(command) {
+    if !asks_clock(question.get().command) {
         return Ok(0);
     }
     match clock.minute() {
@@ -118,11 +117,10 @@ fn asks_clock(command: Command) -> bool
 fn answer_with(
     alloc: Global,
     read: Materials,
-    question: &Question,
+    question: &SoundQuestion<'_>,
     now: i64,
 ) -> Result<Reply, NoAnswer>
     requires materials { AreMaterials read }
-    requires asked { IsAsked question.now }
     requires now { IsClockMinute now }
     ensures exact { Gives wants_memory (refused_over read.table (answered read.book read.table question.now (given_with read now))) result }
     ensures told { IfErr result IsTold }
@@ -139,7 +137,7 @@ fn answer_with(
         certificate,
         now,
     };
-    match reply_to(alloc, &book, &table, question, &given) {
+    match reply_to(alloc, &SoundBook::new(&book), &table, question, &given) {
         Ok(reply) => Ok(reply),
         Err(refusal) => Err(NoAnswer::Refused(refusal, table)),
     }

@@ -2,17 +2,14 @@
 
 ghost use Rattle.std.specs.Prelude.{◌≡◌, ◌&&◌, not, IfErr};
 ghost use Rattle.decimal_text.specs.Expected.{Gives};
-ghost use Rattle.harmonics_text.specs.Books.{IsBook};
-ghost use Rattle.question.specs.Asked.{IsAsked};
-ghost use Rattle.station_table.specs.Offsets.{IsTable};
 ghost use Rattle.tide_answer.specs.Answers.{answered};
 ghost use Rattle.tide_fault.specs.Faults.{wants_memory_of_refusal, IsToldRefusal};
 ghost use Rattle.tide_answer.specs.Givens.{IsGiven};
 ghost use Rattle.tide_answer.specs.Streams.{can_stream, is_plain_layout, is_zone_file};
 
 use crate::reply::Reply;
-use harmonics_text::Book;
-use question::{Layout, Question};
+use harmonics_text::SoundBook;
+use question::{Layout, Question, SoundQuestion};
 use station_table::OffsetTable;
 use std::alloc::Global;
 use tide_answer::{Given, answer, can_stream, prepare};
@@ -23,18 +20,17 @@ use zone_time::Zone;
 /// [`answer`](tide_answer::answer) has it. The text is made only where it doesn't stream.
 pub fn reply_to(
     alloc: Global,
-    book: &Book,
+    book: &SoundBook<'_>,
     table: &OffsetTable,
-    question: &Question,
+    question: &SoundQuestion<'_>,
     given: &Given,
 ) -> Result<Reply, Refusal>
-    requires book { IsBook book.now }
-    requires table { IsTable table.now }
-    requires asked { IsAsked question.now }
     requires given { IsGiven given.now }
     ensures exact { Gives wants_memory_of_refusal (answered book.now table.now question.now given.entry.now) result }
     ensures told { IfErr result (IsToldRefusal table.now) }
 {
+    let book = book.get();
+    let question = question.get();
     if may_stream(question, &given.zone) {
         let ready = prepare(alloc, book, table, question, given)?;
         if ready.streams() {

@@ -31,12 +31,12 @@ pub returns-in-Some-clause-own : goal.returns-in-Some-clause-own
 unfolding answer_from
 returns-in-Some-clause-own g c =
     λ t k. rw c.in_ok-question.ensures.exact
-    (meets_named _ (λ slot. (g.F.Files.state c.args.files.now).store.folder) (next_minute (g.K.Clock.state c.args.clock.now)) c.in_ok-question.question c.in-Some.name c.answer_over.result c.in-Some.is (c.answer_over.ensures.own t (rw c.in_ok-question.ensures.exact at k)))
+    (meets_named _ (λ slot. (g.F.Files.state c.args.files.now).store.folder) (next_minute (g.K.Clock.state c.args.clock.now)) c.in_ok-question.question c.in-Some.name c.answer_over.result c.in-Some.is ((rw c.new-sound.ensures at c.answer_over.ensures.own) t (rw c.in_ok-question.ensures.exact at k)))
 
 pub returns-in-Some-clause-some : goal.returns-in-Some-clause-some
 unfolding answer_from
 returns-in-Some-clause-some g c =
-    let some = c.answer_over.ensures.some in (
+    let some = rw c.new-sound.ensures at c.answer_over.ensures.some in (
       some.0,
       some.1,
       rw c.in_ok-question.ensures.exact
@@ -46,7 +46,7 @@ returns-in-Some-clause-some g c =
 pub returns-in-Some-clause-reads : goal.returns-in-Some-clause-reads
 returns-in-Some-clause-reads g c =
     went_by_words (reading_failed c.answer_over.result) (asked_of c.args.words.now) c.in_ok-question.question c.in-Some.name (sources (g.F.Files.state c.args.files.now) (g.K.Clock.state c.args.clock.now)) (sources (g.F.Files.state c.answer_over.new.files) (g.K.Clock.state c.answer_over.new.clock))
-    c.in_ok-question.ensures.exact c.in-Some.is c.answer_over.ensures.reads
+    c.in_ok-question.ensures.exact c.in-Some.is (rw c.new-sound.ensures at c.answer_over.ensures.reads)
 
 pub returns-clause-reads : goal.returns-clause-reads
 returns-clause-reads g c =
@@ -58,18 +58,18 @@ returns-in-Some-clause-unopened g c =
     λ nameless. absurd (nameless (names_file (asked_of c.args.words.now) c.in_ok-question.question c.in-Some.name c.in_ok-question.ensures.exact c.in-Some.is))
 
 pub returns-in-Some-clause-unasked : goal.returns-in-Some-clause-unasked
-returns-in-Some-clause-unasked g c = rw c.in_ok-question.ensures.exact c.answer_over.ensures.unasked
+returns-in-Some-clause-unasked g c = rw c.in_ok-question.ensures.exact (rw c.new-sound.ensures at c.answer_over.ensures.unasked)
 
 pub returns-in-Some-clause-asked_last : goal.returns-in-Some-clause-asked_last
 returns-in-Some-clause-asked_last g c =
-    λ t unread. c.answer_over.ensures.asked_last t
+    λ t unread. (rw c.new-sound.ensures at c.answer_over.ensures.asked_last) t
     (λ read. unread (has_files (λ slot. (g.F.Files.state c.args.files.now).store.folder) (asked_of c.args.words.now) c.in_ok-question.question c.in-Some.name c.in_ok-question.ensures.exact c.in-Some.is read))
 
 pub returns-clause-own : goal.returns-clause-own
 unfolding answer_from
 returns-clause-own g c =
     λ t k. rw c.in_ok-question.ensures.exact
-    (meets_alone _ (λ slot. (g.F.Files.state c.args.files.now).store.folder) (next_minute (g.K.Clock.state c.args.clock.now)) c.in_ok-question.question c.answer_without.result c.in-None.is c.answer_without.ensures.exact)
+    (meets_alone _ (λ slot. (g.F.Files.state c.args.files.now).store.folder) (next_minute (g.K.Clock.state c.args.clock.now)) c.in_ok-question.question c.answer_without.result c.in-None.is (rw c.new-sound.ensures at c.answer_without.ensures.exact))
 
 pub returns-clause-some : goal.returns-clause-some
 unfolding answer_from
@@ -77,5 +77,5 @@ returns-clause-some g c = (
   λ slot name. None,
   pos 0,
   rw c.in_ok-question.ensures.exact
-      (meets_alone (Unit {0}) (λ slot name. None) (pos 0) c.in_ok-question.question c.answer_without.result c.in-None.is c.answer_without.ensures.exact),
+      (meets_alone (Unit {0}) (λ slot name. None) (pos 0) c.in_ok-question.question c.answer_without.result c.in-None.is (rw c.new-sound.ensures at c.answer_without.ensures.exact)),
 )
