@@ -5,18 +5,17 @@ use Rattle.question.specs.declared.fault.AskFault.TheVariants as ask
 use Rattle.harmonics_text.specs.declared.fault.BookFault.TheVariants as form
 use Rattle.station_table.specs.declared.fault.OffsetFault.TheVariants as table
 use Rattle.tide_fault.specs.declared.fault.Fault.TheVariants.{Ask, TooLong, Book, Offsets, BadZone, Refused}
-use Rattle.tide_fault.specs.declared.refusal.Refusal.{Refusal}
 use Rattle.tide_fault.specs.declared.refusal.Refusal.TheVariants as refusals
 use Rattle.tide_fault.specs.declared.status.Status.{Status}
-use Rattle.tide_fault.specs.declared.status.Status.TheVariants.{Done, Rejected, ReadFault, NoMemory}
+use Rattle.tide_fault.specs.declared.status.Status.TheVariants.{Done, Rejected, ReadFault}
 use Rattle.tide_answer.specs.declared.text.Answer.{Answer}
-use Rattle.tide_fault.specs.Faults.{wants_memory as fault_wants_memory, wants_memory_of_refusal, status_of_refusal, line_of as line_of_fault, ask_line, form_line, table_line, refusal_line as line_of_refusal}
+use Rattle.tide_fault.specs.Faults.{wants_memory as fault_wants_memory, wants_memory_of_refusal, line_of as line_of_fault, ask_line, form_line, table_line, refusal_line as line_of_refusal}
 use Rattle.decimal_text.specs.Expected.{Excuses, memory, given}
 use Rattle.tide_edge.specs.SinkStates.{Wrote, put}
 use Rattle.named_files.specs.declared.no_answer.NoAnswer.{NoAnswer}
 use Rattle.named_files.specs.declared.no_answer.NoAnswer.TheVariants.{Unread, Told}
 use Rattle.named_files.specs.declared.no_answer.NoAnswer.TheVariants as none_of
-use Rattle.named_files.specs.NoAnswers.{status_of, line_of, source_of, wants_memory, is_unread}
+use Rattle.named_files.specs.NoAnswers.{status_of, line_of, source_of, wants_memory}
 use Rattle.tide_desk.specs.Outcomes.{Says, EndsAs, Outputs, is_write_fault, output_with, line_with}
 use Rattle.named_files.specs.Telling.{Tells}
 

@@ -2,7 +2,7 @@
 use Rattle.std.specs.Prelude.{◌≡◌, ℕ, Bool, true, false, if◌then◌else◌, IsTrue, List, [], ◌∷◌, count_by, codes, Result, Ok, Err, IsErrAnd}
 use Rattle.std.specs.Result.{IsOkAnd}
 use Rattle.tide_fault.specs.declared.status.Status.{Status}
-use Rattle.tide_fault.specs.declared.status.Status.TheVariants.{Done, Rejected, ReadFault, WriteFault, NoMemory}
+use Rattle.tide_fault.specs.declared.status.Status.TheVariants.{Done, Rejected, WriteFault, NoMemory}
 use Rattle.tide_answer.specs.declared.text.Answer.{Answer}
 use Rattle.tide_edge.specs.Clocks.{ClockState, clock_after}
 use Rattle.tide_edge.specs.Faults.{Rose}
