@@ -214,5 +214,6 @@ fn unknown_words_are_missing(rt: HostRuntime) -> Result<(), Fail> {
     worked_ranges();
     worked_pages();
     worked_words();
+    pages_show_the_first_events();
     Ok(())
 }
