@@ -1,8 +1,9 @@
+//! Tests of reports.
+
 mod sheets;
 
 ghost use Rattle.std.specs.Prelude.{◌≢◌, ◌≤◌, All, IfOk, IsTrue};
 ghost use Rattle.event_text.specs.Lines.{IsListed};
-ghost use Rattle.report_sheets.specs.Sheets.{IsHead};
 ghost use Rattle.zone_time.specs.Zones.{InZoneYears};
 
 use super::*;
