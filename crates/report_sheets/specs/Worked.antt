@@ -1,7 +1,7 @@
 -- Sheets and events that were worked out by hand (this project).
 use Rattle.std.specs.Prelude.{ℕ, pos, negsuc, List, [], ◌∷◌, codes}
 use Rattle.curve_law.specs.declared.event.Event.{Event}
-use Rattle.curve_law.specs.declared.kind.Kind.TheVariants.{High, Low, EbbBegins, FloodBegins, MarkFalling}
+use Rattle.curve_law.specs.declared.kind.Kind.TheVariants.{High, Low, MarkFalling}
 use Rattle.event_text.specs.Worked.{high_tide, low_tide}
 use Rattle.harmonics_text.specs.declared.book.Units.TheVariants.{Feet, Knots}
 use Rattle.report_sheets.specs.declared.head.Head.{Head}

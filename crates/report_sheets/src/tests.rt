@@ -1,8 +1,9 @@
+//! Tests of reports.
+
 mod sheets;
 
 ghost use Rattle.std.specs.Prelude.{◌≢◌, ◌≤◌, All, IfOk, IsTrue};
 ghost use Rattle.event_text.specs.Lines.{IsListed};
-ghost use Rattle.report_sheets.specs.Sheets.{IsHead};
 ghost use Rattle.zone_time.specs.Zones.{InZoneYears};
 
 use super::*;
@@ -214,5 +215,6 @@ fn unknown_words_are_missing(rt: HostRuntime) -> Result<(), Fail> {
     worked_ranges();
     worked_pages();
     worked_words();
+    pages_show_the_first_events();
     Ok(())
 }

@@ -1,4 +1,4 @@
-use Rattle.std.proofs.Common.{◌≡◌, ◌≢◌, ◌≤◌, ℕ, ◌∙◌, sym, take, arith}
+use Rattle.std.proofs.Common.{◌≢◌, ◌≤◌, ◌∙◌, sym, take, arith}
 use Rattle.std.proofs.lemmas.List.{take_all}
 use Rattle.std.proofs.lemmas.List.Elements.{All-more, All-same}
 use Rattle.report_sheets.proofs.tests.is_printable.Goals as goal
