@@ -1,5 +1,5 @@
 -- What is escaped of a text is escaped of its characters one by one.
-use Rattle.std.proofs.Common.{◌≡◌, ℕ, ◌+◌, ◌/◌, ◌%◌, ◌<◌, ◌≤◌, Bool, true, false, cond, ◌==◌, ◌||◌, nat_lt, if◌then◌else◌, List, [], ◌∷◌, ◌++◌, refl, sym, ap, ◌∙◌, arith, append-nil}
+use Rattle.std.proofs.Common.{◌≡◌, ℕ, ◌+◌, ◌/◌, ◌%◌, ◌<◌, ◌≤◌, true, false, cond, nat_lt, if◌then◌else◌, List, [], ◌∷◌, ◌++◌, refl, arith, append-nil}
 use Rattle.std.proofs.lemmas.Bool.Decides.{nat_tests}
 use Rattle.std.proofs.lemmas.List.Concat.{flat_map-append}
 use Rattle.std.proofs.lemmas.Str.{encode_ascii, encodes-append}
@@ -16,13 +16,13 @@ unfolding encode
 high_octets c h =
     let long : nat_lt c 128 ≡ false = grind (arith, nat_tests) in
     rw long (
-      elim (nat_lt c 2048) as (λ v. AreHigh (cond v ((192 + c / 64) ∷ (128 + c % 64) ∷ []) (cond (nat_lt c 65536) ((224 + c / 4096) ∷ (128 + c / 64 % 64) ∷ (128 + c % 64) ∷ []) ((240 + c / 262144) ∷ (128 + c / 4096 % 64) ∷ (128 + c / 64 % 64) ∷ (128 + c % 64) ∷ [])))) [
-        | true ↦ (omega arith, (omega arith, tt))
-        | false ↦ elim (nat_lt c 65536) as (λ v. AreHigh (cond v ((224 + c / 4096) ∷ (128 + c / 64 % 64) ∷ (128 + c % 64) ∷ []) ((240 + c / 262144) ∷ (128 + c / 4096 % 64) ∷ (128 + c / 64 % 64) ∷ (128 + c % 64) ∷ []))) [
-          | true ↦ (omega arith, (omega arith, (omega arith, tt)))
-          | false ↦ (omega arith, (omega arith, (omega arith, (omega arith, tt))))
-        ]
+    elim (nat_lt c 2048) as (λ v. AreHigh (cond v ((192 + c / 64) ∷ (128 + c % 64) ∷ []) (cond (nat_lt c 65536) ((224 + c / 4096) ∷ (128 + c / 64 % 64) ∷ (128 + c % 64) ∷ []) ((240 + c / 262144) ∷ (128 + c / 4096 % 64) ∷ (128 + c / 64 % 64) ∷ (128 + c % 64) ∷ [])))) [
+      | true ↦ (omega arith, (omega arith, tt))
+      | false ↦ elim (nat_lt c 65536) as (λ v. AreHigh (cond v ((224 + c / 4096) ∷ (128 + c / 64 % 64) ∷ (128 + c % 64) ∷ []) ((240 + c / 262144) ∷ (128 + c / 4096 % 64) ∷ (128 + c / 64 % 64) ∷ (128 + c % 64) ∷ []))) [
+        | true ↦ (omega arith, (omega arith, (omega arith, tt)))
+        | false ↦ (omega arith, (omega arith, (omega arith, (omega arith, tt))))
       ]
+    ]
     )
 
 escaped-high : (text : List ℕ) → AreHigh text → escaped text ≡ text
@@ -32,7 +32,7 @@ escaped-high (octet ∷ text) h =
     let other : is_special octet ≡ false = grind (arith, nat_tests) in
     rw (other, escaped-high text h.1) refl
 
-escaped-encode : (c : ℕ) → escaped (encode c) ≡ (if is_special c then 92 ∷ encode c else encode c)
+pub escaped-encode : (c : ℕ) → escaped (encode c) ≡ (if is_special c then 92 ∷ encode c else encode c)
 escaped-encode c =
     elim (nat_lt c 128) as (λ v. nat_lt c 128 ≡ v → escaped (encode c) ≡ (if is_special c then 92 ∷ encode c else encode c)) [
       | true ↦ λ is. (let low : c < 128 = grind (arith, nat_tests) in rw (encode_ascii c low, append-nil) refl)

@@ -1,6 +1,7 @@
 mod CalendarLemmas
 mod ContentLemmas
 mod EscapingLemmas
+mod LineLemmas
 mod PieceLemmas
 mod UnfoldingLemmas
 mod WorkedLemmas

@@ -1,12 +1,12 @@
 -- Where a text is cut: the longest prefix that ends where a character does.
-use Rattle.std.proofs.Common.{◌≡◌, ◌≢◌, ℕ, zero, suc, ◌+◌, ◌-◌, ◌<◌, ◌≤◌, Bool, true, false, cond, not, ◌&&◌, nat_le, nat_lt, min, List, [], ◌∷◌, ◌++◌, length, get_or, take, drop, slice_index, refl, sym, ap, ◌∙◌, subst, arith, append-nil, codes, zero-add, length-drop}
+use Rattle.std.proofs.Common.{◌≡◌, ◌≢◌, ℕ, zero, suc, ◌-◌, ◌<◌, ◌≤◌, Bool, true, false, cond, nat_le, nat_lt, min, List, [], ◌∷◌, ◌++◌, length, get_or, take, drop, refl, sym, ap, ◌∙◌, subst, arith, append-nil, codes, zero-add, length-drop}
 use Rattle.std.proofs.lemmas.Bool.Decides.{nat_tests}
 use Rattle.std.proofs.lemmas.List.{drop_all, get_or_past, take_all}
-use Rattle.std.proofs.Math.Utf8.{scalars, encodes, encode}
+use Rattle.std.proofs.Math.Utf8.{encodes}
 use Rattle.std.specs.Char.{len_utf8}
 use Rattle.std.specs.Str.{IsUtf8, IsCharBoundary}
 use Rattle.std.proofs.lemmas.Str.{IsUtf8-drop, IsUtf8-take, IsCharBoundary-end, IsCharBoundary-start, IsCharBoundary-from_take, IsCharBoundary-past_char, len_utf8_bounds}
-use Rattle.ical_sheet.specs.Folding.{IsLongestPrefix, ends_at, is_inner, folded, greatest, prefix_length, cut_up, further_pieces}
+use Rattle.ical_sheet.specs.Folding.{IsLongestPrefix, ends_at, folded, greatest, prefix_length, cut_up, further_pieces}
 
 pub greatest-le : (passes : ℕ → Bool) (n : ℕ) → greatest passes n ≤ n
 unfolding greatest
@@ -112,8 +112,8 @@ cut_up-enough (suc m) zero (octet ∷ rest) utf8 h l = absurd (omega (arith, l))
 cut_up-enough (suc m) (suc k) (octet ∷ rest) utf8 h l =
     let text : List ℕ = octet ∷ rest in
     ap (λ pieces. take (prefix_length 74 text) text ∷ pieces) (
-      cut_up-enough m k (drop (prefix_length 74 text) text) (rest-text 74 text utf8)
-      (shorter text m utf8 (omega arith) h) (shorter text k utf8 (omega arith) l)
+    cut_up-enough m k (drop (prefix_length 74 text) text) (rest-text 74 text utf8)
+    (shorter text m utf8 (omega arith) h) (shorter text k utf8 (omega arith) l)
     )
 
 pub further_pieces-step : (text : List ℕ) → IsUtf8 text → 0 < length text → further_pieces text ≡ take (prefix_length 74 text) text ∷ further_pieces (drop (prefix_length 74 text) text)
@@ -122,8 +122,8 @@ further_pieces-step [] utf8 h = absurd (omega (arith, h))
 further_pieces-step (octet ∷ rest) utf8 h =
     let text : List ℕ = octet ∷ rest in
     ap (λ pieces. take (prefix_length 74 text) text ∷ pieces) (
-      cut_up-enough (length rest) (length (drop (prefix_length 74 text) text)) (drop (prefix_length 74 text) text) (rest-text 74 text utf8)
-      (shorter text (length rest) utf8 (omega arith) (omega arith)) (omega arith)
+    cut_up-enough (length rest) (length (drop (prefix_length 74 text) text)) (drop (prefix_length 74 text) text) (rest-text 74 text utf8)
+    (shorter text (length rest) utf8 (omega arith) (omega arith)) (omega arith)
     )
 
 -- a line of at most 75 octets is one piece
@@ -132,6 +132,6 @@ unfolding folded cut_up
 folded-short line short =
     let least : min 75 (length line) ≡ length line = omega (arith, short) in
     let whole : prefix_length 75 line ≡ length line =
-        greatest-min line 75 ∙ ap (greatest (ends_at line)) least ∙ greatest-at (ends_at line) (length line) (end_from_boundary line (length line) (IsCharBoundary-end line))
+    greatest-min line 75 ∙ ap (greatest (ends_at line)) least ∙ greatest-at (ends_at line) (length line) (end_from_boundary line (length line) (IsCharBoundary-end line))
     in
     rw (whole, take_all (length line) line (omega arith), drop_all (length line) line (omega arith), append-nil) refl

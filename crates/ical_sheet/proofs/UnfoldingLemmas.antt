@@ -1,11 +1,11 @@
 -- What is unfolded of a piece, and which lines it makes.
-use Rattle.std.proofs.Common.{◌≡◌, ◌≢◌, ℕ, zero, suc, ◌+◌, ◌<◌, ◌≤◌, Bool, true, false, cond, ◌==◌, ◌&&◌, nat_lt, slice_index, List, [], ◌∷◌, ◌++◌, length, take, drop, refl, sym, ap, ◌∙◌, arith, append_assoc, length-append, length-take, length-drop, All, codes, append-nil}
+use Rattle.std.proofs.Common.{◌≡◌, ◌≢◌, ℕ, zero, suc, ◌+◌, ◌<◌, ◌≤◌, Bool, true, false, ◌==◌, ◌&&◌, nat_lt, slice_index, List, [], ◌∷◌, ◌++◌, length, take, drop, refl, sym, ap, ◌∙◌, arith, append_assoc, length-take, length-drop, All, codes, append-nil}
 use Rattle.std.proofs.lemmas.Bool.Decides.{nat_tests}
 use Rattle.std.proofs.lemmas.List.{take-append-drop, drop_more}
-use Rattle.std.proofs.lemmas.List.Elements.{All-head, All-tail, All-take, All-drop, All-nil, All-cons, All-same, All-weaker}
-use Rattle.std.specs.List.{flat_map, join_by}
+use Rattle.std.proofs.lemmas.List.Elements.{All-head, All-tail, All-take, All-drop, All-cons, All-same, All-weaker}
+use Rattle.std.specs.List.{flat_map}
 use Rattle.std.specs.Str.{IsUtf8}
-use Rattle.ical_sheet.specs.Folding.{AreShort, IsContentLine, IsUnindented, begun_with, cut_up, folded, further_pieces, is_fold, physical_lines, pieces_of, ends_at, prefix_length, unfolded}
+use Rattle.ical_sheet.specs.Folding.{AreShort, IsContentLine, IsUnindented, begun_with, cut_up, folded, further_pieces, is_fold, physical_lines, ends_at, prefix_length, unfolded}
 use Rattle.ical_sheet.proofs.PieceLemmas.{greatest-le, rest-text, prefix-positive}
 
 -- no octet of it is a CR
@@ -102,8 +102,8 @@ unfolded-continued (suc more) (octet ∷ others) rest utf8 clean start h =
     let n = prefix_length 74 text in
     let later : List ℕ = continued (cut_up more (drop n text)) in
     let next : unfolded (later ++ (codes "\r\n" ++ rest)) ≡ drop n text ++ (codes "\r\n" ++ unfolded rest) =
-        unfolded-continued more (drop n text) rest (rest-text 74 text utf8) (All-drop (λ octet. octet ≢ 13) n text clean) start
-        (simp length-drop (omega (arith, h, prefix-positive 74 text utf8 (omega arith) (omega arith))))
+    unfolded-continued more (drop n text) rest (rest-text 74 text utf8) (All-drop (λ octet. octet ≢ 13) n text clean) start
+    (simp length-drop (omega (arith, h, prefix-positive 74 text utf8 (omega arith) (omega arith))))
     in
     ap unfolded (append_assoc (take n text) later (codes "\r\n" ++ rest))
     ∙ unfolded-append (take n text) (later ++ (codes "\r\n" ++ rest)) (All-take (λ octet. octet ≢ 13) n text clean)
@@ -127,15 +127,15 @@ lines-continued (suc more) line (octet ∷ remainder) rest utf8 head clean short
     let next : List ℕ = 32 ∷ take n text in
     let later : List ℕ = continued (cut_up more (drop n text)) in
     let first : physical_lines (line ++ 13 ∷ 10 ∷ (next ++ later) ++ (codes "\r\n" ++ rest)) ≡ line ∷ physical_lines (next ++ later ++ (codes "\r\n" ++ rest)) =
-        ap physical_lines (append_assoc line (13 ∷ 10 ∷ (next ++ later)) (codes "\r\n" ++ rest)) ∙ physical_lines-line line (next ++ later ++ (codes "\r\n" ++ rest)) head
+    ap physical_lines (append_assoc line (13 ∷ 10 ∷ (next ++ later)) (codes "\r\n" ++ rest)) ∙ physical_lines-line line (next ++ later ++ (codes "\r\n" ++ rest)) head
     in
     let further : AreShort (physical_lines (next ++ later ++ (codes "\r\n" ++ rest))) =
-        lines-continued more next (drop n text) rest (rest-text 74 text utf8)
-        (All-cons (λ octet. octet ≢ 13) 32 (take n text) (omega arith) (All-take (λ octet. octet ≢ 13) n text clean))
-        (All-drop (λ octet. octet ≢ 13) n text clean)
-        (simp length-take (omega (arith, greatest-le (ends_at text) 74)))
-        (simp length-drop (omega (arith, h, prefix-positive 74 text utf8 (omega arith) (omega arith))))
-        others
+    lines-continued more next (drop n text) rest (rest-text 74 text utf8)
+    (All-cons (λ octet. octet ≢ 13) 32 (take n text) (omega arith) (All-take (λ octet. octet ≢ 13) n text clean))
+    (All-drop (λ octet. octet ≢ 13) n text clean)
+    (simp length-take (omega (arith, greatest-le (ends_at text) 74)))
+    (simp length-drop (omega (arith, h, prefix-positive 74 text utf8 (omega arith) (omega arith))))
+    others
     in
     All-same IsShort (physical_lines (line ++ 13 ∷ 10 ∷ (next ++ later) ++ (codes "\r\n" ++ rest))) (line ∷ physical_lines (next ++ later ++ (codes "\r\n" ++ rest))) first
     (All-cons IsShort line (physical_lines (next ++ later ++ (codes "\r\n" ++ rest))) short further)
@@ -167,7 +167,7 @@ module _ (line rest : List ℕ) (is : IsContentLine line) where
   pub lines-folded : AreShort (physical_lines rest) → AreShort (physical_lines (folded line ++ rest))
   lines-folded others =
       rw written (
-        lines-continued (length (drop first line)) (take first line) (drop first line) rest (rest-text 75 line is.utf8)
-        (All-take (λ octet. octet ≢ 13) first line clean) (All-drop (λ octet. octet ≢ 13) first line clean)
-        (simp length-take (omega (arith, greatest-le (ends_at line) 75))) (omega arith) others
+      lines-continued (length (drop first line)) (take first line) (drop first line) rest (rest-text 75 line is.utf8)
+      (All-take (λ octet. octet ≢ 13) first line clean) (All-drop (λ octet. octet ≢ 13) first line clean)
+      (simp length-take (omega (arith, greatest-le (ends_at line) 75))) (omega arith) others
       )

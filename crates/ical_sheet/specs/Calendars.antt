@@ -1,5 +1,5 @@
 -- The events of a station as a calendar (RFC 5545, sections 3.3.5, 3.4 and 3.6.1; which properties an event has, and what they hold, is this project's own).
-use Rattle.std.specs.Prelude.{ℕ, ◌/◌, ◌%◌, ℤ, pos, negsuc, List, [], ◌∷◌, ◌++◌, codes}
+use Rattle.std.specs.Prelude.{ℕ, ◌/◌, ◌%◌, ◌^◌, ◌<◌, ℤ, pos, negsuc, unsigned_abs, List, [], ◌∷◌, ◌++◌, codes}
 use Rattle.std.specs.Int.{int_max, int_min}
 use Rattle.std.specs.List.{flat_map}
 use Rattle.curve_law.specs.declared.event.Event.{Event}
@@ -72,6 +72,11 @@ content_lines head (event ∷ events) =
 -- the lines as they are written
 unfoldable pub calendar_of : Head → List Event → List ℕ
 calendar_of head events = flat_map folded (content_lines head events)
+
+-- an event of which the numbers have 64 bits
+pub record IsNarrow (event : Event) : Type 0 where
+  pub minute : unsigned_abs event.minute < 2 ^ 64
+  pub level : unsigned_abs event.level < 2 ^ 64
 
 -- the sheet `ical`
 abbrev pub ical_sheet : ℕ → SheetMeaning

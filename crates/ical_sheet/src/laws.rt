@@ -3,6 +3,10 @@
 ghost use Rattle.std.specs.Prelude.{◌≡◌, ℕ, ◌<◌, List, ◌∷◌, ◌++◌, All, codes, drop, length, take};
 ghost use Rattle.std.specs.List.{flat_map};
 ghost use Rattle.std.specs.Str.{IsUtf8};
+ghost use Rattle.curve_law.specs.declared.event.Event.{Event};
+ghost use Rattle.report_sheets.specs.declared.head.Head.{Head};
+ghost use Rattle.report_sheets.specs.Sheets.{IsHead};
+ghost use Rattle.ical_sheet.specs.Calendars.{IsNarrow, calendar_of, content_lines};
 ghost use Rattle.ical_sheet.specs.Folding.{AreShort, IsContentLine, IsLongestPrefix, folded, further_pieces, physical_lines, prefix_length, unfolded};
 
 /// A prefix that is taken is the longest one of so many octets that is text too, and so cuts no
@@ -21,4 +25,13 @@ pub fn folded_lines_unfold()
     ensures lines { (lines : List (List ℕ)) → All IsContentLine lines →
         unfolded (flat_map folded lines) ≡ flat_map (λ line. line ++ codes "\r\n") lines }
     ensures short { (lines : List (List ℕ)) → All IsContentLine lines → AreShort (physical_lines (flat_map folded lines)) }
+{}
+
+/// The lines of a calendar have at most 75 octets each, and unfolded they are its content lines, each
+/// with a CR LF. The station's name is text without control characters.
+pub fn calendars_unfold()
+    ensures lines { (head : Head) (events : List Event) → IsUtf8 head.name → IsHead head → All IsNarrow events →
+        unfolded (calendar_of head events) ≡ flat_map (λ line. line ++ codes "\r\n") (content_lines head events) }
+    ensures short { (head : Head) (events : List Event) → IsUtf8 head.name → IsHead head → All IsNarrow events →
+        AreShort (physical_lines (calendar_of head events)) }
 {}

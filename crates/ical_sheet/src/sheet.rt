@@ -54,6 +54,10 @@ impl Sheet for IcalSheet {
 
     fn text(&self) -> Result<Bytes, AllocError> {
         let alloc = *self.collected.events.allocator();
-        calendar(alloc, &self.collected.head, self.collected.events.as_slice())
+        calendar(
+            alloc,
+            &self.collected.head,
+            self.collected.events.as_slice(),
+        )
     }
 }

@@ -7,8 +7,10 @@ ghost use Rattle.zone_time.specs.Moments.{IsMoment};
 use arrayvec::ArrayString;
 use zone_time::write_moment;
 
-/// 0001-01-01T00:00Z and 9999-12-31T23:59Z.
+/// 0001-01-01T00:00Z.
 const FIRST_MOMENT: i64 = -1_035_593_280;
+
+/// 9999-12-31T23:59Z.
 const LAST_MOMENT: i64 = 4_223_371_679;
 
 /// The moment of the years from 1 to 9999 that is nearest to a minute.

@@ -1,6 +1,5 @@
-use Rattle.std.proofs.Common.{◌≡◌, ◌++◌, rules, append_assoc, append-nil, codes}
+use Rattle.std.proofs.Common.{append_assoc, append-nil}
 use Rattle.std.proofs.lemmas.Result.{IfOk-equal}
-use Rattle.ical_sheet.specs.Folding.{folded}
 use Rattle.ical_sheet.proofs.calendar.push_first_lines.Goals as goal
 
 pub returns : goal.returns

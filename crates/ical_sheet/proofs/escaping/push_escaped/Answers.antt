@@ -1,4 +1,4 @@
-use Rattle.std.proofs.Common.{◌≡◌, ◌++◌, ◌∷◌, if◌then◌else◌, ap, sym, ◌∙◌, string_bytes, encode_utf8, append_assoc}
+use Rattle.std.proofs.Common.{◌++◌, ◌∷◌, if◌then◌else◌, ap, sym, ◌∙◌, string_bytes, encode_utf8, append_assoc}
 use Rattle.std.proofs.Math.Utf8.{encodes}
 use Rattle.ical_sheet.specs.Escaping.{escaped, is_special}
 use Rattle.ical_sheet.proofs.EscapingLemmas.{escaped-more}

@@ -1,4 +1,4 @@
-use Rattle.std.proofs.Common.{◌≡◌, true, false, sym, ◌∙◌, arith, refl}
+use Rattle.std.proofs.Common.{◌≡◌, sym, ◌∙◌, arith}
 use Rattle.ical_sheet.specs.Folding.{ends_at, greatest}
 use Rattle.ical_sheet.proofs.PieceLemmas.{greatest-at, greatest-below, greatest-min}
 use Rattle.ical_sheet.proofs.folding.prefix_length.Goals as goal

@@ -9,7 +9,7 @@ pub loop-rest-smaller : goal.loop-rest-smaller
 loop-rest-smaller c =
     let some : 0 < length c.loop-rest.rest.now = grind (arith, nat_tests) in
     let less : length c.cut.result.1.now < length c.loop-rest.rest.now =
-        rw c.cut.ensures.rest (simp length-drop (omega (arith, some, prefix-positive 74 c.loop-rest.rest.now c.loop-rest.invariant.utf8 some (omega arith))))
+    rw c.cut.ensures.rest (simp length-drop (omega (arith, some, prefix-positive 74 c.loop-rest.rest.now c.loop-rest.invariant.utf8 some (omega arith))))
     in
     less
 
@@ -21,8 +21,8 @@ loop-rest-preserved c = record {
   utf8 = rw c.cut.ensures.rest (rest-text 74 c.loop-rest.rest.now c.loop-rest.invariant.utf8);
   left =
       rw (c.in_ok-extend_from_slice-2.ensures.items, c.in_ok-extend_from_slice.ensures.items, c.cut.ensures.piece, c.cut.ensures.rest) (
-        regrouped c.loop-rest.text.items (codes "\r\n ") (take (prefix_length 74 c.loop-rest.rest.now) c.loop-rest.rest.now) _
-        ∙ rw (further_pieces-step c.loop-rest.rest.now c.loop-rest.invariant.utf8 (grind (arith, nat_tests))) at c.loop-rest.invariant.left
+      regrouped c.loop-rest.text.items (codes "\r\n ") (take (prefix_length 74 c.loop-rest.rest.now) c.loop-rest.rest.now) _
+      ∙ rw (further_pieces-step c.loop-rest.rest.now c.loop-rest.invariant.utf8 (grind (arith, nat_tests))) at c.loop-rest.invariant.left
       );
 }
 

@@ -1,4 +1,4 @@
-use Rattle.std.proofs.Common.{◌≡◌, codes, length, lit<, map, refl, ap, ◌∙◌}
+use Rattle.std.proofs.Common.{length, lit<, map, refl, ap}
 use Rattle.std.specs.List.{flat_map}
 use Rattle.std.proofs.lemmas.Fmt.{decimal_digit}
 use Rattle.decimal_text.specs.Rounding.{rounded_of}
