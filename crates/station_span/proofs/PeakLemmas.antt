@@ -1,9 +1,9 @@
 -- What was found of a station whose span has a highest water.
-use Rattle.std.proofs.Common.{◌≡◌, ℕ, ℤ, pos, ◌+ℤ◌, ◌-ℤ◌, ◌≤ℤ◌, ◌<ℤ◌, int_le, ◌≤◌, unsigned_abs, Bool, true, false, ◌&&◌, List, Result, Ok, Err, length, refl, sym, subst, ap, ◌∙◌, arith}
+use Rattle.std.proofs.Common.{◌≡◌, ℕ, ℤ, pos, ◌+ℤ◌, ◌-ℤ◌, ◌≤ℤ◌, ◌<ℤ◌, ◌≤◌, unsigned_abs, Bool, true, false, List, Ok, Err, refl, subst, ap, ◌∙◌, arith}
 use Rattle.std.specs.Bool.{IsTrue}
 use Rattle.std.proofs.lemmas.Int.{ints}
 use Rattle.curve_law.specs.Meaning.{Meaning, AgreeOver}
-use Rattle.decimal_text.specs.Expected.{◌>>=◌, Excused}
+use Rattle.decimal_text.specs.Expected.{Excused}
 use Rattle.harmonics_text.specs.declared.book.Book.{Book}
 use Rattle.highest_water.specs.declared.peak.Peak.{Peak}
 use Rattle.highest_water.specs.Covers.{peak_of}
@@ -12,21 +12,18 @@ use Rattle.highest_water.specs.Verdicts.{peak_verdict}
 use Rattle.highest_water.proofs.AgreeLemmas.{peak_of-agrees, verdict-agrees}
 use Rattle.rate_bound.specs.declared.version.Version.TheVariants.{Second}
 use Rattle.rate_bound.proofs.Predicted.{mark_agrees}
-use Rattle.station_curve.specs.Curves.{Predicts}
 use Rattle.station_table.specs.Bases.{is_equal}
 use Rattle.station_table.specs.declared.offsets.Offsets.{Offsets}
 use Rattle.tide_fault.specs.declared.refusal.Refusal.{Refusal}
-use Rattle.year_blend.specs.Places.{AreYears, InDomain}
-use Rattle.zone_time.specs.Zones.{InZoneYears}
 use Rattle.station_span.specs.declared.asked.Asked.{Asked}
 use Rattle.station_span.specs.declared.reach.Reach.TheVariants.{Levels, Highest}
 use Rattle.station_span.specs.declared.station.Found.{Found}
 use Rattle.station_span.specs.Levels.{level_in}
-use Rattle.station_span.specs.Peaks.{first_source, highest_of, highest_site, highest_verdict, level_curve, minute_count}
+use Rattle.station_span.specs.Peaks.{highest_of, highest_site, highest_verdict, level_curve, minute_count}
 use Rattle.station_span.specs.Sites.{Site, lacks_minute, site_in}
-use Rattle.station_span.specs.Workings.Levels.{HasLevel, HasLevelsIn, source_of}
+use Rattle.station_span.specs.Workings.Levels.{HasLevel, source_of}
 use Rattle.station_span.specs.Workings.Peaks.{HasHighest, IsSourceIn, tide_levels, tide_peak, tide_verdict}
-use Rattle.station_span.specs.Workings.Spans.{IsFound, IsReached}
+use Rattle.station_span.specs.Workings.Spans.{IsFound}
 use Rattle.station_span.proofs.FoundLemmas.{excused_by, excused_then}
 use Rattle.station_span.proofs.LevelLemmas.{between, found_levels, in_book, near_minute}
 
