@@ -11,4 +11,3 @@ pub mod ReplyLemmas
 pub mod RowLemmas
 pub mod ServiceLemmas
 pub mod StepLemmas
-pub mod TellingLemmas

@@ -1,5 +1,5 @@
 -- What a server serves from, and how it ends (this project).
-use Rattle.std.specs.Prelude.{◌≡◌, ◌⊎◌, ℕ, Bool, true, false, IsTrue, not, if◌then◌else◌, List, [], ◌∷◌, ◌++◌, codes, count_by, decimal, Option, Some, None, Result, Ok, Err}
+use Rattle.std.specs.Prelude.{◌≡◌, ◌⊎◌, ℕ, Bool, false, IsTrue, not, if◌then◌else◌, List, [], ◌∷◌, ◌++◌, codes, count_by, decimal, Option, Some, None, Result, Ok, Err}
 use Rattle.std.specs.Option.{option_map_or}
 use Rattle.std.specs.Str.{bytes_eq}
 use Rattle.decimal_text.specs.Expected.{◌>>=◌}
@@ -24,7 +24,7 @@ use Rattle.tide_edge.specs.SinkStates.{SinkState, WroteBoth}
 use Rattle.tide_edge.specs.Whole.{Allowance, both, no_file}
 use Rattle.named_files.specs.declared.no_answer.NoAnswer.{NoAnswer}
 use Rattle.named_files.specs.declared.no_answer.NoAnswer.TheVariants.{Told}
-use Rattle.named_files.specs.NoAnswers.{told, status_of, line_of, source_of}
+use Rattle.named_files.specs.NoAnswers.{told, status_of, line_of, source_of, is_read_fault}
 use Rattle.named_files.specs.Readings.{Folders, allowed_for, book_named, table_named}
 use Rattle.tide_server.specs.declared.stock.Stock.{Stock}
 use Rattle.tide_server.specs.Serving.{Served, exchange}
@@ -109,10 +109,6 @@ pub record IsRefused (firm : Type 0) (expected : Result Stock NoAnswer) (status 
   pub wrote : WroteBoth before.err after.err [] line
   pub door : after.door ≡ before.door
   pub clock : after.clock ≡ before.clock
-
-abbrev pub is_read_fault : Status → Bool
-is_read_fault ReadFault = true
-is_read_fault _ = false
 
 -- the line of the end
 abbrev pub end_line : Status → List ℕ

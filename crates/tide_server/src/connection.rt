@@ -5,7 +5,7 @@ ghost use Rattle.tide_edge.specs.Clocks.{IsClockMinute};
 ghost use Rattle.tide_server.specs.Responses.{rejection_of, unavailable_to};
 ghost use Rattle.tide_server.specs.Rows.{is_settled};
 ghost use Rattle.tide_server.specs.Serving.{exchange};
-ghost use Rattle.tide_server.specs.Workings.Connections.{Closed, IsStock, Replies, RowSent, SentBy, WentBy};
+ghost use Rattle.tide_server.specs.Workings.Connections.{Closed, Replies, RowSent, SentBy, WentBy};
 ghost use Rattle.tide_server.specs.Workings.Views.{IsAskingRow, row_seen};
 
 use crate::http_reply::asking_reply;
@@ -14,7 +14,7 @@ use crate::request::Request;
 use crate::response::{write_rejection, write_unavailable};
 use crate::row::{Row, row_for};
 use crate::sent_text::send;
-use crate::stock::Stock;
+use crate::stock::SoundStock;
 use arrayvec::ArrayString;
 use std::alloc::Global;
 use tide_edge::{Clock, Door, Failed};
@@ -26,13 +26,12 @@ use tide_edge::{Clock, Door, Failed};
 /// [`Failed`] where the clock failed.
 pub(crate) fn serve_connection<D: Door, K: Clock>(
     alloc: Global,
-    stock: &Stock,
+    stock: &SoundStock,
     request: &mut Request,
     door: &mut D,
     clock: &mut K,
 ) -> Result<(), Failed>
     requires is_open { IsTrue (D.state door.old).doorway.is_open }
-    requires stock { IsStock stock.now }
     ensures { Closed (is_err result) stock.now
         (exchange (D.state door.old) (K.state clock.old)) (exchange (D.state door.new) (K.state clock.new)) }
 {
@@ -45,13 +44,12 @@ pub(crate) fn serve_connection<D: Door, K: Clock>(
 // a client may wait for its reply before it sends more. The row that reading ended with is answered.
 fn answer_connection<D: Door, K: Clock>(
     alloc: Global,
-    stock: &Stock,
+    stock: &SoundStock,
     request: &mut Request,
     door: &mut D,
     clock: &mut K,
 ) -> Result<(), Failed>
     requires is_open { IsTrue (D.state door.old).doorway.is_open }
-    requires stock { IsStock stock.now }
     ensures { WentBy (is_err result) stock.now
         (exchange (D.state door.old) (K.state clock.old)) (exchange (D.state door.new) (K.state clock.new)) }
 {
@@ -81,13 +79,12 @@ fn ends_reading(count: usize, row: &Row<'_>) -> bool
 // Answers what was read of a connection, at the present minute.
 fn answer_row<D: Door, K: Clock>(
     alloc: Global,
-    stock: &Stock,
+    stock: &SoundStock,
     row: &Row<'_>,
     door: &mut D,
     clock: &mut K,
 ) -> Result<(), Failed>
     requires is_open { IsTrue (D.state door.old).doorway.is_open }
-    requires stock { IsStock stock.now }
     requires known { IsAskingRow (row_seen row.now) }
     ensures { RowSent (is_err result) stock.now (row_seen row.now)
         (exchange (D.state door.old) (K.state clock.old)) (exchange (D.state door.new) (K.state clock.new)) }
@@ -100,13 +97,12 @@ fn answer_row<D: Door, K: Clock>(
 // Sends the reply to a request, or what stands for it where it wants memory.
 fn send_reply<D: Door>(
     alloc: Global,
-    stock: &Stock,
+    stock: &SoundStock,
     row: &Row<'_>,
     now: i64,
     door: &mut D,
 ) -> Result<(), Failed>
     requires is_open { IsTrue (D.state door.old).doorway.is_open }
-    requires stock { IsStock stock.now }
     requires known { IsAskingRow (row_seen row.now) }
     requires now { IsClockMinute now }
     ensures { (text : List ℕ) × Replies stock.now now (row_seen row.now) text
@@ -114,7 +110,7 @@ fn send_reply<D: Door>(
 {
     match row {
         Row::Rejects(rejection, bodiless) => send_rejection(*rejection, *bodiless, door),
-        Row::Asks(asking) => match asking_reply(alloc, &stock.book, &stock.table, asking, now) {
+        Row::Asks(asking) => match asking_reply(alloc, &stock.book(), stock.table(), asking, now) {
             Ok(text) => send(door, text.as_slice()),
             Err(_) => send_unavailable(asking.bodiless, door),
         },

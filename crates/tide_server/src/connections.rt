@@ -3,26 +3,24 @@
 ghost use Rattle.std.specs.Prelude.{◌≡◌, false, true, Some, IsTrue, OnOk, is_err};
 ghost use Rattle.tide_edge.specs.Doors.{asked};
 ghost use Rattle.tide_server.specs.Serving.{IsOver, Served, exchange};
-ghost use Rattle.tide_server.specs.Workings.Connections.{IsStock};
 ghost use Rattle.tide_server.specs.Workings.Steps.{IsKept, StepBy, is_clock_outage, is_door_outage};
 
 use crate::connection::serve_connection;
 use crate::outage::Outage;
 use crate::request::Request;
-use crate::stock::Stock;
+use crate::stock::SoundStock;
 use std::alloc::Global;
 use tide_edge::{Clock, Door};
 
 /// Serves one connection after the other, until no more will come or 2^64 - 1 of them were taken.
 pub(crate) fn serve_all<D: Door, K: Clock>(
     alloc: Global,
-    stock: &Stock,
+    stock: &SoundStock,
     request: &mut Request,
     door: &mut D,
     clock: &mut K,
 ) -> Result<(), Outage>
     requires listens { (D.state door.old).doorway ≡ asked stock.now.port true }
-    requires stock { IsStock stock.now }
     ensures served { IsTrue (D.state door.old).tells → IsTrue (K.state clock.old).tells → Served stock.now (is_err result)
         (exchange (D.state door.old) (K.state clock.old)) (exchange (D.state door.new) (K.state clock.new)) }
     ensures kept { IsKept (is_door_outage result) (is_clock_outage result)
@@ -44,14 +42,13 @@ pub(crate) fn serve_all<D: Door, K: Clock>(
 // Serves the next connection, and answers whether there was one.
 fn serve_next<D: Door, K: Clock>(
     alloc: Global,
-    stock: &Stock,
+    stock: &SoundStock,
     request: &mut Request,
     door: &mut D,
     clock: &mut K,
 ) -> Result<bool, Outage>
     requires listens { IsTrue (D.state door.old).doorway.listens }
     requires none_open { (D.state door.old).doorway.is_open ≡ false }
-    requires stock { IsStock stock.now }
     ensures steps { StepBy result stock.now
         (exchange (D.state door.old) (K.state clock.old)) (exchange (D.state door.new) (K.state clock.new)) }
     ensures unasked { (D.state door.new).doorway.taken ≡ 0 → clock.new ≡ clock.old }

@@ -2,8 +2,7 @@
 
 ghost use Rattle.std.specs.Prelude.{◌≡◌, ◌≤◌, length, IfOk};
 ghost use Rattle.harmonics_text.specs.Books.{IsBook};
-ghost use Rattle.question.specs.Asked.{IsAsked, IsZoneWord};
-ghost use Rattle.station_table.specs.Offsets.{IsTable};
+ghost use Rattle.question.specs.Asked.{IsZoneWord};
 ghost use Rattle.tide_answer.specs.Answers.{answered};
 ghost use Rattle.tide_fault.specs.Faults.{IsTold, wants_memory_of_refusal};
 ghost use Rattle.tide_answer.specs.Givens.{IsGiven};
@@ -22,8 +21,8 @@ use crate::response::{response, write_rejection};
 use crate::row::{Row, row_for};
 use arrayvec::ArrayString;
 use decimal_text::Bytes;
-use harmonics_text::Book;
-use question::{AskFault, Layout, Question, ZoneWord, read_question};
+use harmonics_text::{Book, SoundBook};
+use question::{AskFault, Layout, SoundQuestion, ZoneWord, read_question};
 use station_table::OffsetTable;
 use std::alloc::{AllocError, Global};
 use tide_answer::{Fault, Given, Refusal, answer, fault_line};
@@ -42,13 +41,12 @@ pub fn reply(
     now: i64,
 ) -> Result<Bytes, AllocError>
     requires book { IsBook book.now }
-    requires table { IsTable table.now }
     requires now { IsClockMinute now }
     ensures { IfOk result (IsReply book.now table.now now request.now) }
 {
     match row_for(request) {
         Row::Rejects(rejection, bodiless) => rejection_reply(alloc, rejection, bodiless),
-        Row::Asks(asking) => asking_reply(alloc, book, table, &asking, now),
+        Row::Asks(asking) => asking_reply(alloc, &SoundBook::new(book), table, &asking, now),
     }
 }
 
@@ -68,20 +66,21 @@ fn rejection_reply(alloc: Global, rejection: Rejection, bodiless: bool) -> Resul
 #[tactic(auto, unfolding(crate::specs::Replies::asking_reply, crate::specs::Replies::question_reply))]
 pub(crate) fn asking_reply(
     alloc: Global,
-    book: &Book,
+    book: &SoundBook<'_>,
     table: &OffsetTable,
     asking: &Asking<'_>,
     now: i64,
 ) -> Result<Bytes, AllocError>
-    requires book { IsBook book.now }
-    requires table { IsTable table.now }
     requires asking { IsAsking (asking_seen asking.now) }
     requires now { IsClockMinute now }
     ensures { IfOk result (λ bytes. bytes ≡ asking_reply book.now table.now now (asking_seen asking.now)) }
 {
     let pairs = pairs_of(alloc, asking)?;
     match read_question(alloc, &pairs) {
-        Ok(question) => answer_reply(alloc, book, table, &question, asking, now),
+        Ok(question) => {
+            let question = SoundQuestion::new(&question);
+            answer_reply(alloc, book, table, &question, asking, now)
+        }
         Err(fault) => {
             if wants_memory(fault) {
                 return Err(AllocError);
@@ -101,24 +100,21 @@ pub(crate) fn asking_reply(
 #[tactic(auto, unfolding(crate::specs::Replies::answer_reply))]
 fn answer_reply(
     alloc: Global,
-    book: &Book,
+    book: &SoundBook<'_>,
     table: &OffsetTable,
-    question: &Question,
+    question: &SoundQuestion<'_>,
     asking: &Asking<'_>,
     now: i64,
 ) -> Result<Bytes, AllocError>
-    requires book { IsBook book.now }
-    requires table { IsTable table.now }
-    requires question { IsAsked question.now }
     requires asking { IsAsking (asking_seen asking.now) }
     requires now { IsClockMinute now }
     ensures { IfOk result (λ bytes. bytes ≡ answer_reply table.now question.now.layout
         (answered book.now table.now question.now (given_with question.now (asking_seen asking.now) now)) asking.now.bodiless) }
 {
     let given = given_with(alloc, question, asking, now)?;
-    match answer(alloc, book, table, question, &given) {
+    match answer(alloc, book.get(), table, question.get(), &given) {
         Ok(answer) => {
-            let kind = type_of(question.layout);
+            let kind = type_of(question.get().layout);
             response(
                 alloc,
                 Code::Success,
@@ -140,18 +136,17 @@ fn answer_reply(
 /// What is given with a question besides the book and the table.
 fn given_with(
     alloc: Global,
-    question: &Question,
+    question: &SoundQuestion<'_>,
     asking: &Asking<'_>,
     now: i64,
 ) -> Result<Given, AllocError>
-    requires question { IsAsked question.now }
     requires asking { IsAsking (asking_seen asking.now) }
     requires now { IsClockMinute now }
     ensures exact { IfOk result (λ given. given ≡ given_with question.now (asking_seen asking.now) now) }
     ensures given { IfOk result IsGiven }
 {
     Ok(Given {
-        zone: zone_of(&question.zone),
+        zone: zone_of(&question.get().zone),
         certificate: Bytes::from_vec(asking.body.to_vec(alloc)?),
         now,
     })

@@ -6,15 +6,15 @@ ghost use Rattle.tide_edge.specs.Doors.{asked};
 ghost use Rattle.tide_edge.specs.SinkStates.{Wrote};
 ghost use Rattle.tide_edge.specs.Whole.{ReadWithin};
 ghost use Rattle.tide_fault.specs.declared.status.Status.{Status};
+ghost use Rattle.named_files.specs.NoAnswers.{is_read_fault};
 ghost use Rattle.named_files.specs.Readings.{Folders};
-ghost use Rattle.tide_server.specs.Openings.{EndedBy, EndsAs, TookNone, files_asked, handed, is_read_fault, notice_of, service_of, stock_from, stock_of};
+ghost use Rattle.tide_server.specs.Openings.{EndedBy, EndsAs, TookNone, files_asked, handed, notice_of, service_of, stock_from, stock_of};
 ghost use Rattle.tide_server.specs.Serving.{IsOver};
-ghost use Rattle.tide_server.specs.Workings.Connections.{IsStock};
 ghost use Rattle.tide_server.specs.Workings.Ends.{Ended, unread};
 
 use crate::connections::serve_all;
 use crate::request::Request;
-use crate::stock::Stock;
+use crate::stock::SoundStock;
 use crate::stock_reading::read_stock;
 use arrayvec::ArrayString;
 use decimal_text::Words;
@@ -70,20 +70,19 @@ pub fn serve<F: Files, D: Door, E: Sink, K: Clock>(
 // Listens, and serves what comes.
 fn serve_stock<D: Door, E: Sink, K: Clock>(
     alloc: Global,
-    stock: &Stock,
+    stock: &SoundStock,
     request: &mut Request,
     door: &mut D,
     err: &mut E,
     clock: &mut K,
 ) -> Status
     requires unasked { (D.state door.old).doorway.port ≡ None }
-    requires stock { IsStock stock.now }
     ensures ended { Ended stock.now result
         (unread (D.state door.old) (E.state err.old) (K.state clock.old))
         (unread (D.state door.new) (E.state err.new) (K.state clock.new)) }
     ensures unasked { (D.state door.new).doorway.taken ≡ 0 → clock.new ≡ clock.old }
 {
-    match door.listen(stock.port) {
+    match door.listen(stock.port()) {
         Ok(()) => serve_open(alloc, stock, request, door, err, clock),
         Err(_) => refuse(err, Status::ReadFault, b"read fault\n"),
     }
@@ -92,20 +91,19 @@ fn serve_stock<D: Door, E: Sink, K: Clock>(
 // Serves what comes to the door, which listens.
 fn serve_open<D: Door, E: Sink, K: Clock>(
     alloc: Global,
-    stock: &Stock,
+    stock: &SoundStock,
     request: &mut Request,
     door: &mut D,
     err: &mut E,
     clock: &mut K,
 ) -> Status
     requires listens { (D.state door.old).doorway ≡ asked stock.now.port true }
-    requires stock { IsStock stock.now }
     ensures ended { Ended stock.now result
         (unread (D.state door.old) (E.state err.old) (K.state clock.old))
         (unread (D.state door.new) (E.state err.new) (K.state clock.new)) }
     ensures unasked { (D.state door.new).doorway.taken ≡ 0 → clock.new ≡ clock.old }
 {
-    tell_port(stock.port, err);
+    tell_port(stock.port(), err);
     match serve_all(alloc, stock, request, door, clock) {
         Ok(()) => Status::Done,
         Err(_) => refuse(err, Status::ReadFault, b"read fault\n"),

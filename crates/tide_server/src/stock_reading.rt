@@ -1,6 +1,6 @@
 //! What a server serves from.
 
-ghost use Rattle.std.specs.Prelude.{◌≡◌, [], IsOk, IsTrue, IfOk, IfErr};
+ghost use Rattle.std.specs.Prelude.{◌≡◌, [], IsOk, IsTrue, IfErr};
 ghost use Rattle.decimal_text.specs.Expected.{Gives};
 ghost use Rattle.question.specs.Questions.{wants_memory as ask_wants_memory};
 ghost use Rattle.question.specs.Words.{pairs_of};
@@ -11,9 +11,8 @@ ghost use Rattle.named_files.specs.NoAnswers.{IsTold, reading_failed, source_of}
 ghost use Rattle.named_files.specs.Readings.{Folders, allowed_for, limit_of};
 ghost use Rattle.tide_fault.specs.declared.slot.Slot.{Slot};
 ghost use Rattle.tide_server.specs.Openings.{asks_another, files_asked, service_in, service_of, stock_from, stock_named, stock_of};
-ghost use Rattle.tide_server.specs.Workings.Connections.{IsStock};
 
-use crate::stock::Stock;
+use crate::stock::{SoundStock, Stock};
 use decimal_text::{Text, Words};
 use named_files::{NoAnswer, read_book, read_table};
 use question::{AskFault, Key, Pairs, Question, pairs_of_words, read_question};
@@ -27,11 +26,10 @@ pub(crate) fn read_stock<F: Files>(
     alloc: Global,
     words: &Words,
     files: &mut F,
-) -> Result<Stock, NoAnswer>
+) -> Result<SoundStock, NoAnswer>
     ensures own { IsTrue (F.state files.old).store.tells → Meets source_of (IsTrue (F.state files.old).store.is_steady)
         (stock_of (F.state files.old).store.folder words.now) result }
     ensures some { (folders : Folders) × Meets source_of (Unit {0}) (stock_from folders words.now) result }
-    ensures sound { IfOk result IsStock }
     ensures told { IfErr result IsTold }
     ensures read { ReadWithin (files_asked (service_of words.now)) (reading_failed result) (F.state files.old) (F.state files.new) }
     ensures unopened { ¬ (IsOk (service_of words.now)) → files.new ≡ files.old }
@@ -50,22 +48,21 @@ fn read_named<F: Files>(
     files: &mut F,
     question: &Question,
     name: &Text,
-) -> Result<Stock, NoAnswer>
+) -> Result<SoundStock, NoAnswer>
     ensures own { IsTrue (F.state files.old).store.tells → Meets source_of (IsTrue (F.state files.old).store.is_steady)
         (stock_named (λ slot. (F.state files.old).store.folder) question.now name.now) result }
     ensures some { (folders : Folders) × Meets source_of (Unit {0}) (stock_named folders question.now name.now) result }
-    ensures sound { IfOk result IsStock }
     ensures told { IfErr result IsTold }
     ensures read { ReadWithin (both (one_file (limit_of Slot.File)) (allowed_for Slot.Offsets question.now.offsets))
         (reading_failed result) (F.state files.old) (F.state files.new) }
 {
     let book = read_book(alloc, files, name)?;
     let table = read_table(alloc, files, &question.offsets)?;
-    Ok(Stock {
+    Ok(SoundStock::new(Stock {
         book,
         table,
         port: question.port,
-    })
+    }))
 }
 
 // What the words ask of a server.

@@ -1,8 +1,6 @@
 -- What goes over a connection.
 use Rattle.std.specs.Prelude.{◌≡◌, ℕ, ℤ, ◌⊎◌, Bool, true, false, IsTrue, List, [], ◌++◌, take, Option, Some, None}
 use Rattle.std.specs.List.{concat}
-use Rattle.harmonics_text.specs.Books.{IsBook}
-use Rattle.station_table.specs.Offsets.{IsTable}
 use Rattle.tide_edge.specs.Clocks.{clock_after, next_minute}
 use Rattle.tide_edge.specs.Doors.{DoorState, append_to_last, door_after_close, told_traffic}
 use Rattle.tide_edge.specs.Faults.{faults_after}
@@ -11,11 +9,6 @@ use Rattle.tide_server.specs.Responses.{fixed_of, unavailable_of}
 use Rattle.tide_server.specs.Replies.{reply_of}
 use Rattle.tide_server.specs.Rows.{Row, IsRow}
 use Rattle.tide_server.specs.Serving.{Answers, AnswersUnlessCut, AsksUnlessCut, Exchange, IsEnough, IsReadAsNeeded, clock_with}
-
--- a book and a table as they are read
-pub record IsStock (stock : Stock) : Type 0 where
-  pub book : IsBook stock.book
-  pub table : IsTable stock.table
 
 -- ---- Reading
 

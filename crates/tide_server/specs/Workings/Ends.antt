@@ -6,8 +6,9 @@ use Rattle.tide_edge.specs.FileStates.{FilesState}
 use Rattle.tide_edge.specs.SinkStates.{SinkState}
 use Rattle.tide_fault.specs.declared.status.Status.{Status}
 use Rattle.tide_fault.specs.declared.status.Status.TheVariants.{Done}
+use Rattle.named_files.specs.NoAnswers.{is_read_fault}
 use Rattle.tide_server.specs.declared.stock.Stock.{Stock}
-use Rattle.tide_server.specs.Openings.{EndedBy, Handed, HasListened, handed, is_read_fault}
+use Rattle.tide_server.specs.Openings.{EndedBy, Handed, HasListened, handed}
 use Rattle.tide_server.specs.Serving.{IsOver}
 
 -- what is left once the files were read

@@ -3,7 +3,6 @@ use Rattle.std.specs.Bool.{IsTrue}
 use Rattle.named_files.specs.NoAnswers.{is_unread}
 use Rattle.tide_server.specs.Openings.{handed, stock_from, stock_of}
 use Rattle.tide_server.proofs.OpeningLemmas.{files_failed, refused_for, refused_full}
-use Rattle.tide_server.proofs.TellingLemmas.{told_as_read}
 use Rattle.tide_server.proofs.service.serve.Goals as goal
 
 pub returns-in-Ok-clause-own_files : goal.returns-in-Ok-clause-own_files
@@ -49,7 +48,7 @@ returns-clause-own_files g c =
     (c.in-Err.ensures.own t)
     refl
     refl
-    c.tell.ensures)
+    c.tell.ensures.told)
 
 pub returns-clause-some_files : goal.returns-clause-some_files
 returns-clause-some_files g c =
@@ -65,7 +64,7 @@ returns-clause-some_files g c =
           some.1
           refl
           refl
-          c.tell.ensures),
+          c.tell.ensures.told),
     )
 
 pub returns-in-Ok-clause-read_fault : goal.returns-in-Ok-clause-read_fault
@@ -78,7 +77,7 @@ returns-in-Ok-clause-read_fault g c =
 
 pub returns-clause-read_fault : goal.returns-clause-read_fault
 returns-clause-read_fault g c =
-    rw (told_as_read c.in-Err.none c.tell.result (g.E.Sink.state c.args.err.now) (g.E.Sink.state c.tell.new.err) c.tell.ensures)
+    rw c.tell.ensures.read
     (files_failed (is_unread c.in-Err.none)
     (handed (g.F.Files.state c.args.files.now) (g.D.Door.state c.args.door.now) (g.E.Sink.state c.args.err.now) (g.K.Clock.state c.args.clock.now))
     (handed (g.F.Files.state c.read_stock.new.files) (g.D.Door.state c.args.door.now) (g.E.Sink.state c.tell.new.err) (g.K.Clock.state c.args.clock.now))

@@ -12,7 +12,7 @@ returns-in-Ok-clause-ended g c =
       closed = c.serve_all.ensures.closed;
       served = c.in-Ok.ensures.served;
     })
-    c.in-Ok.ensures.kept c.in-Ok.ensures.over c.tell_port.ensures.1
+    c.in-Ok.ensures.kept c.in-Ok.ensures.over (rw c.port.ensures at c.tell_port.ensures.1)
 
 pub returns-in-Err-clause-ended : goal.returns-in-Err-clause-ended
 returns-in-Err-clause-ended g c =
@@ -26,4 +26,4 @@ returns-in-Err-clause-ended g c =
       closed = c.serve_all.ensures.closed;
       served = c.in-Err.ensures.served;
     })
-    c.in-Err.ensures.kept c.tell_port.ensures.1 c.refuse.ensures.line.1)
+    c.in-Err.ensures.kept (rw c.port.ensures at c.tell_port.ensures.1) c.refuse.ensures.line.1)

@@ -40,11 +40,11 @@ unfolding stock_named
 returns-clause-own g c =
     let book = c.in_ok-book.ensures.own in
     let table = rw c.read_book.ensures.read.store at c.in_ok-table.ensures.own in
-    λ t. rw (book t, table t) refl
+    λ t. rw (book t, table t, c.new.ensures) refl
 
 pub returns-clause-some : goal.returns-clause-some
 unfolding stock_named
 returns-clause-some g c =
     let book = c.in_ok-book.ensures.some in
     let table = c.in_ok-table.ensures.some in
-    (by_slot book.0 table.0 (λ _. None) (λ _. None), rw (book.1, table.1) refl)
+    (by_slot book.0 table.0 (λ _. None) (λ _. None), rw (book.1, table.1, c.new.ensures) refl)
