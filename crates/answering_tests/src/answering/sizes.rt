@@ -11,7 +11,7 @@ use question::Command;
 use station_table::{OffsetTable, read_offsets};
 use std::alloc::{AllocError, Global};
 use std::test::Fail;
-use tide_answer::{Fault, Given, Refusal, answer, answer_into, fault_line, prepare};
+use tide_answer::{Fault, Given, answer, answer_into, fault_line, prepare};
 use tide_edge::MemorySink;
 use zone_time::Zone;
 
@@ -129,26 +129,41 @@ fn a_year_of_ten_constituents_is_answered(rt: HostRuntime) -> Result<(), Fail> {
     Ok(())
 }
 
-// A station whose reference, of 400 bytes, no file has is told with that name.
+// A place whose reference, of 400 bytes, no file has.
+const LOST: &[u8] = b"name,reference,high_add,low_add,high_times,low_times,high_plus,low_plus\n\
+    Dock,zzzzzzzzzzzzzzzzzzzzzzzzzzzzzzzzzzzzzzzzzzzzzzzzzzzzzzzzzzzzzzzzzzzzzzzzzzzzzzzz\
+    zzzzzzzzzzzzzzzzzzzzzzzzzzzzzzzzzzzzzzzzzzzzzzzzzzzzzzzzzzzzzzzzzzzzzzzzzzzzzzzz\
+    zzzzzzzzzzzzzzzzzzzzzzzzzzzzzzzzzzzzzzzzzzzzzzzzzzzzzzzzzzzzzzzzzzzzzzzzzzzzzzzz\
+    zzzzzzzzzzzzzzzzzzzzzzzzzzzzzzzzzzzzzzzzzzzzzzzzzzzzzzzzzzzzzzzzzzzzzzzzzzzzzzzz\
+    zzzzzzzzzzzzzzzzzzzzzzzzzzzzzzzzzzzzzzzzzzzzzzzzzzzzzzzzzzzzzzzzzzzzzzzzzzzzzzzz,0:00,0:00,1,1,0,0\n";
+
+const LOST_LINE: &str = "refused: no reference \
+    zzzzzzzzzzzzzzzzzzzzzzzzzzzzzzzzzzzzzzzzzzzzzzzzzzzzzzzzzzzzzzzzzzzzzzzzzzzzzzzz\
+    zzzzzzzzzzzzzzzzzzzzzzzzzzzzzzzzzzzzzzzzzzzzzzzzzzzzzzzzzzzzzzzzzzzzzzzzzzzzzzzz\
+    zzzzzzzzzzzzzzzzzzzzzzzzzzzzzzzzzzzzzzzzzzzzzzzzzzzzzzzzzzzzzzzzzzzzzzzzzzzzzzzz\
+    zzzzzzzzzzzzzzzzzzzzzzzzzzzzzzzzzzzzzzzzzzzzzzzzzzzzzzzzzzzzzzzzzzzzzzzzzzzzzzzz\
+    zzzzzzzzzzzzzzzzzzzzzzzzzzzzzzzzzzzzzzzzzzzzzzzzzzzzzzzzzzzzzzzzzzzzzzzzzzzzzzzz\n";
+
 #[test]
 fn the_longest_reference_is_told(rt: HostRuntime) -> Result<(), Fail> {
     let alloc = rt.alloc();
-    let mut rows = String::from_str(
-        alloc,
-        "name,reference,high_add,low_add,high_times,low_times,high_plus,low_plus\nPier,z",
-    )?;
-    rows.push_str(&NAME[2..])?;
-    rows.push_str(",0:00,0:00,1,1,0,0\n")?;
-    let Ok(table) = read_offsets(alloc, rows.as_bytes()) else {
+    let book = harbour(alloc)?;
+    let Ok(table) = read_offsets(alloc, LOST) else {
         return Err(Fail::from(AllocError));
     };
-    let fault = Fault::Refused(Refusal::NoReference { row: 0 });
-    let line = fault_line(alloc, &fault, &table)?;
-    let mut told = String::from_str(alloc, "refused: no reference z")?;
-    told.push_str(&NAME[2..])?;
-    told.push_str("\n")?;
-    assert_eq!(rt; line.as_slice(), told.as_bytes());
-    Ok(())
+    let question = asked(
+        alloc,
+        "predict|file=f|offsets=o|station=Dock|begin=2000-01-01T00:00Z|end=2000-01-02T00:00Z",
+    )?;
+    let given = given(alloc, b"")?;
+    match answer(alloc, &book, &table, &question, &given) {
+        Ok(_) => Err(Fail::from(AllocError)),
+        Err(refusal) => {
+            let line = fault_line(alloc, &Fault::Refused(refusal), &table)?;
+            assert_eq!(rt; line.as_slice(), LOST_LINE.as_bytes());
+            Ok(())
+        }
+    }
 }
 
 // A year is predicted, certified and checked, at once and as it is found.
