@@ -1,9 +1,10 @@
 //! What the program does with its words.
 
 ghost use Rattle.std.specs.Prelude.{◌≡◌, ◌⊎◌, ℤ, Bool, IsTrue, IsOk, IsSome, IfSome, None, false};
+ghost use Rattle.named_files.specs.NoAnswers.{is_read_fault};
 ghost use Rattle.named_files.specs.Readings.{Folders};
 ghost use Rattle.tide_desk.specs.Answers.{AsksClock, HasFiles, NamesFile, allowed_by, answer_from, answer_of, asked_of};
-ghost use Rattle.tide_desk.specs.Outcomes.{EndsAs, IsFirm, IsSilent, IsUntouched, WentOn, is_read_fault, outputs, sources};
+ghost use Rattle.tide_desk.specs.Outcomes.{EndsAs, IsFirm, IsSilent, IsUntouched, WentOn, outputs, sources};
 ghost use Rattle.tide_edge.specs.Clocks.{next_minute};
 ghost use Rattle.tide_edge.specs.Whole.{ReadWithin};
 ghost use Rattle.tide_fault.specs.declared.status.Status.{Status};
