@@ -6,13 +6,12 @@ mod sizes;
 ghost use Rattle.std.specs.Prelude.{IfOk};
 ghost use Rattle.harmonics_text.specs.Books.{IsBook};
 ghost use Rattle.question.specs.Asked.{IsAsked};
-ghost use Rattle.station_table.specs.Offsets.{IsTable};
 ghost use Rattle.tide_answer.specs.Givens.{IsGiven};
 
 use crate::texts::words_of;
 use decimal_text::Bytes;
 use harmonics_text::{Book, BookFault, read_book};
-use question::{AskFault, Command, Question, pairs_of_words, read_question};
+use question::{AskFault, Command, Question, SoundQuestion, pairs_of_words, read_question};
 use rows::{ANSWERS, FAULTS, STREAMS, VERDICTS};
 use station_span::{worked_levels, worked_spans};
 use station_table::{OffsetFault, OffsetTable, read_offsets};
@@ -43,9 +42,7 @@ fn pier(alloc: Global) -> Result<Book, BookFault>
 }
 
 /// Places that follow them.
-fn table(alloc: Global) -> Result<OffsetTable, OffsetFault>
-    ensures { IfOk result IsTable }
-{
+fn table(alloc: Global) -> Result<OffsetTable, OffsetFault> {
     read_offsets(alloc, TABLE)
 }
 
@@ -151,7 +148,7 @@ fn certificates_are_judged(rt: HostRuntime) -> Result<(), Fail> {
 fn seeds_have_their_trials(rt: HostRuntime) -> Result<(), Fail> {
     let alloc = rt.alloc();
     let question = asked(alloc, "trial|seed=0")?;
-    match answer_alone(alloc, &question) {
+    match answer_alone(alloc, &SoundQuestion::new(&question)) {
         Ok(answer) => assert_eq!(rt; answer.text.as_slice(), TRIAL),
         Err(_) => return Err(Fail::from(AllocError)),
     }

@@ -2,7 +2,6 @@
 
 ghost use Rattle.std.specs.Prelude.{IfOk};
 ghost use Rattle.harmonics_text.specs.Books.{IsBook};
-ghost use Rattle.station_table.specs.Offsets.{IsTable};
 
 use crate::texts::{DAY, PIER};
 use arrayvec::ArrayString;
@@ -144,9 +143,7 @@ fn pier(alloc: Global) -> Result<Book, BookFault>
     read_book(alloc, PIER.as_bytes())
 }
 
-fn table(alloc: Global) -> Result<OffsetTable, OffsetFault>
-    ensures { IfOk result IsTable }
-{
+fn table(alloc: Global) -> Result<OffsetTable, OffsetFault> {
     read_offsets(alloc, TABLE)
 }
 
