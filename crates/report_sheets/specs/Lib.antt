@@ -4,3 +4,4 @@ pub mod Tallies
 pub mod Ranges
 pub mod Listings
 pub mod Workings
+pub mod Worked

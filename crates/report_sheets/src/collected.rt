@@ -11,7 +11,8 @@ use decimal_text::Text;
 use harmonics_text::Units;
 use std::alloc::{AllocError, Global};
 
-/// The head that a sheet was opened with, and the events that it has taken since.
+/// The head that a sheet was opened with, and the events that it has taken since. A sheet whose text
+/// is made at the end can be made of it.
 #[derive(Drop)]
 pub struct Collected {
     /// How many events the sheet takes, from 1 to 1,000,000.
@@ -78,7 +79,7 @@ impl Collected {
     }
 
     /// The line of the name, which a page begins with.
-    pub fn page(&self) -> Result<Vec<u8>, AllocError>
+    pub fn name_line(&self) -> Result<Vec<u8>, AllocError>
         ensures { IfOk result (λ text. text.items ≡ self.now.head.name ++ codes "\n") }
     {
         let alloc = *self.events.allocator();

@@ -62,7 +62,7 @@ impl Sheet for FirstLines {
 
     #[tactic(auto, unfolding(listing::specs::Listings::plain_events_of))]
     fn text(&self) -> Result<Bytes, AllocError> {
-        let mut text = self.collected.page()?;
+        let mut text = self.collected.name_line()?;
         for event in &self.collected.events {
             push_line(&mut text, self.collected.head.units, event)?;
         }

@@ -1,25 +1,33 @@
 //! Sheets: listings of one station's events, each in a layout of its own, joined into a report.
 //!
 //! A [`Sheet`] has a word, is opened with a [`Head`], takes the events one by one up to its limit, and
-//! writes its text. The crate has three of them: how many events of each name there are, the highest
-//! and the lowest water, and the first events.
+//! writes its text. [`Tally`] counts events, [`Ranges`] shows the highest and the lowest water, and
+//! [`FirstLines`] the first events. [`missing`] finds a wanted word that no sheet has, and [`fill`]
+//! makes the text of the wanted sheets. `specs/` has the layouts.
 #![tactic(auto)]
 
 mod collected;
 mod extreme;
 mod first_lines;
 mod head;
+mod laws;
 mod pages;
 mod ranges;
 mod sheet;
 mod taken;
 mod tally;
+mod worked;
 
 pub use collected::Collected;
 pub use first_lines::FirstLines;
 pub use head::Head;
+pub use laws::pages_show_the_first_events;
 pub use pages::{fill, missing};
 pub use ranges::Ranges;
 pub use sheet::Sheet;
 pub use taken::Taken;
 pub use tally::Tally;
+pub use worked::{worked_pages, worked_ranges, worked_tallies, worked_words};
+
+#[cfg(test)]
+mod tests;

@@ -1,10 +1,10 @@
 //! The pages of a report.
 
-ghost use Rattle.std.specs.Prelude.{◌≡◌, [], ◌++◌, All, IfOk, OnOk, map, take};
+ghost use Rattle.std.specs.Prelude.{◌≡◌, ◌++◌, All, IfOk, OnOk, map};
 ghost use Rattle.std.specs.List.{list_any};
 ghost use Rattle.std.specs.Str.{bytes_eq};
 ghost use Rattle.event_text.specs.Lines.{IsListed};
-ghost use Rattle.report_sheets.specs.Sheets.{IsHead, IsLimit, taken_of, list_after};
+ghost use Rattle.report_sheets.specs.Sheets.{IsHead, list_after, taken_of};
 ghost use Rattle.report_sheets.specs.Pages.{is_wanted, page_of, pages_of, missing_of};
 
 use crate::head::Head;
@@ -83,7 +83,7 @@ fn is_wanted(sheet: &Box<dyn Sheet>, wanted: &[Text]) -> bool
     false
 }
 
-/// Appends the page of a sheet.
+/// Appends the page of a sheet: gives it each event until it is full, and keeps its text.
 #[tactic(auto, unfolding(crate::specs::Pages::page_of))]
 fn push_page(
     text: &mut Vec<u8>,
@@ -96,26 +96,13 @@ fn push_page(
     ensures { OnOk result (text.new.items ≡ text.old.items ++ page_of head.entry.now events.now (meaning sheet.old)) }
 {
     sheet.open(head)?;
-    give(sheet, events)?;
-    let page = sheet.text()?;
-    text.extend_from_slice(page.as_slice())
-}
-
-/// Gives a sheet whose list is empty each event, until it is full.
-fn give(sheet: &mut Box<dyn Sheet>, events: &[Event]) -> Result<(), AllocError>
-    requires empty { list sheet.old ≡ [] }
-    requires listed { All (IsListed (heading sheet.old).units) events.now }
-    ensures same { meaning sheet.new ≡ meaning sheet.old }
-    ensures heading { heading sheet.new ≡ heading sheet.old }
-    ensures list { OnOk result (list sheet.new ≡ take (meaning sheet.old).limit events.now) }
-{
     for event in events {
         match offer(sheet, event)? {
             Taken::Kept => {}
-            Taken::Full => return Ok(()),
+            Taken::Full => break,
         }
     }
-    Ok(())
+    push_text(text, sheet)
 }
 
 /// Gives a sheet one event.
@@ -127,4 +114,12 @@ fn offer(sheet: &mut Box<dyn Sheet>, event: &Event) -> Result<Taken, AllocError>
     ensures list { OnOk result (list sheet.new ≡ list_after (meaning sheet.old).limit (list sheet.old) event.now) }
 {
     sheet.take(event)
+}
+
+/// Appends a sheet's text.
+fn push_text(text: &mut Vec<u8>, sheet: &Box<dyn Sheet>) -> Result<(), AllocError>
+    ensures { OnOk result (text.new.items ≡ text.old.items ++ (meaning sheet.now).layout (heading sheet.now) (list sheet.now)) }
+{
+    let page = sheet.text()?;
+    text.extend_from_slice(page.as_slice())
 }

@@ -67,7 +67,7 @@ impl Sheet for Ranges {
     fn text(&self) -> Result<Bytes, AllocError> {
         let units = self.collected.head.units;
         let events = self.collected.events.as_slice();
-        let mut text = self.collected.page()?;
+        let mut text = self.collected.name_line()?;
         push_extreme(&mut text, Extreme::Highest, units, events)?;
         push_extreme(&mut text, Extreme::Lowest, units, events)?;
         Ok(Bytes::from_vec(text))

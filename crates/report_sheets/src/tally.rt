@@ -77,7 +77,7 @@ impl Sheet for Tally {
     #[tactic(auto, unfolding(crate::specs::Tallies::tally_of))]
     fn text(&self) -> Result<Bytes, AllocError> {
         let counts = counts(self.collected.head.units, self.collected.events.as_slice());
-        let mut text = self.collected.page()?;
+        let mut text = self.collected.name_line()?;
         push_counts(&mut text, &counts)?;
         Ok(Bytes::from_vec(text))
     }

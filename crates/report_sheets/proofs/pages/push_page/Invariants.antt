@@ -1,5 +1,5 @@
 use Rattle.std.proofs.Common.{◌≡◌, ◌≤◌, take}
-use Rattle.report_sheets.proofs.pages.give.Given as goal
+use Rattle.report_sheets.proofs.pages.push_page.Given as goal
 
 abbrev pub invariant-loop-event : goal.invariant-loop-event
 invariant-loop-event g l =
@@ -7,7 +7,7 @@ invariant-loop-event g l =
     let then = goal.Sheet-dyn g (l.fn.sheet.vtable, l.fn.sheet.value) in
     record {
       same : now.meaning l.sheet.value ≡ then.meaning l.fn.sheet.value;
-      heading : now.heading l.sheet.value ≡ then.heading l.fn.sheet.value;
+      heading : now.heading l.sheet.value ≡ l.head;
       list : now.list l.sheet.value ≡ take l.event-index l.events;
       within : l.event-index ≤ (then.meaning l.fn.sheet.value).limit;
     }

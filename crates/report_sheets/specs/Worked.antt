@@ -1,0 +1,36 @@
+-- Sheets and events that were worked out by hand (this project).
+use Rattle.std.specs.Prelude.{ℕ, pos, negsuc, List, [], ◌∷◌, codes}
+use Rattle.curve_law.specs.declared.event.Event.{Event}
+use Rattle.curve_law.specs.declared.kind.Kind.TheVariants.{High, Low, MarkFalling}
+use Rattle.event_text.specs.Worked.{high_tide, low_tide}
+use Rattle.harmonics_text.specs.declared.book.Units.TheVariants.{Feet, Knots}
+use Rattle.report_sheets.specs.declared.head.Head.{Head}
+use Rattle.report_sheets.specs.Sheets.{SheetMeaning}
+use Rattle.report_sheets.specs.Tallies.{tally_sheet}
+use Rattle.report_sheets.specs.Ranges.{range_sheet}
+use Rattle.report_sheets.specs.Listings.{first_sheet}
+
+-- the tides of a day whose second ones are as high and as low as the first
+abbrev pub tides : List Event
+tides =
+    low_tide ∷ high_tide
+    ∷ (record { minute = pos 15792120; kind = Low; level = negsuc 999999 })
+    ∷ (record { minute = pos 15792479; kind = High; level = pos 999962 }) ∷ []
+
+-- the station of these tides, and one of a current
+abbrev pub pier : Head
+pier = record { name = codes "Pier"; units = Feet; now = pos 15791220 }
+
+abbrev pub gate : Head
+gate = record { name = codes "Gate"; units = Knots; now = pos 15791220 }
+
+-- a current that only ebbs, and falls to a mark below its weakest ebb
+abbrev pub ebbs : List Event
+ebbs =
+    (record { minute = pos 15791040; kind = High; level = negsuc 499999 })
+    ∷ (record { minute = pos 15791400; kind = MarkFalling; level = negsuc 2999999 })
+    ∷ (record { minute = pos 15791760; kind = Low; level = negsuc 1999999 }) ∷ []
+
+-- three sheets, the last of a few events
+abbrev pub sheets_with : ℕ → List SheetMeaning
+sheets_with limit = tally_sheet 1000000 ∷ range_sheet 1000000 ∷ first_sheet limit ∷ []

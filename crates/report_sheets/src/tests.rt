@@ -1,0 +1,220 @@
+//! Tests of reports.
+
+mod sheets;
+
+ghost use Rattle.std.specs.Prelude.{◌≢◌, ◌≤◌, All, IfOk, IsTrue};
+ghost use Rattle.event_text.specs.Lines.{IsListed};
+ghost use Rattle.zone_time.specs.Zones.{InZoneYears};
+
+use super::*;
+use curve_law::{Event, Events, Kind};
+use decimal_text::{Text, Words};
+use harmonics_text::Units;
+use sheets::{Counter, Refusal, Refusing};
+use std::alloc::{AllocError, Global};
+use std::process::Abort;
+use std::test::Fail;
+
+fn is_in_years(minute: i64) -> bool
+    ensures { IsTrue result → InZoneYears minute }
+{
+    (-1_035_069_120..=3_855_733_919).contains(&minute)
+}
+
+fn is_listed(units: Units, event: &Event) -> bool
+    ensures { IsTrue result → IsListed units event.now }
+{
+    let is_named = match units {
+        Units::Feet | Units::Meters => {
+            !matches!(event.kind, Kind::FloodBegins | Kind::EbbBegins)
+        }
+        Units::Knots => true,
+        Units::KnotsSquared => false,
+    };
+    is_named && is_in_years(event.minute)
+}
+
+// Minutes, kinds and levels as events, where they can be listed.
+fn events_of(alloc: Global, units: Units, items: &[(i64, Kind, i64)]) -> Result<Events, AllocError>
+    ensures { IfOk result (All (IsListed units)) }
+{
+    let mut events = Vec::new(alloc);
+    for &(minute, kind, level) in items {
+        let event = Event {
+            minute,
+            kind,
+            level,
+        };
+        if is_listed(units, &event) {
+            events.push(event)?;
+        }
+    }
+    Ok(Events::from_vec(events))
+}
+
+fn is_printable(name: &str) -> bool
+    ensures { IsTrue result → All (λ b. (32 ≤ b) × (b ≢ 127)) name.now }
+{
+    for &byte in name.as_bytes() {
+        if byte < 32 || byte == 127 {
+            return false;
+        }
+    }
+    true
+}
+
+fn words_of(alloc: Global, words: &[&str]) -> Result<Words, AllocError> {
+    let mut texts = Vec::new(alloc);
+    for word in words {
+        texts.push(Text::from_str(alloc, word)?)?;
+    }
+    Ok(Words::from_vec(texts))
+}
+
+// The text of a report whose head and events meet what is asked of them.
+fn report(
+    rt: &impl Abort,
+    alloc: Global,
+    sheets: Vec<Box<dyn Sheet>>,
+    wanted: &[&str],
+    name: &str,
+    events: &[(i64, Kind, i64)],
+) -> Result<Vec<u8>, AllocError> {
+    assert!(rt; is_printable(name));
+    let head = Head {
+        name: Text::from_str(alloc, name)?,
+        units: Units::Feet,
+        now: 15791220,
+    };
+    let events = events_of(alloc, Units::Feet, events)?;
+    let words = words_of(alloc, wanted)?;
+    fill(alloc, sheets, &words, &head, &events)?
+        .as_slice()
+        .to_vec(alloc)
+}
+
+const TIDES: &[(i64, Kind, i64)] = &[
+    (15791400, Kind::Low, -1000000),
+    (15791759, Kind::High, 999962),
+    (15792120, Kind::Low, -1000000),
+    (15792479, Kind::High, 999962),
+];
+
+const TALLY: &str = "Pier\n2 High Tide\n2 Low Tide\n";
+
+const RANGE: &str = "Pier\n\
+    Highest 1.00 feet 2000-01-10T11:59Z\n\
+    Lowest -1.00 feet 2000-01-10T06:00Z\n";
+
+const FIRST_TWO: &str = "Pier\n\
+    2000-01-10 06:00 UTC      -1.00 feet  Low Tide\n\
+    2000-01-10 11:59 UTC       1.00 feet  High Tide\n";
+
+const LAST_TWO: &str = "2000-01-10 18:00 UTC      -1.00 feet  Low Tide\n\
+    2000-01-10 23:59 UTC       1.00 feet  High Tide\n";
+
+// The wanted words, how many events the sheet `first` takes, and the parts of the text.
+const REPORTS: &[(&[&str], u32, &[&str])] = &[
+    (
+        &["first", "tally", "range"],
+        10,
+        &[TALLY, RANGE, FIRST_TWO, LAST_TWO],
+    ),
+    (&["first", "tally", "range"], 2, &[TALLY, RANGE, FIRST_TWO]),
+    (&["first"], 4, &[FIRST_TWO, LAST_TWO]),
+    (&["range", "tally"], 10, &[TALLY, RANGE]),
+    (&["graph"], 10, &[]),
+];
+
+#[test]
+fn reports_are_filled(rt: HostRuntime) -> Result<(), Fail> {
+    let alloc = rt.alloc();
+    for &(wanted, limit, parts) in REPORTS {
+        assert!(rt; 1 <= limit && limit <= 1_000_000);
+        let mut sheets: Vec<Box<dyn Sheet>> = Vec::new(alloc);
+        sheets.push(Box::new(alloc, Tally::new(alloc, 1_000_000))?)?;
+        sheets.push(Box::new(alloc, Ranges::new(alloc, 1_000_000))?)?;
+        sheets.push(Box::new(alloc, FirstLines::new(alloc, limit))?)?;
+        let text = report(&rt, alloc, sheets, wanted, "Pier", TIDES)?;
+        let mut expected = Vec::new(alloc);
+        for part in parts {
+            expected.extend_from_slice(part.as_bytes())?;
+        }
+        assert_eq!(rt; text.as_slice(), expected.as_slice());
+    }
+    Ok(())
+}
+
+#[test]
+fn empty_lists_leave_the_name(rt: HostRuntime) -> Result<(), Fail> {
+    let alloc = rt.alloc();
+    let long = vec![in alloc; b'a'; 400]?;
+    let mut name = String::new(alloc);
+    for _ in 0..long.len() {
+        name.push('a')?;
+    }
+    let mut sheets: Vec<Box<dyn Sheet>> = Vec::new(alloc);
+    sheets.push(Box::new(alloc, Tally::new(alloc, 1))?)?;
+    sheets.push(Box::new(alloc, Ranges::new(alloc, 1))?)?;
+    sheets.push(Box::new(alloc, FirstLines::new(alloc, 1))?)?;
+    let wanted = ["first", "range", "tally"].as_slice();
+    let text = report(&rt, alloc, sheets, wanted, name.as_str(), &[])?;
+    let mut expected = Vec::new(alloc);
+    for _ in 0..3 {
+        expected.extend_from_slice(long.as_slice())?;
+        expected.push(b'\n')?;
+    }
+    assert_eq!(rt; text.as_slice(), expected.as_slice());
+    Ok(())
+}
+
+#[test]
+fn sheets_of_any_kind_are_filled(rt: HostRuntime) -> Result<(), Fail> {
+    let alloc = rt.alloc();
+    let mut sheets: Vec<Box<dyn Sheet>> = Vec::new(alloc);
+    sheets.push(Box::new(alloc, Counter::new(alloc, "few", 1)?)?)?;
+    sheets.push(Box::new(alloc, Counter::new(alloc, "four", 4)?)?)?;
+    sheets.push(Box::new(alloc, Counter::new(alloc, "none", 9)?)?)?;
+    sheets.push(Box::new(alloc, Counter::new(alloc, "many", 1_000_000)?)?)?;
+    let wanted = ["many", "four", "few"].as_slice();
+    let text = report(&rt, alloc, sheets, wanted, "Pier", TIDES)?;
+    assert_eq!(rt; text.as_slice(), b"few 1\nfour 4\nmany 4\n".as_slice());
+    Ok(())
+}
+
+#[test]
+fn refusals_leave_no_text(rt: HostRuntime) -> Result<(), Fail> {
+    let alloc = rt.alloc();
+    for at in [Refusal::Open, Refusal::Take, Refusal::Text] {
+        let mut sheets: Vec<Box<dyn Sheet>> = Vec::new(alloc);
+        sheets.push(Box::new(alloc, Tally::new(alloc, 4))?)?;
+        sheets.push(Box::new(alloc, Refusing::new(alloc, at))?)?;
+        let wanted = ["tally", "refusing"].as_slice();
+        let text = report(&rt, alloc, sheets, wanted, "Pier", TIDES);
+        assert!(rt; text.is_err());
+    }
+    Ok(())
+}
+
+#[test]
+fn unknown_words_are_missing(rt: HostRuntime) -> Result<(), Fail> {
+    let alloc = rt.alloc();
+    let mut sheets: Vec<Box<dyn Sheet>> = Vec::new(alloc);
+    sheets.push(Box::new(alloc, Tally::new(alloc, 4))?)?;
+    sheets.push(Box::new(alloc, Counter::new(alloc, "few", 1)?)?)?;
+    for (wanted, place) in [
+        (["tally", "few"].as_slice(), None),
+        (["few", "tally"].as_slice(), None),
+        (["few", "graph", "table"].as_slice(), Some(1)),
+        (["Tally"].as_slice(), Some(0)),
+        ([].as_slice(), None),
+    ] {
+        assert_eq!(rt; missing(&sheets, &words_of(alloc, wanted)?), place);
+    }
+    worked_tallies();
+    worked_ranges();
+    worked_pages();
+    worked_words();
+    pages_show_the_first_events();
+    Ok(())
+}

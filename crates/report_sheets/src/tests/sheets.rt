@@ -1,0 +1,120 @@
+//! Sheets of the tests' own.
+
+ghost use Rattle.std.specs.Prelude.{◌++◌, codes, decimal, length};
+ghost use Rattle.report_sheets.specs.Sheets.{IsLimit};
+
+use crate::{Collected, Head, Sheet, Taken};
+use curve_law::Event;
+use decimal_text::{Bytes, Text};
+use itoa::Buffer;
+use std::alloc::{AllocError, Global};
+
+/// A sheet with a word of its own that writes the word and how many events it has taken.
+#[derive(Drop)]
+pub struct Counter {
+    word: Text,
+    collected: Collected,
+}
+
+impl Counter {
+    pub fn new(alloc: Global, word: &str, limit: u32) -> Result<Counter, AllocError>
+        requires { IsLimit limit }
+    {
+        Ok(Counter {
+            word: Text::from_str(alloc, word)?,
+            collected: Collected::new(alloc, limit),
+        })
+    }
+}
+
+impl Sheet for Counter {
+    ghost meaning = { λ sheet. record { word = sheet.word; limit = sheet.collected.limit; layout = λ _ list. sheet.word ++ codes " " ++ decimal (length list) ++ codes "\n" } };
+
+    ghost heading = { λ sheet. sheet.collected.head };
+
+    ghost list = { λ sheet. sheet.collected.events.items };
+
+    ghost limited = { λ sheet. sheet.collected.limited };
+
+    fn named(&self, word: &Text) -> bool {
+        word.as_str() == self.word.as_str()
+    }
+
+    fn open(&mut self, head: &Head) -> Result<(), AllocError> {
+        self.collected.open(head)
+    }
+
+    fn take(&mut self, event: &Event) -> Result<Taken, AllocError> {
+        self.collected.take(event)
+    }
+
+    fn text(&self) -> Result<Bytes, AllocError> {
+        let alloc = *self.collected.events.allocator();
+        let mut text = Vec::from_slice(alloc, self.word.as_str().as_bytes())?;
+        text.extend_from_slice(b" ")?;
+        text.extend_from_slice(Buffer::new().format(self.collected.events.len()).as_bytes())?;
+        text.extend_from_slice(b"\n")?;
+        Ok(Bytes::from_vec(text))
+    }
+}
+
+/// Which call of a sheet refuses.
+#[derive(Clone, Copy, Debug, PartialEq, Eq)]
+pub enum Refusal {
+    Open,
+    Take,
+    Text,
+}
+
+/// A sheet that answers want of memory at one of its calls.
+#[derive(Drop)]
+pub struct Refusing {
+    at: Refusal,
+    collected: Collected,
+}
+
+impl Refusing {
+    pub fn new(alloc: Global, at: Refusal) -> Refusing {
+        Refusing {
+            at,
+            collected: Collected::new(alloc, 4),
+        }
+    }
+}
+
+impl Sheet for Refusing {
+    ghost meaning = { λ sheet. record { word = codes "refusing"; limit = sheet.collected.limit; layout = λ _ _. codes "kept" } };
+
+    ghost heading = { λ sheet. sheet.collected.head };
+
+    ghost list = { λ sheet. sheet.collected.events.items };
+
+    ghost limited = { λ sheet. sheet.collected.limited };
+
+    fn named(&self, word: &Text) -> bool {
+        word.as_str() == "refusing"
+    }
+
+    fn open(&mut self, head: &Head) -> Result<(), AllocError> {
+        if self.at == Refusal::Open {
+            self.collected.events.clear();
+            return Err(AllocError);
+        }
+        self.collected.open(head)
+    }
+
+    fn take(&mut self, event: &Event) -> Result<Taken, AllocError> {
+        if self.at == Refusal::Take {
+            return Err(AllocError);
+        }
+        self.collected.take(event)
+    }
+
+    fn text(&self) -> Result<Bytes, AllocError> {
+        if self.at == Refusal::Text {
+            return Err(AllocError);
+        }
+        let alloc = *self.collected.events.allocator();
+        Ok(Bytes::from_vec(Vec::from_slice(alloc, b"kept")?))
+    }
+}
