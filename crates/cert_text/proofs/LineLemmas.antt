@@ -16,6 +16,7 @@ use Rattle.curve_law.specs.declared.cell.Cell.{Cell}
 use Rattle.curve_law.specs.declared.cell.Cell.TheVariants as cells
 use Rattle.curve_law.specs.declared.kind.Kind.{Kind}
 use Rattle.curve_law.specs.declared.kind.Kind.TheVariants.{High, Low, FloodBegins, EbbBegins, MarkRising, MarkFalling}
+use Rattle.decimal_text.specs.Names.{is_name_byte}
 use Rattle.zone_time.specs.Moments.{IsMoment, moment_text, moment_of}
 use Rattle.zone_time.proofs.MomentLemmas.{moment_of-moment_text}
 use Rattle.zone_time.proofs.ReadingLemmas.{moment_text-moment_of}
@@ -25,7 +26,7 @@ use Rattle.cert_text.specs.Tracks.{track_of, track_word, kind_word}
 use Rattle.cert_text.specs.Certificates.{IsStationName, IsMark, IsLevel, IsCellOf}
 use Rattle.cert_text.specs.Lines.{title_of, station_line_of, mark_line_of, heading_of, front_of, cell_line_of, last_line}
 use Rattle.cert_text.specs.declared.numbers.TheConstants.{LEVEL_DIGITS}
-use Rattle.cert_text.specs.Workings.LineReading.{after, size_of, number_of, version_of, is_name_byte, named, station_of, moment_after, mark_within, mark_of, quiet_for, quiet_of, turn_of, first_kind, second_kind, cell_of}
+use Rattle.cert_text.specs.Workings.LineReading.{after, size_of, number_of, version_of, named, station_of, moment_after, mark_within, mark_of, quiet_for, quiet_of, turn_of, first_kind, second_kind, cell_of}
 use Rattle.cert_text.proofs.OptionLemmas.{option_map_some, option_or_some}
 use Rattle.cert_text.proofs.NumberLemmas.{size_is, size_of-decimal, number_is, number_of-signed, first_digit}
 

@@ -1,11 +1,11 @@
 //! The first five lines, read.
 
 ghost use Rattle.std.specs.Prelude.{◌≡◌, option_copied};
-ghost use Rattle.std.specs.List.{list_all};
-ghost use Rattle.cert_text.specs.Workings.LineReading.{version_of, is_name_byte, named, station_of, moment_after, mark_within, mark_of};
+ghost use Rattle.cert_text.specs.Workings.LineReading.{version_of, named, station_of, moment_after, mark_within, mark_of};
 
 use crate::lines::after;
 use crate::numbers::{LEVEL_DIGITS, number_of};
+use decimal_text::are_name_bytes;
 use zone_time::read_moment;
 
 /// The version of a title.
@@ -20,18 +20,6 @@ pub fn version_of(line: &[u8]) -> Option<u32>
     } else {
         None
     }
-}
-
-fn is_name_byte(b: u8) -> bool
-    ensures { result ≡ is_name_byte b }
-{
-    b >= 32 && b != 127
-}
-
-fn are_name_bytes(name: &[u8]) -> bool
-    ensures { result ≡ list_all is_name_byte name.now }
-{
-    name.iter().all(|b| is_name_byte(*b))
 }
 
 /// The bytes as text, where they may name a station.

@@ -3,7 +3,8 @@
 //! Contracts see [`Text`], [`Bytes`], [`Numbers`] and [`Words`] as lists: a [`Text`] as the list of
 //! its UTF-8 bytes, the others as the list of their items. Only `copy` and [`Text::from_str`] take
 //! memory. [`read`] and [`write`] turn decimals into whole numbers and back, [`digits`] reads whole
-//! numbers of digits alone, and [`wide_digits`] those that need 128 bits.
+//! numbers of digits alone, and [`wide_digits`] those that need 128 bits. [`are_name_bytes`] tells
+//! what may stand in a name.
 #![tactic(auto)]
 
 mod bytes;
@@ -11,6 +12,7 @@ mod digit;
 mod fault;
 mod laws;
 mod limits;
+mod names;
 mod numbers;
 mod reading;
 mod rounding;
@@ -28,6 +30,7 @@ pub use laws::{
     reads_its_fraction, worked_digits, worked_readings, worked_roundings, worked_writings,
 };
 pub use limits::MOST_BYTES;
+pub use names::are_name_bytes;
 pub use numbers::Numbers;
 pub use reading::read;
 pub use rounding::rounded;

@@ -18,6 +18,14 @@ fn copies_are_equal(rt: HostRuntime) -> Result<(), Fail> {
 }
 
 #[test]
+fn bytes_of_names_are_told(rt: HostRuntime) {
+    assert!(rt; are_name_bytes(b"Pier 1~\xc3\xa9"));
+    assert!(rt; are_name_bytes(b""));
+    assert!(rt; !are_name_bytes(b"Pier\x1f"));
+    assert!(rt; !are_name_bytes(b"Pier\x7f"));
+}
+
+#[test]
 fn decimals_are_read(rt: HostRuntime) {
     assert_eq!(rt; read(b"-1.50", 2), Ok(-150));
     assert_eq!(rt; read(b".5", 6), Ok(500_000));

@@ -18,9 +18,9 @@ use Rattle.decimal_text.specs.declared.fault.DecimalFault.{DecimalFault}
 use Rattle.decimal_text.specs.declared.fault.DecimalFault.TheVariants as decimals
 use Rattle.harmonics_text.specs.declared.local_time.LocalTime.{LocalTime}
 use Rattle.harmonics_text.specs.declared.book.Units.{Units}
-use Rattle.harmonics_text.specs.Books.{IsWithin, IsName, IsNameByte, IsConstituent}
+use Rattle.harmonics_text.specs.Books.{IsWithin, IsName, IsLatinNameByte, IsConstituent}
 use Rattle.decimal_text.specs.Expected.{◌>>=◌}
-use Rattle.harmonics_text.specs.Rules.{or_fault, in_scale, number_of, least_of, most_of, from_to, count_of, first_year_of, whole_of, is_name_byte, name_of, new_name_of, is_absent, is_end, has_name, constituent_from, constituent_of, local_time_from, local_time_of, meridian_of, clock_of, minutes_of, zone_of, datum_of, pair_from, pair_of, units_of, if_true, is_name, is_colon, two_digits_of}
+use Rattle.harmonics_text.specs.Rules.{or_fault, in_scale, number_of, least_of, most_of, from_to, count_of, first_year_of, whole_of, is_latin_name_byte, name_of, new_name_of, is_absent, is_end, has_name, constituent_from, constituent_of, local_time_from, local_time_of, meridian_of, clock_of, minutes_of, zone_of, datum_of, pair_from, pair_of, units_of, if_true, is_name, is_colon, two_digits_of}
 
 -- the value of a step that did not fail
 pub bind_ok : {A B E : Type 0} (r : Result A E) (f : A → Result B E) (y : B) → (r >>= f) ≡ Ok y → (x : A) × (r ≡ Ok x) × (f x ≡ Ok y)
@@ -90,17 +90,17 @@ first_year_within text year e =
 
 -- ---- names
 
-name_byte : (b : ℕ) → is_name_byte b ≡ true → IsNameByte b
+name_byte : (b : ℕ) → is_latin_name_byte b ≡ true → IsLatinNameByte b
 name_byte b e = grind (arith, nat_tests)
 
-names_bytes : (latin : List ℕ) → list_all is_name_byte latin ≡ true → All IsNameByte latin
-names_bytes latin e k d lt = name_byte (get_or latin k d) (AllPass-from_list_all is_name_byte latin e k d lt)
+names_bytes : (latin : List ℕ) → list_all is_latin_name_byte latin ≡ true → All IsLatinNameByte latin
+names_bytes latin e k d lt = name_byte (get_or latin k d) (AllPass-from_list_all is_latin_name_byte latin e k d lt)
 
 pub name_sound : (most : ℕ) (latin name : List ℕ) → name_of most latin ≡ Ok name → IsName most name
 unfolding name_of
 name_sound most latin name e =
-    let t = where_true (leb 1 (length latin) && leb (length latin) most && list_all is_name_byte latin) _ (Ok (encode_utf8_all latin)) name e in
-    let k = both (leb 1 (length latin) && leb (length latin) most) (list_all is_name_byte latin) t.0 in
+    let t = where_true (leb 1 (length latin) && leb (length latin) most && list_all is_latin_name_byte latin) _ (Ok (encode_utf8_all latin)) name e in
+    let k = both (leb 1 (length latin) && leb (length latin) most) (list_all is_latin_name_byte latin) t.0 in
     let l = both (leb 1 (length latin)) (leb (length latin) most) k.0 in
     record {
       latin = latin;

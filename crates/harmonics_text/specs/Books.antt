@@ -10,8 +10,8 @@ pub record IsWithin (low high x : ℤ) : Type 0 where
   pub most : x ≤ℤ high
 
 -- a byte of a name in ISO 8859-1: printable ASCII with the space, or from 128 on
-abbrev pub IsNameByte : ℕ → Type 0
-IsNameByte b = ((32 ≤ b) × (b ≤ 126)) ⊎ ((128 ≤ b) × (b ≤ 255))
+abbrev pub IsLatinNameByte : ℕ → Type 0
+IsLatinNameByte b = ((32 ≤ b) × (b ≤ 126)) ⊎ ((128 ≤ b) × (b ≤ 255))
 
 -- UTF-8 of at most `most` such bytes, and of one at least
 pub record IsName (most : ℕ) (name : List ℕ) : Type 0 where
@@ -19,7 +19,7 @@ pub record IsName (most : ℕ) (name : List ℕ) : Type 0 where
   pub spelled : name ≡ encode_utf8_all latin
   pub some : 1 ≤ length latin
   pub short : length latin ≤ most
-  pub printable : All IsNameByte latin
+  pub printable : All IsLatinNameByte latin
 
 pub record IsConstituent (c : Constituent) : Type 0 where
   pub name : IsName 32 c.name

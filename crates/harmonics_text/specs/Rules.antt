@@ -72,13 +72,13 @@ first_year_of text = do
 -- ---- names
 
 -- in ISO 8859-1: printable ASCII with the space, or from 128 on
-abbrev pub is_name_byte : ℕ → Bool
-is_name_byte b = (nat_le 32 b && nat_le b 126) || (nat_le 128 b && nat_le b 255)
+abbrev pub is_latin_name_byte : ℕ → Bool
+is_latin_name_byte b = (nat_le 32 b && nat_le b 126) || (nat_le 128 b && nat_le b 255)
 
 -- kept in UTF-8
 unfoldable pub name_of : ℕ → List ℕ → Result (List ℕ) Why
 name_of most latin =
-    if nat_le 1 (length latin) && nat_le (length latin) most && list_all is_name_byte latin
+    if nat_le 1 (length latin) && nat_le (length latin) most && list_all is_latin_name_byte latin
     then Ok (encode_utf8_all latin) else Err BadName
 
 -- these bytes write the name

@@ -4,7 +4,7 @@ ghost use Rattle.std.specs.Prelude.{◌≡◌, IfOk, encode_utf8_all};
 ghost use Rattle.std.specs.Option.{option_copied};
 ghost use Rattle.harmonics_text.specs.Latin.{without_byte, without_bytes, utf8_byte_or_two};
 ghost use Rattle.std.specs.List.{list_all};
-ghost use Rattle.harmonics_text.specs.Rules.{is_name_byte, name_of, is_name};
+ghost use Rattle.harmonics_text.specs.Rules.{is_latin_name_byte, name_of, is_name};
 ghost use Rattle.harmonics_text.specs.Workings.Drafts.{Follows};
 
 use crate::fault::{LineFault, Why};
@@ -22,17 +22,17 @@ pub fn utf8_of(alloc: Global, latin: &[u8]) -> Result<Text, AllocError>
     Text::from_str(alloc, text.as_str())
 }
 
-fn is_name_byte(b: u8) -> bool
-    ensures { result ≡ is_name_byte b }
+fn is_latin_name_byte(b: u8) -> bool
+    ensures { result ≡ is_latin_name_byte b }
 {
     matches!(b, 32..=126 | 128..=255)
 }
 
 /// Whether each byte may stand in a name.
 fn is_printable(latin: &[u8]) -> bool
-    ensures { result ≡ list_all is_name_byte latin.now }
+    ensures { result ≡ list_all is_latin_name_byte latin.now }
 {
-    latin.iter().all(|b| is_name_byte(*b))
+    latin.iter().all(|b| is_latin_name_byte(*b))
 }
 
 /// The name of at most so many bytes.

@@ -14,7 +14,7 @@ use Rattle.curve_law.proofs.CoverLemmas.{by_test}
 use Rattle.decimal_text.specs.Expected.{◌>>=◌}
 use Rattle.harmonics_text.specs.declared.book.Book.{Book}
 use Rattle.harmonics_text.specs.declared.book.Station.{Station}
-use Rattle.harmonics_text.specs.Books.{IsBook, IsName, IsNameByte, IsStation}
+use Rattle.harmonics_text.specs.Books.{IsBook, IsName, IsLatinNameByte, IsStation}
 use Rattle.station_table.specs.declared.basis.Basis.{Basis}
 use Rattle.station_table.specs.declared.finding.FindFault.{FindFault}
 use Rattle.station_table.specs.declared.offsets.Offsets.{Offsets}
@@ -47,7 +47,7 @@ two_bytes c least most =
     let low : c / 64 % 64 ≡ c / 64 = omega arith in
     rw (le-ltb c 128 least, lt-ltb c 2048 wide) refl
 
-printed_byte : (c : ℕ) → IsNameByte c → IsPrintedText (c ∷ []) (encode_utf8 c)
+printed_byte : (c : ℕ) → IsLatinNameByte c → IsPrintedText (c ∷ []) (encode_utf8 c)
 printed_byte c (inl ascii) =
     rw (encode_ascii c (omega (arith, ascii.1))) (record {
       utf8 = rw (encode_ascii c (omega (arith, ascii.1))) at (scalar_text c (omega (arith, ascii.1)));
@@ -63,11 +63,11 @@ printed_byte c (inr wide) =
       printed = All-cons IsPrinted (192 + c / 64) ((128 + c % 64) ∷ []) (omega arith, λ e. omega (arith, e)) (All-cons IsPrinted (128 + c % 64) [] (omega arith, λ e. omega (arith, wide.0, wide.1, e)) (All-nil IsPrinted));
     })
 
-printed_all : (latin : List ℕ) → All IsNameByte latin → IsPrintedText latin (encode_utf8_all latin)
+printed_all : (latin : List ℕ) → All IsLatinNameByte latin → IsPrintedText latin (encode_utf8_all latin)
 printed_all [] all = record { utf8 = IsUtf8-nil; least = omega arith; most = omega arith; printed = All-nil IsPrinted }
 printed_all (c ∷ latin) all =
-    let one = printed_byte c (All-head IsNameByte c latin all) in
-    let rest = printed_all latin (All-tail IsNameByte c latin all) in
+    let one = printed_byte c (All-head IsLatinNameByte c latin all) in
+    let rest = printed_all latin (All-tail IsLatinNameByte c latin all) in
     let least = one.least in
     let most = one.most in
     let rest_least = rest.least in

@@ -1,11 +1,12 @@
 -- The fields of an offset table, and what each of them stands for (this project).
-use Rattle.std.specs.Prelude.{ℕ, ◌+◌, ◌*◌, ◌-◌, ◌==◌, nat_le, ℤ, pos, negsuc, int_lt, Bool, not, ◌&&◌, ◌||◌, if◌then◌else◌, List, [], ◌∷◌, length, Option, Some, None, Result, Ok, Err}
+use Rattle.std.specs.Prelude.{ℕ, ◌+◌, ◌*◌, ◌-◌, ◌==◌, nat_le, ℤ, pos, negsuc, int_lt, ◌&&◌, ◌||◌, if◌then◌else◌, List, [], ◌∷◌, length, Option, Some, None, Result, Ok, Err}
 use Rattle.std.specs.Char.{is_ascii_digit}
 use Rattle.std.specs.List.{list_all}
 use Rattle.std.specs.Str.{is_utf8}
 use Rattle.std.specs.Str.Parse.{starts_with_minus, without_leading_sign}
 use Rattle.decimal_text.specs.Decimal.{read_of, signed}
 use Rattle.decimal_text.specs.Expected.{◌>>=◌}
+use Rattle.decimal_text.specs.Names.{is_name_byte}
 use Rattle.decimal_text.specs.declared.fault.DecimalFault.{DecimalFault}
 use Rattle.decimal_text.specs.declared.fault.DecimalFault.TheVariants as decimals
 use Rattle.station_table.specs.declared.fault.OffsetWhy.{OffsetWhy}
@@ -16,10 +17,6 @@ unfoldable pub text_of : List ℕ → Result (List ℕ) OffsetWhy
 text_of field = if is_utf8 field then Ok field else Err NotUtf8
 
 -- ---- names
-
--- no control byte of ASCII
-abbrev pub is_name_byte : ℕ → Bool
-is_name_byte b = nat_le 32 b && not (b == 127)
 
 unfoldable pub name_in : List ℕ → Result (List ℕ) OffsetWhy
 name_in text =

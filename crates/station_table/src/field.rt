@@ -1,16 +1,15 @@
 //! The fields of a row.
 
 ghost use Rattle.std.specs.Prelude.{◌≡◌, pos, negsuc, IfOk, IsUtf8};
-ghost use Rattle.std.specs.List.{list_all};
 ghost use Rattle.harmonics_text.specs.Books.{IsWithin};
-ghost use Rattle.station_table.specs.Fields.{text_of, is_name_byte, name_of, within, minutes_in, millionths_in, add_of, times_of, plus_of};
+ghost use Rattle.station_table.specs.Fields.{text_of, name_of, within, minutes_in, millionths_in, add_of, times_of, plus_of};
 ghost use Rattle.station_table.specs.Offsets.{IsAdd, IsTableName};
 ghost use Rattle.station_table.specs.Workings.Rows.{Reads};
 
 use crate::clock::clock;
 use crate::fault::OffsetWhy;
 use crate::offset::Offset;
-use decimal_text::{DecimalFault, read, split_sign};
+use decimal_text::{DecimalFault, are_name_bytes, read, split_sign};
 use std::str::from_utf8;
 
 /// The text of a field.
@@ -26,18 +25,6 @@ fn text(field: &[u8]) -> Result<&str, OffsetWhy>
     }
 }
 
-fn is_name_byte(b: u8) -> bool
-    ensures { result ≡ is_name_byte b }
-{
-    b >= 32 && b != 127
-}
-
-fn is_printable(text: &[u8]) -> bool
-    ensures { result ≡ list_all is_name_byte text.now }
-{
-    text.iter().all(|b| is_name_byte(*b))
-}
-
 /// The name in a field.
 #[tactic(auto, unfolding(crate::specs::Fields::name_of, crate::specs::Fields::name_in))]
 pub fn name(field: &[u8]) -> Result<&str, OffsetWhy>
@@ -45,7 +32,7 @@ pub fn name(field: &[u8]) -> Result<&str, OffsetWhy>
     ensures sound { IfOk result (λ t. IsTableName t.now) }
 {
     let name = text(field)?;
-    if field.is_empty() || field.len() > 400 || !is_printable(field) {
+    if field.is_empty() || field.len() > 400 || !are_name_bytes(field) {
         return Err(OffsetWhy::BadName);
     }
     Ok(name)

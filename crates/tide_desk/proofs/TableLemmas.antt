@@ -23,12 +23,13 @@ use Rattle.station_table.specs.declared.header.Header.{Header}
 use Rattle.station_table.specs.declared.header.Header.TheVariants.{Plain, WithSlack}
 use Rattle.station_table.specs.declared.offset.Slack.{Slack}
 use Rattle.station_table.specs.declared.offsets.Offsets.{Offsets}
-use Rattle.station_table.specs.Fields.{text_of, is_name_byte, name_in, name_of, value_of, within, clock_of, or_bad_number, minutes_in, decimal_from, millionths_in, add_of, times_of, plus_of}
+use Rattle.station_table.specs.Fields.{text_of, name_in, name_of, value_of, within, clock_of, or_bad_number, minutes_in, decimal_from, millionths_in, add_of, times_of, plus_of}
 use Rattle.station_table.specs.Offsets.{IsAdd, IsSlack, IsTableName, IsOffsets, IsTable}
 use Rattle.station_table.specs.Table.{field_of, both_or_none, slack_of, counted, offsets_of, at_row, header_of, rows_from, table_in, table_of}
 use Rattle.station_table.proofs.RecordLemmas.{shorter}
 use Rattle.station_table.proofs.TableLemmas.{row_went_well, rows_count}
 use Rattle.station_span.proofs.SiteLemmas.{then_ok}
+use Rattle.decimal_text.specs.Names.{is_name_byte}
 use Rattle.decimal_text.specs.declared.limits.TheConstants.{MOST_BYTES}
 
 -- ---- a test went well

@@ -1,5 +1,5 @@
 -- What a line says, read from its bytes: the other direction of the lines' text (this project).
-use Rattle.std.specs.Prelude.{ℕ, zero, suc, ℤ, pos, negsuc, unsigned_abs, ◌==◌, nat_lt, nat_le, Bool, not, ◌&&◌, if◌then◌else◌, List, length, take, drop, Option, Some, None, option_and_then, codes, slice_index}
+use Rattle.std.specs.Prelude.{ℕ, zero, suc, ℤ, pos, negsuc, unsigned_abs, ◌==◌, nat_lt, nat_le, Bool, ◌&&◌, if◌then◌else◌, List, length, take, drop, Option, Some, None, option_and_then, codes, slice_index}
 use Rattle.std.specs.List.{list_all}
 use Rattle.std.specs.Option.{option_map, option_or}
 use Rattle.std.specs.Str.{bytes_eq, is_utf8}
@@ -9,6 +9,7 @@ use Rattle.curve_law.specs.declared.kind.Kind.{Kind}
 use Rattle.curve_law.specs.declared.kind.Kind.TheVariants.{High, Low, FloodBegins, EbbBegins, MarkRising, MarkFalling}
 use Rattle.curve_law.specs.declared.quiet.TheConstants.{MOST_MINUTES}
 use Rattle.decimal_text.specs.Digits.{digits_of}
+use Rattle.decimal_text.specs.Names.{is_name_byte}
 use Rattle.zone_time.specs.Moments.{moment_of}
 use Rattle.cert_text.specs.declared.track_name.TrackName.{TrackName}
 use Rattle.cert_text.specs.declared.track_name.TrackName.TheVariants.{Turn, Slack, Mark}
@@ -40,9 +41,6 @@ version_of line =
     if bytes_eq line (codes "tide certificate 1") then Some 1
     else if bytes_eq line (codes "tide certificate 2") then Some 2
     else None
-
-abbrev pub is_name_byte : ℕ → Bool
-is_name_byte b = nat_le 32 b && not (b == 127)
 
 abbrev pub is_station_name : List ℕ → Bool
 is_station_name name =
