@@ -1,6 +1,7 @@
 //! Where a cell of a station lies.
 
 ghost use Rattle.std.specs.Prelude.{◌≡◌, ◌<◌, ◌≤◌, length, pos, ◌+ℤ◌};
+ghost use Rattle.year_blend.specs.declared.spanning.TheConstants.{LONGEST_SPAN};
 ghost use Rattle.year_blend.specs.Places.{InDomain};
 ghost use Rattle.rate_bound.specs.Rates.{tide_stretch};
 ghost use Rattle.rate_bound.specs.Workings.Cells.{NamesYears};
@@ -8,11 +9,11 @@ ghost use Rattle.rate_bound.specs.Workings.Cells.{NamesYears};
 use station_curve::StationCurve;
 use year_blend::Stretch;
 
-/// Where `n` minutes of a station from `a` on lie, at most 1,024 of them.
+/// Where `n` minutes of a station from `a` on lie, at most `LONGEST_SPAN` of them.
 pub fn stretch_of(station: &StationCurve, a: i64, n: u32) -> Stretch
     requires first { InDomain station.now.first_year (length station.now.years) a }
     requires last { InDomain station.now.first_year (length station.now.years) (a +ℤ pos n) }
-    requires short { n ≤ 1024 }
+    requires short { n ≤ LONGEST_SPAN }
     ensures value { result ≡ tide_stretch station.now a n }
     ensures years { NamesYears (length station.now.years) result }
 {

@@ -9,6 +9,7 @@ use Rattle.station_curve.specs.Levels.{waves_in, blended, drift, place_in_tide, 
 use Rattle.station_curve.proofs.Gaps.{scaled_gap}
 use Rattle.station_curve.proofs.Products.{abs_times, abs_below, abs_minus}
 use Rattle.station_curve.proofs.YearChanges.{IsSince, year_level_gap, year_slope_gap, year_slope_size, level_difference}
+use Rattle.year_blend.specs.declared.spanning.TheConstants.{LONGEST_SPAN}
 use Rattle.year_blend.specs.declared.parts.Place.TheVariants.{Plain}
 use Rattle.year_blend.specs.Places.{AreYears, InDomain, start_of}
 use Rattle.year_blend.specs.Weights.{total_weight, weight_of, weight_slope_of}
@@ -123,7 +124,7 @@ blend_slope_gap tide m k x step =
 abbrev pub IsStepOver : Tide → ℤ → ℕ → Type 0
 IsStepOver tide m k = IsPlainStep tide m k ⊎ (IsPlainStep tide m (suc k) ⊎ ((x : ℤ) × IsBlendStep tide m k x))
 
-pub step_over : (tide : Tide) (a : ℤ) (n k i : ℕ) → AreYears tide.first_year (length tide.years) → InDomain tide.first_year (length tide.years) a → InDomain tide.first_year (length tide.years) (a +ℤ pos n) → n ≤ 1024 → IsOver tide.first_year (length tide.years) a n (suc k) → i < n → IsStepOver tide (a +ℤ pos i) k
+pub step_over : (tide : Tide) (a : ℤ) (n k i : ℕ) → AreYears tide.first_year (length tide.years) → InDomain tide.first_year (length tide.years) a → InDomain tide.first_year (length tide.years) (a +ℤ pos n) → n ≤ LONGEST_SPAN → IsOver tide.first_year (length tide.years) a n (suc k) → i < n → IsStepOver tide (a +ℤ pos i) k
 step_over tide a n k i are first last short over inside =
     let year = tide.first_year in
     let years = length tide.years in

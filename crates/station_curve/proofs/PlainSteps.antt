@@ -2,6 +2,7 @@
 use Rattle.std.proofs.Common.{◌≡◌, ℕ, suc, ◌<◌, ◌≤◌, length, arith, ℤ, pos, ◌+ℤ◌, ◌-ℤ◌, ◌≤ℤ◌}
 use Rattle.std.proofs.lemmas.Int.{ints}
 use Rattle.station_curve.specs.Waves.{Tide}
+use Rattle.year_blend.specs.declared.spanning.TheConstants.{LONGEST_SPAN}
 use Rattle.year_blend.specs.Places.{AreYears, InDomain, start_of}
 use Rattle.year_blend.proofs.PlaceLemmas.{place_of-rule}
 use Rattle.year_blend.proofs.StretchLemmas.{IsPlainStretch, plain_stretch, domain_between}
@@ -12,7 +13,7 @@ pub record IsSpan (tide : Tide) (a : ℤ) (n : ℕ) : Type 0 where
   pub are : AreYears tide.first_year (length tide.years)
   pub first : InDomain tide.first_year (length tide.years) a
   pub last : InDomain tide.first_year (length tide.years) (a +ℤ pos n)
-  pub short : n ≤ 1024
+  pub short : n ≤ LONGEST_SPAN
 
 begun_since : (m start : ℤ) → start ≤ℤ m → pos 0 ≤ℤ ((m -ℤ start) +ℤ pos 60)
 begun_since m start begun = omega (arith, ints, begun)

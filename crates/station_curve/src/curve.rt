@@ -5,6 +5,7 @@ ghost use Rattle.harmonics_text.specs.Books.{IsBook, IsStation};
 ghost use Rattle.station_curve.specs.Curves.{is_hydraulic};
 ghost use Rattle.year_blend.specs.Years.{year_start_of};
 ghost use Rattle.year_blend.specs.declared.parts.Place.TheVariants.{Plain};
+ghost use Rattle.year_blend.specs.declared.spanning.TheConstants.{LONGEST_SPAN};
 ghost use Rattle.year_blend.specs.Places.{InDomain};
 ghost use Rattle.year_blend.specs.Stretches.{stretch_of};
 ghost use Rattle.year_blend.specs.Weights.{total_weight};
@@ -200,11 +201,11 @@ impl StationCurve {
     }
 
     /// Where the minutes from `m` to `m + n` lie, both included and told: in the plain part of one
-    /// year, or across one new year. `n` is at most 1,024.
+    /// year, or across one new year. `n` is at most [`LONGEST_SPAN`](year_blend::LONGEST_SPAN).
     pub fn stretch(&self, m: i64, n: u32) -> Stretch
         requires first { InDomain self.now.first_year (length self.now.years) m }
         requires last { InDomain self.now.first_year (length self.now.years) (m +ℤ pos n) }
-        requires short { n ≤ 1024 }
+        requires short { n ≤ LONGEST_SPAN }
         ensures { result ≡ stretch_of self.now.first_year (length self.now.years) m n }
     {
         self.known();

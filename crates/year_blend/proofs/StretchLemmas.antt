@@ -7,6 +7,7 @@ use Rattle.year_blend.specs.declared.parts.Place.{Place}
 use Rattle.year_blend.specs.declared.parts.Place.TheVariants.{Plain, Blend}
 use Rattle.year_blend.specs.declared.parts.Stretch.{Stretch}
 use Rattle.year_blend.specs.declared.parts.Stretch.TheVariants.{Within, Across}
+use Rattle.year_blend.specs.declared.spanning.TheConstants.{LONGEST_SPAN}
 use Rattle.year_blend.specs.Places.{AreYears, InDomain, IsInBlend, start_of, place_of, plain_end_of}
 use Rattle.year_blend.specs.Stretches.{IsBeside, IsStretchOf, stretch_from, stretch_of}
 use Rattle.year_blend.proofs.PlaceLemmas.{start_of-later, year_at-is, place_in-plain, place_of-rule, place_of-only, le_test, lt_test}
@@ -87,7 +88,7 @@ touched first_year years a n year over =
       },
     ))
 
-pub over_rule : (first_year : ℤ) (years : ℕ) (a : ℤ) (n year : ℕ) → AreYears first_year years → InDomain first_year years a → InDomain first_year years (a +ℤ pos n) → n ≤ 1024 → IsOver first_year years a n year → IsStretchOf first_year years a n (Across year)
+pub over_rule : (first_year : ℤ) (years : ℕ) (a : ℤ) (n year : ℕ) → AreYears first_year years → InDomain first_year years a → InDomain first_year years (a +ℤ pos n) → n ≤ LONGEST_SPAN → IsOver first_year years a n year → IsStretchOf first_year years a n (Across year)
 over_rule first_year years a n year are first last short over =
     let before_end = over.before_end in
     let after_begin = over.after_begin in (
@@ -160,11 +161,11 @@ plain_stretch first_year years a n year are first found k few =
     let within = found.within in
     (plain_rest first_year years a (a +ℤ pos k) year are first found.plain (omega (arith, signed_arith)) (omega (arith, signed_arith))).1
 
-found_rule : (first_year : ℤ) (years : ℕ) (a : ℤ) (n : ℕ) (s : Stretch) → AreYears first_year years → InDomain first_year years a → InDomain first_year years (a +ℤ pos n) → n ≤ 1024 → IsFound first_year years a n s → IsStretchOf first_year years a n s
+found_rule : (first_year : ℤ) (years : ℕ) (a : ℤ) (n : ℕ) (s : Stretch) → AreYears first_year years → InDomain first_year years a → InDomain first_year years (a +ℤ pos n) → n ≤ LONGEST_SPAN → IsFound first_year years a n s → IsStretchOf first_year years a n s
 found_rule first_year years a n (Within year) are first last short found = plain_stretch first_year years a n year are first found
 found_rule first_year years a n (Across year) are first last short found = over_rule first_year years a n year are first last short found
 
-pub stretch_of-rule : (first_year : ℤ) (years : ℕ) (a : ℤ) (n : ℕ) → AreYears first_year years → InDomain first_year years a → InDomain first_year years (a +ℤ pos n) → n ≤ 1024 → IsStretchOf first_year years a n (stretch_of first_year years a n)
+pub stretch_of-rule : (first_year : ℤ) (years : ℕ) (a : ℤ) (n : ℕ) → AreYears first_year years → InDomain first_year years a → InDomain first_year years (a +ℤ pos n) → n ≤ LONGEST_SPAN → IsStretchOf first_year years a n (stretch_of first_year years a n)
 stretch_of-rule first_year years a n are first last short =
     found_rule first_year years a n (stretch_of first_year years a n) are first last short (stretch_of-found first_year years a n are first last)
 
@@ -189,6 +190,6 @@ one_stretch first_year years a n (Across i) (Across j) are first last s t =
     let here = blend_place first_year years (a +ℤ pos k) i x are (domain_between first_year years a n k first last few) blend in
     ap Across (rw here at (t.1 k few))
 
-pub stretch_of-only : (first_year : ℤ) (years : ℕ) (a : ℤ) (n : ℕ) → AreYears first_year years → InDomain first_year years a → InDomain first_year years (a +ℤ pos n) → n ≤ 1024 → (s : Stretch) → IsStretchOf first_year years a n s → s ≡ stretch_of first_year years a n
+pub stretch_of-only : (first_year : ℤ) (years : ℕ) (a : ℤ) (n : ℕ) → AreYears first_year years → InDomain first_year years a → InDomain first_year years (a +ℤ pos n) → n ≤ LONGEST_SPAN → (s : Stretch) → IsStretchOf first_year years a n s → s ≡ stretch_of first_year years a n
 stretch_of-only first_year years a n are first last short s rule =
     one_stretch first_year years a n s (stretch_of first_year years a n) are first last rule (stretch_of-rule first_year years a n are first last short)

@@ -6,6 +6,7 @@ ghost use Rattle.year_blend.specs.declared.parts.Place.TheVariants.{Plain};
 ghost use Rattle.year_blend.specs.Years.{year_start_of, IsYearInReach};
 ghost use Rattle.year_blend.specs.Places.{AreYears, InDomain, IsPlaceOf, place_of, plain_end_of};
 ghost use Rattle.year_blend.specs.declared.parts.Stretch.{Stretch};
+ghost use Rattle.year_blend.specs.declared.spanning.TheConstants.{LONGEST_SPAN};
 ghost use Rattle.year_blend.specs.Stretches.{IsStretchOf, stretch_of};
 ghost use Rattle.year_blend.specs.Weights.{weight_of, weight_slope_of, total_weight, IsNearNewYear};
 
@@ -35,12 +36,12 @@ pub fn plain_parts()
         → place_of first_year years m ≡ Plain year → m ≤ℤ plain_end_of first_year years year }
 {}
 
-/// At most 1,024 minutes of the domain lie in exactly one stretch.
+/// Minutes of the domain, at most `LONGEST_SPAN` of them, lie in exactly one stretch.
 pub fn unique_stretches()
     ensures some { (first_year : ℤ) (years : ℕ) (m : ℤ) (n : ℕ) → AreYears first_year years → InDomain first_year years m
-        → InDomain first_year years (m +ℤ pos n) → n ≤ 1024 → IsStretchOf first_year years m n (stretch_of first_year years m n) }
+        → InDomain first_year years (m +ℤ pos n) → n ≤ LONGEST_SPAN → IsStretchOf first_year years m n (stretch_of first_year years m n) }
     ensures one { (first_year : ℤ) (years : ℕ) (m : ℤ) (n : ℕ) → AreYears first_year years → InDomain first_year years m
-        → InDomain first_year years (m +ℤ pos n) → n ≤ 1024
+        → InDomain first_year years (m +ℤ pos n) → n ≤ LONGEST_SPAN
         → (s : Stretch) → IsStretchOf first_year years m n s → s ≡ stretch_of first_year years m n }
 {}
 

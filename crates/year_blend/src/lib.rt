@@ -19,7 +19,7 @@ pub use laws::{
     worked_stretches, year_lengths,
 };
 pub use parts::{Place, Stretch};
-pub use spanning::stretch;
+pub use spanning::{LONGEST_SPAN, stretch};
 pub use weights::{TOTAL_WEIGHT, weight, weight_slope};
 pub use years::year_start;
 

@@ -1,20 +1,24 @@
 //! Where a stretch of minutes lies.
 
 ghost use Rattle.std.specs.Prelude.{◌≡◌, ◌≤◌, pos, ◌+ℤ◌};
+ghost use Rattle.year_blend.specs.declared.spanning.TheConstants.{LONGEST_SPAN};
 ghost use Rattle.year_blend.specs.Places.{AreYears, InDomain};
 ghost use Rattle.year_blend.specs.Stretches.{IsStretchOf, stretch_of};
 
 use crate::finding::{place, plain_end};
 use crate::parts::{Place, Stretch};
 
+/// The most minutes of a stretch.
+pub const LONGEST_SPAN: u32 = 1024;
+
 /// Where the minutes from `m` to `m + n` lie, both included and of the domain, among `years` years
 /// from `first_year` on: in the plain part of one year, or across one new year. `n` is at most
-/// 1,024.
+/// [`LONGEST_SPAN`].
 pub fn stretch(first_year: i32, years: u32, m: i64, n: u32) -> Stretch
     requires years { AreYears first_year years }
     requires first { InDomain first_year years m }
     requires last { InDomain first_year years (m +ℤ pos n) }
-    requires short { n ≤ 1024 }
+    requires short { n ≤ LONGEST_SPAN }
     ensures value { result ≡ stretch_of first_year years m n }
     ensures rule { IsStretchOf first_year years m n result }
 {

@@ -54,7 +54,7 @@ fn stretches_of_minutes(rt: HostRuntime) {
     let first = year_start(1999);
     let last = year_start(2002);
     for (minute, n, want) in rows {
-        assert!(rt; n <= 1024);
+        assert!(rt; n <= LONGEST_SPAN);
         assert!(rt; first <= minute);
         assert!(rt; minute + i64::from(n) <= last);
         assert_eq!(rt;
