@@ -9,9 +9,9 @@ ghost use Rattle.highest_water.specs.Workings.Below.{IsPoint};
 use crate::covering::cells_by;
 use crate::higher::{higher_of, raised_by};
 use crate::peak::Peak;
-use crate::piece::block_end;
 use crate::walk::{next_cell, walk_from};
 use curve_law::{Curve, Point, point_at};
+use interval_search::block_end;
 use std::alloc::{AllocError, Global};
 
 /// The highest water of the minutes from `begin` on and before `end`, which the curve tells: the first

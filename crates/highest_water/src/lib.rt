@@ -27,7 +27,6 @@ mod telling;
 mod text_laws;
 mod under;
 mod verdict;
-mod waiting;
 mod walk;
 mod worked;
 mod worked_texts;

@@ -1,12 +1,13 @@
 //! What lies between two points.
 
-ghost use Rattle.std.specs.Prelude.{◌≡◌, ◌+◌, ◌/◌, ◌≤◌, ◌<◌, ◌^◌, pos, ◌+ℤ◌, ◌≤ℤ◌, ◌<ℤ◌, unsigned_abs, min};
+ghost use Rattle.std.specs.Prelude.{◌≡◌, ◌<◌, ◌^◌, unsigned_abs};
 ghost use Rattle.interval_search.specs.Workings.Ahead.{minutes_to, IsPiece};
 ghost use Rattle.highest_water.specs.Workings.Walk.{IsSplit};
 
 use crate::peak_cell::PeakCell;
 use crate::under::is_under;
-use curve_law::{Curve, MOST_MINUTES, Point, point_at};
+use curve_law::{Curve, Point};
+use interval_search::minutes_to;
 
 /// The one cell of the minutes between two points, or none where they have to be halved.
 pub fn cell_between<C: Curve>(
@@ -19,7 +20,7 @@ pub fn cell_between<C: Curve>(
     requires piece { IsPiece (C.meaning curve.now) begin end }
     ensures { IsSplit (C.meaning curve.now) highest begin.minute (minutes_to begin.minute end.minute) result }
 {
-    let n = minutes(begin.minute, end.minute);
+    let n = minutes_to(begin.minute, end.minute);
     if n == 1 {
         return Some(PeakCell::Single);
     }
@@ -28,41 +29,4 @@ pub fn cell_between<C: Curve>(
     } else {
         None
     }
-}
-
-/// The point where the second half begins; the first half is the shorter one.
-pub fn middle<C: Curve>(curve: &mut C, begin: Point, end: Point) -> Point
-    requires piece { IsPiece (C.meaning curve.old) begin end }
-    requires few { C.count curve.old < 2 ^ 63 }
-    ensures minute { result.minute ≡ begin.minute +ℤ pos (minutes_to begin.minute end.minute / 2) }
-    ensures value { result.value ≡ (C.meaning curve.old).track.value result.minute }
-    ensures counted { C.count curve.new ≡ C.count curve.old + 1 }
-    ensures same { C.meaning curve.new ≡ C.meaning curve.old }
-{
-    point_at(curve, halfway(begin.minute, end.minute))
-}
-
-fn halfway(begin: i64, end: i64) -> i64
-    requires some { begin <ℤ end }
-    requires few { end ≤ℤ (begin +ℤ pos 1024) }
-    ensures { result ≡ begin +ℤ pos (minutes_to begin end / 2) }
-{
-    begin + i64::from(minutes(begin, end) / 2)
-}
-
-/// Where the block that begins at a minute ends: after 1,024 minutes, or with the span.
-pub fn block_end(begin: i64, end: i64) -> i64
-    requires some { begin <ℤ end }
-    requires near { unsigned_abs begin ≤ 2 ^ 60 }
-    ensures { result ≡ begin +ℤ pos (min (minutes_to begin end) 1024) }
-{
-    end.min(begin + i64::from(MOST_MINUTES))
-}
-
-fn minutes(begin: i64, end: i64) -> u32
-    requires some { begin <ℤ end }
-    requires few { end ≤ℤ (begin +ℤ pos 1024) }
-    ensures { result ≡ minutes_to begin end }
-{
-    (end - begin) as u32
 }

@@ -3,6 +3,9 @@
 //! [`search`] gives all cells of a span at once, and a [`Search`] one after the other, without memory.
 //! Both ask their curve for the values at the ends of cells alone, and at no minute twice: the pieces
 //! that wait stand on a small stack, with the values at their ends.
+//!
+//! A walk for cells of another kind cuts a span by the same rule: [`block_end`], [`middle`],
+//! [`minutes_to`] and [`Waiting`] are for it too.
 #![tactic(auto)]
 
 mod found;
@@ -14,7 +17,9 @@ mod waiting;
 
 pub use found::Found;
 pub use looking::Search;
+pub use piece::{block_end, middle, minutes_to};
 pub use span_cells::search;
+pub use waiting::Waiting;
 
 #[cfg(test)]
 mod tests;

@@ -10,7 +10,7 @@ pub fn cell_between<C: Curve>(curve: &C, begin: Point, end: Point) -> Option<Cel
     requires { IsPiece (C.meaning curve.now) begin end }
     ensures { IsSplit (C.meaning curve.now) begin.minute (minutes_to begin.minute end.minute) result }
 {
-    let n = minutes(begin.minute, end.minute);
+    let n = minutes_to(begin.minute, end.minute);
     if n == 1 {
         return Some(unit_cell(curve, begin.minute, begin.value, end.value));
     }
@@ -21,7 +21,8 @@ pub fn cell_between<C: Curve>(curve: &C, begin: Point, end: Point) -> Option<Cel
     }
 }
 
-/// The point where the second half begins; the first half is the shorter one.
+/// The point where the second half of a piece begins; the first half is the shorter one. The curve,
+/// which was asked for fewer than 2^63 values, is asked for one more.
 pub fn middle<C: Curve>(curve: &mut C, begin: Point, end: Point) -> Point
     requires piece { IsPiece (C.meaning curve.old) begin end }
     requires few { C.count curve.old < 2 ^ 63 }
@@ -38,10 +39,11 @@ fn halfway(begin: i64, end: i64) -> i64
     requires few { end ≤ℤ (begin +ℤ pos MOST_MINUTES) }
     ensures { result ≡ begin +ℤ pos (minutes_to begin end / 2) }
 {
-    begin + i64::from(minutes(begin, end) / 2)
+    begin + i64::from(minutes_to(begin, end) / 2)
 }
 
-/// Where the block that begins at a minute ends: after 1,024 minutes, or with the span.
+/// Where the block that begins at a minute, at most 2^60 far from 0, ends: after [`MOST_MINUTES`], or
+/// with the span, which ends later.
 pub fn block_end(begin: i64, end: i64) -> i64
     requires some { begin <ℤ end }
     requires near { unsigned_abs begin ≤ 2 ^ 60 }
@@ -50,7 +52,8 @@ pub fn block_end(begin: i64, end: i64) -> i64
     end.min(begin + i64::from(MOST_MINUTES))
 }
 
-fn minutes(begin: i64, end: i64) -> u32
+/// How many minutes there are from one minute to a later one, at most [`MOST_MINUTES`].
+pub fn minutes_to(begin: i64, end: i64) -> u32
     requires some { begin <ℤ end }
     requires few { end ≤ℤ (begin +ℤ pos MOST_MINUTES) }
     ensures { result ≡ minutes_to begin end }

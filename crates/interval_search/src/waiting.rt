@@ -23,6 +23,7 @@ impl Model for Waiting {
 }
 
 impl Waiting {
+    /// None waits.
     pub fn new() -> Waiting
         ensures { result ≡ [] }
     {
@@ -31,6 +32,7 @@ impl Waiting {
         }
     }
 
+    /// One more, the first to go. At most fifteen wait before.
     pub fn push(&mut self, point: Point)
         requires { length self.old < 16 }
         ensures { self.new ≡ point ∷ self.old }
@@ -38,6 +40,7 @@ impl Waiting {
         self.points.push(point);
     }
 
+    /// Takes off the last one that came, if one waits.
     pub fn pop(&mut self) -> Option<Point>
         ensures { MatchOption result ((self.old ≡ []) × (self.new ≡ [])) (λ point. self.old ≡ point ∷ self.new) }
     {
