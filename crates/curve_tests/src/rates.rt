@@ -7,6 +7,7 @@ use rate_bound::*;
 use station_curve::StationCurve;
 use std::alloc::Global;
 use std::test::Fail;
+use year_blend::LONGEST_SPAN;
 
 /// A book of one constituent, three years from 1999 and one station, 1 high.
 pub fn pier(alloc: Global, argument: &str) -> Result<Book, BookFault>
@@ -27,7 +28,7 @@ pub fn pier(alloc: Global, argument: &str) -> Result<Book, BookFault>
 fn told<C: Curve>(curve: &mut C, a: i64, n: u32) -> Option<(Option<i128>, i128, i128, i64)> {
     let first = curve.first();
     let last = curve.last();
-    if n == 0 || n > 1024 || a < first || a > last || i64::from(n) > last - a {
+    if n == 0 || n > LONGEST_SPAN || a < first || a > last || i64::from(n) > last - a {
         return None;
     }
     let rate = curve.rate(a, n);

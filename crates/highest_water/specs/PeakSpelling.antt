@@ -3,6 +3,7 @@ use Rattle.std.specs.Prelude.{◌≡◌, ℕ, ◌≤◌, ℤ, List, [], ◌∷�
 use Rattle.std.specs.Fmt.{signed_decimal}
 use Rattle.cert_text.specs.Spelling.{SpellsStation, SpellsMoment}
 use Rattle.cert_text.specs.Texts.{IsTextBy, IsFaultBy, RefusedBy}
+use Rattle.curve_law.specs.declared.quiet.TheConstants.{MOST_MINUTES}
 use Rattle.highest_water.specs.declared.certificate.PeakCertificate.{PeakCertificate}
 use Rattle.highest_water.specs.declared.fault.CertFault.{CertFault}
 use Rattle.highest_water.specs.declared.fault.CertFault.TheVariants.{NoMemory, NotACertificate}
@@ -16,7 +17,7 @@ abbrev pub SpellsValue : ℤ → List ℕ → Type 0
 SpellsValue value line = IsPeakValue value × (line ≡ codes "value " ++ signed_decimal value)
 
 abbrev pub SpellsPeakCell : PeakCell → List ℕ → Type 0
-SpellsPeakCell (Under n) line = (2 ≤ n) × (n ≤ 1024) × (line ≡ codes "u " ++ decimal n)
+SpellsPeakCell (Under n) line = (2 ≤ n) × (n ≤ MOST_MINUTES) × (line ≡ codes "u " ++ decimal n)
 SpellsPeakCell Single line = line ≡ codes "m"
 
 -- a line for each cell, and then the last line

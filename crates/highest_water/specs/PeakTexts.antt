@@ -1,10 +1,11 @@
 -- The text of a certificate of a highest water: lines of words and whole numbers, each ended by LF (this project).
-use Rattle.std.specs.Prelude.{ℕ, ◌+◌, ◌<◌, ◌≤◌, ◌^◌, ℤ, unsigned_abs, List, [], ◌∷◌, ◌++◌, map, All, codes, decimal}
+use Rattle.std.specs.Prelude.{ℕ, ◌<◌, ◌≤◌, ◌^◌, ℤ, unsigned_abs, List, [], ◌∷◌, ◌++◌, map, All, codes, decimal}
 use Rattle.std.specs.Fmt.{signed_decimal}
 use Rattle.zone_time.specs.Moments.{IsMoment, moment_text}
 use Rattle.cert_text.specs.Certificates.{IsStationName}
 use Rattle.cert_text.specs.Lines.{station_lines_of, last_line}
 use Rattle.cert_text.specs.Texts.{joined}
+use Rattle.curve_law.specs.declared.quiet.TheConstants.{MOST_MINUTES}
 use Rattle.highest_water.specs.declared.certificate.PeakCertificate.{PeakCertificate}
 use Rattle.highest_water.specs.declared.peak_cell.PeakCell.{PeakCell}
 use Rattle.highest_water.specs.declared.peak_cell.PeakCell.TheVariants.{Under, Single}
@@ -16,7 +17,7 @@ IsPeakValue value = unsigned_abs value < 10 ^ 37
 
 -- a stretch has at least two minutes
 abbrev pub IsPeakCell : PeakCell → Type 0
-IsPeakCell (Under n) = (2 ≤ n) × (n ≤ 1024)
+IsPeakCell (Under n) = (2 ≤ n) × (n ≤ MOST_MINUTES)
 IsPeakCell Single = Unit {0}
 
 -- a certificate that has a text
@@ -59,12 +60,3 @@ peak_lines_of c = peak_head_lines_of c ++ cell_lines_of c.peak.cells
 
 unfoldable pub peak_text : PeakCertificate → List ℕ
 peak_text c = joined (peak_lines_of c)
-
--- how many minutes cells hold
-abbrev pub minutes_in : PeakCell → ℕ
-minutes_in (Under n) = n
-minutes_in Single = 1
-
-abbrev pub minutes_of : List PeakCell → ℕ
-minutes_of [] = 0
-minutes_of (cell ∷ cells) = minutes_in cell + minutes_of cells

@@ -2,6 +2,7 @@
 use Rattle.std.specs.Prelude.{◌≡◌, ℕ, zero, suc, ◌+◌, ◌≤◌, ℤ, pos, ◌+ℤ◌, ◌≤ℤ◌, ◌<ℤ◌, int_lt, Bool, ◌&&◌, ◌||◌, if◌then◌else◌}
 use Rattle.std.specs.Ordering.{int_eq}
 use Rattle.curve_law.specs.Meaning.{Meaning}
+use Rattle.curve_law.specs.declared.quiet.TheConstants.{MOST_MINUTES}
 
 -- the first minute that has the greatest value of all minutes from one on and before another, and that value
 pub record IsHighest (c : Meaning) (begin end at value : ℤ) : Type 0 where
@@ -28,4 +29,4 @@ highest_minute c a (suc n) = higher_minute c (highest_minute c a n) (a +ℤ pos 
 -- two curves say the same of so many minutes: the value at each minute and at their end, and the rate of each cell
 pub record AgreeOnValues (c d : Meaning) (a : ℤ) (n : ℕ) : Type 0 where
   pub values : (k : ℕ) → k ≤ n → c.track.value (a +ℤ pos k) ≡ d.track.value (a +ℤ pos k)
-  pub rates : (k l : ℕ) → k + l ≤ n → 1 ≤ l → l ≤ 1024 → c.rate (a +ℤ pos k) l ≡ d.rate (a +ℤ pos k) l
+  pub rates : (k l : ℕ) → k + l ≤ n → 1 ≤ l → l ≤ MOST_MINUTES → c.rate (a +ℤ pos k) l ≡ d.rate (a +ℤ pos k) l

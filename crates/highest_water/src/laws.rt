@@ -1,6 +1,7 @@
 //! What follows of highest waters, of their cells, of the curve's law and of verdicts.
 
 ghost use Rattle.std.specs.Prelude.{◌≡◌, ℕ, ◌+◌, ◌-◌, ◌/◌, ◌<◌, ◌≤◌, ℤ, pos, ◌+ℤ◌, ◌≤ℤ◌, ◌<ℤ◌, true, false, [], ◌∷◌, ◌++◌, length};
+ghost use Rattle.curve_law.specs.declared.quiet.TheConstants.{MOST_MINUTES};
 ghost use Rattle.curve_law.specs.Meaning.{Meaning, IsSpan, IsLawful, AgreeOver};
 ghost use Rattle.highest_water.specs.declared.peak.Peak.{Peak};
 ghost use Rattle.highest_water.specs.declared.peak_cell.PeakCell.{PeakCell};
@@ -33,11 +34,12 @@ pub fn blocks_are_halved()
 /// of 1,024 minutes and of the rest.
 pub fn spans_are_cut_into_blocks()
     ensures no_minute { (c : Meaning) (at value a : ℤ) → peak_cover c at value a 0 ≡ [] }
-    ensures last_block { (c : Meaning) (at value a : ℤ) (n : ℕ) → n ≤ 1024 →
+    ensures last_block { (c : Meaning) (at value a : ℤ) (n : ℕ) → n ≤ MOST_MINUTES →
         peak_cover c at value a n ≡ peak_split c at value a n }
-    ensures block { (c : Meaning) (at value a : ℤ) (n : ℕ) → 1024 < n →
+    ensures block { (c : Meaning) (at value a : ℤ) (n : ℕ) → MOST_MINUTES < n →
         peak_cover c at value a n
-        ≡ peak_split c at value a 1024 ++ peak_cover c at value (a +ℤ pos 1024) (n - 1024) }
+        ≡ peak_split c at value a MOST_MINUTES
+        ++ peak_cover c at value (a +ℤ pos MOST_MINUTES) (n - MOST_MINUTES) }
 {}
 
 /// No minute of a cell that is under a minute's value has a greater value, nor as great a one before

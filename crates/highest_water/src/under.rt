@@ -1,6 +1,7 @@
 //! Which cells are under a minute's value.
 
 ghost use Rattle.std.specs.Prelude.{◌≡◌, ◌*◌, ◌^◌, ◌<◌, ◌≤◌, pos, ◌+ℤ◌, ◌*ℤ◌, ◌≤ℤ◌, ◌<ℤ◌, unsigned_abs, int_lt, int_le, if◌then◌else◌};
+ghost use Rattle.curve_law.specs.declared.quiet.TheConstants.{MOST_MINUTES};
 ghost use Rattle.curve_law.specs.Meaning.{IsSpan};
 ghost use Rattle.highest_water.specs.Covers.{twice_most, is_under};
 ghost use Rattle.highest_water.specs.Verdicts.{is_inside};
@@ -44,8 +45,8 @@ fn holds(begin: i64, n: u32, minute: i64) -> bool
 /// Twice the greatest value that a rate leaves room for between two values.
 fn twice_most(rate: i128, n: u32, value: i128, end_value: i128) -> i128
     requires positive { pos 0 ≤ℤ rate }
-    requires rate { (rate *ℤ pos 1024) <ℤ pos (5 * 10 ^ 37) }
-    requires few { n ≤ 1024 }
+    requires rate { (rate *ℤ pos MOST_MINUTES) <ℤ pos (5 * 10 ^ 37) }
+    requires few { n ≤ MOST_MINUTES }
     requires value { unsigned_abs value < 10 ^ 37 }
     requires end_value { unsigned_abs end_value < 10 ^ 37 }
     ensures value { result ≡ twice_most rate n value end_value }
@@ -71,8 +72,8 @@ fn is_low(twice_most: i128, value: i128, is_after: bool) -> bool
 /// The most that a value changes by in `n` minutes.
 fn most_change(rate: i128, n: u32) -> i128
     requires positive { pos 0 ≤ℤ rate }
-    requires rate { (rate *ℤ pos 1024) <ℤ pos (5 * 10 ^ 37) }
-    requires few { n ≤ 1024 }
+    requires rate { (rate *ℤ pos MOST_MINUTES) <ℤ pos (5 * 10 ^ 37) }
+    requires few { n ≤ MOST_MINUTES }
     ensures value { result ≡ rate *ℤ pos n }
     ensures size { unsigned_abs result < 5 * 10 ^ 37 }
 {

@@ -3,6 +3,7 @@ use Rattle.std.specs.Prelude.{ℕ, ℤ, pos, nat_le, ◌&&◌, if◌then◌else�
 use Rattle.std.specs.Option.{option_map}
 use Rattle.std.specs.Str.{bytes_eq}
 use Rattle.cert_text.specs.Workings.LineReading.{after, size_of, number_of, station_of, moment_after}
+use Rattle.curve_law.specs.declared.quiet.TheConstants.{MOST_MINUTES}
 use Rattle.highest_water.specs.declared.certificate.PeakCertificate.{PeakCertificate}
 use Rattle.highest_water.specs.declared.draft.Draft.{Draft}
 use Rattle.highest_water.specs.declared.part.Part.{Part}
@@ -16,7 +17,7 @@ unfoldable pub value_of : List ℕ → Option ℤ
 value_of line = option_and_then (number_of 37) (after (codes "value ") line)
 
 abbrev pub under_for : ℕ → Option PeakCell
-under_for n = if nat_le 2 n && nat_le n 1024 then Some (Under n) else None
+under_for n = if nat_le 2 n && nat_le n MOST_MINUTES then Some (Under n) else None
 
 unfoldable pub under_of : List ℕ → Option PeakCell
 under_of line = option_and_then under_for (option_and_then (size_of 4) (after (codes "u ") line))

@@ -4,6 +4,7 @@ use Rattle.std.specs.Prelude.{unsigned_abs}
 use Rattle.std.proofs.lemmas.Int.{ints}
 use Rattle.std.proofs.lemmas.Nat.{mul-le}
 use Rattle.curve_law.specs.Meaning.{IsCell, IsRate, IsLawful}
+use Rattle.curve_law.specs.declared.quiet.TheConstants.{MOST_MINUTES}
 use Rattle.station_curve.specs.Waves.{Tide, amount_of}
 use Rattle.station_curve.specs.Sums.{near_of}
 use Rattle.station_curve.specs.Levels.{waves_in, level_of}
@@ -45,7 +46,7 @@ mark_step times plus mark here there most rate is gap same =
     let all : pos (unsigned_abs times * most) ≡ rate = ap (λ t. t *ℤ pos most) is.same ∙ same in
     rw (same_mark (times *ℤ there) (times *ℤ here) raised, sym all) (omega (arith, ints, scaled))
 
-rate_small : (times : ℤ) (most : ℕ) (rate : ℤ) → IsTimes times → most ≤ 2 * 10 ^ 26 → times *ℤ pos most ≡ rate → (rate *ℤ pos 1024) <ℤ pos (5 * 10 ^ 37)
+rate_small : (times : ℤ) (most : ℕ) (rate : ℤ) → IsTimes times → most ≤ 2 * 10 ^ 26 → times *ℤ pos most ≡ rate → (rate *ℤ pos MOST_MINUTES) <ℤ pos (5 * 10 ^ 37)
 rate_small times most rate is small same =
     let all : pos (unsigned_abs times * most) ≡ rate = ap (λ t. t *ℤ pos most) is.same ∙ same in
     let product = mul-le (unsigned_abs times) most (10 ^ 8) (2 * 10 ^ 26) is.size small in

@@ -2,6 +2,7 @@
 use Rattle.std.proofs.Common.{◌≡◌, ℕ, zero, suc, ◌-◌, ◌*◌, ◌^◌, ◌≤◌, length, Some, sym, ◌∙◌, arith, ℤ, pos, ◌+ℤ◌, ◌*ℤ◌, ◌≤ℤ◌, ◌<ℤ◌}
 use Rattle.std.proofs.lemmas.Int.{ints}
 use Rattle.curve_law.specs.Meaning.{IsCell, IsRate, IsLawful}
+use Rattle.curve_law.specs.declared.quiet.TheConstants.{MOST_MINUTES}
 use Rattle.station_curve.specs.Waves.{Tide}
 use Rattle.station_curve.specs.Sums.{far_of}
 use Rattle.station_curve.specs.Levels.{waves_in}
@@ -20,10 +21,10 @@ use Rattle.station_curve.proofs.PlainSteps.{IsSpan, plain_step}
 use Rattle.rate_bound.specs.Workings.RateForms.{blended_slope_rate-pos, IsLimited, limited-some, some-same, step-within}
 use Rattle.station_curve.proofs.Ranges.{are_ends, slope_small}
 
-plain_small : (far : ℕ) (rate : ℤ) → pos (total_weight * far) ≡ rate → far ≤ 104724001 * 10 ^ 17 → (rate *ℤ pos 1024) <ℤ pos (5 * 10 ^ 37)
+plain_small : (far : ℕ) (rate : ℤ) → pos (total_weight * far) ≡ rate → far ≤ 104724001 * 10 ^ 17 → (rate *ℤ pos MOST_MINUTES) <ℤ pos (5 * 10 ^ 37)
 plain_small far rate is small = rw (sym is) (omega (arith, ints, small))
 
-limited_small : (rate : ℤ) → rate ≤ℤ pos (4 * 10 ^ 34) → (rate *ℤ pos 1024) <ℤ pos (5 * 10 ^ 37)
+limited_small : (rate : ℤ) → rate ≤ℤ pos (4 * 10 ^ 34) → (rate *ℤ pos MOST_MINUTES) <ℤ pos (5 * 10 ^ 37)
 limited_small rate small = omega (arith, ints, small)
 
 rate_within : (version : Version) (tide : Tide) (a : ℤ) (n year : ℕ) (rate : ℤ) → IsGentle tide → IsSpan tide a n → IsFound tide.first_year (length tide.years) a n (Within year) → pos total_weight *ℤ (tide_sums tide year).far ≡ rate → IsRate (turn_meaning version tide) a n rate
