@@ -31,7 +31,7 @@ use tide_fault::Refusal;
 /// The events of a station over a span, in its reference's unit, and how many cells its curves were cut
 /// into to find them.
 #[derive(Debug, Drop)]
-pub struct Listed {
+pub struct FoundEvents {
     pub units: Units,
     pub events: Events,
     pub cells: u64,
@@ -44,7 +44,7 @@ pub fn list_station(
     table: &OffsetTable,
     name: &Text,
     asked: &Asked,
-) -> Result<Listed, Refusal>
+) -> Result<FoundEvents, Refusal>
     requires near { IsNear asked.now }
     ensures exact { Lists book.now asked.now (site_in Reach.Events book.now table.now name.now asked.now) result }
     ensures told { IfErr result (IsToldRefusal table.now) }
@@ -54,7 +54,7 @@ pub fn list_station(
 }
 
 /// The station's events over the span that is asked.
-pub fn find_events(alloc: Global, found: &Found, asked: &Asked) -> Result<Listed, AllocError>
+pub fn find_events(alloc: Global, found: &Found, asked: &Asked) -> Result<FoundEvents, AllocError>
     requires ready { IsReady asked.now found.now }
     requires near { IsNear asked.now }
     ensures { IfOk result (λ listed. IsTideList found.now asked.now listed) }
@@ -62,7 +62,7 @@ pub fn find_events(alloc: Global, found: &Found, asked: &Asked) -> Result<Listed
     let mut merge = merge_of(found, asked);
     let merged = merged_events(alloc, &mut merge)?;
     let events = shifted_events(alloc, merged, found, asked)?;
-    Ok(Listed {
+    Ok(FoundEvents {
         units: found.units,
         events,
         cells: merge.cells(),

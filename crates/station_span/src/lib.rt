@@ -20,7 +20,7 @@ mod worked;
 pub use asked::Asked;
 pub use curves::{mark_curve, slack_curve, turn_curve};
 pub use following::{
-    Listed, find_events, list_station, mark_search, merge_of, slack_search, turn_search,
+    FoundEvents, find_events, list_station, mark_search, merge_of, slack_search, turn_search,
 };
 pub use knowing::find_known;
 pub use levels::{check_level, is_rising, level_at, worked_levels};

@@ -11,7 +11,7 @@ use Rattle.station_table.specs.declared.offsets.Offsets.{Offsets}
 use Rattle.zone_time.specs.declared.zone.Zone.{Zone}
 use Rattle.zone_time.specs.Moments.{IsMoment}
 use Rattle.station_span.specs.declared.asked.Asked.{Asked}
-use Rattle.station_span.specs.declared.following.Listed.{Listed}
+use Rattle.station_span.specs.declared.following.FoundEvents.{FoundEvents}
 use Rattle.station_span.specs.declared.reach.Reach.TheVariants.{Events}
 use Rattle.tide_fault.specs.declared.refusal.Refusal.{Refusal}
 use Rattle.tide_answer.specs.declared.text.Answer.{Answer}
@@ -25,7 +25,7 @@ use Rattle.station_span.proofs.FoundLemmas.{excused_then}
 
 -- ---- events
 
-pub predicted_whole : (book : Book) (table : List Offsets) (name : List ℕ) (asked : Asked) (layout : Layout) (zone : Zone) (site : Site) (listed : Listed) (text : List ℕ) → site_in Events book table name asked ≡ Ok site → IsSiteList book asked site listed → text ≡ events_text layout name listed.units listed.events zone → predicted book table name asked layout zone ≡ Ok (record { text = text; rejected = false; cells = listed.cells })
+pub predicted_whole : (book : Book) (table : List Offsets) (name : List ℕ) (asked : Asked) (layout : Layout) (zone : Zone) (site : Site) (listed : FoundEvents) (text : List ℕ) → site_in Events book table name asked ≡ Ok site → IsSiteList book asked site listed → text ≡ events_text layout name listed.units listed.events zone → predicted book table name asked layout zone ≡ Ok (record { text = text; rejected = false; cells = listed.cells })
 unfolding predicted
 predicted_whole book table name asked layout zone site listed text found list is =
     rw (found, is, list.units, list.events, list.cells) refl
@@ -35,7 +35,7 @@ unfolding predicted
 predicted_refused memory book table name asked layout zone refusal excused =
     excused_then memory (site_in Events book table name asked) _ refusal excused
 
-pub calendar_whole : (book : Book) (table : List Offsets) (name : List ℕ) (asked : Asked) (zone : Zone) (site : Site) (listed : Listed) (text : List ℕ) → site_in Events book table name asked ≡ Ok site → IsSiteList book asked site listed → text ≡ calendar_text_of name listed.units listed.events zone asked.begin asked.end → on_calendar book table name asked zone ≡ Ok (record { text = text; rejected = false; cells = listed.cells })
+pub calendar_whole : (book : Book) (table : List Offsets) (name : List ℕ) (asked : Asked) (zone : Zone) (site : Site) (listed : FoundEvents) (text : List ℕ) → site_in Events book table name asked ≡ Ok site → IsSiteList book asked site listed → text ≡ calendar_text_of name listed.units listed.events zone asked.begin asked.end → on_calendar book table name asked zone ≡ Ok (record { text = text; rejected = false; cells = listed.cells })
 unfolding on_calendar
 calendar_whole book table name asked zone site listed text found list is =
     rw (found, is, list.units, list.events, list.cells) refl

@@ -27,7 +27,7 @@ pub fn answer_alone(alloc: Global, question: &SoundQuestion<'_>) -> Result<Answe
     match (question.command, question.seed) {
         (Command::Sample, Some(seed)) => Ok(give_sample(alloc, seed)?),
         (Command::Trial, Some(seed)) => give_trial(alloc, seed),
-        _ => Err(Refusal::NotBuilt),
+        _ => Err(Refusal::NoStation),
     }
 }
 
