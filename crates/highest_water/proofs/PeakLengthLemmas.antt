@@ -15,7 +15,8 @@ use Rattle.cert_text.proofs.LengthLemmas.{station_short, begin_short, end_short,
 use Rattle.highest_water.specs.declared.certificate.PeakCertificate.{PeakCertificate}
 use Rattle.highest_water.specs.declared.peak_cell.PeakCell.{PeakCell}
 use Rattle.highest_water.specs.declared.peak_cell.PeakCell.TheVariants.{Under, Single}
-use Rattle.highest_water.specs.PeakTexts.{IsPeakValue, IsPeakCell, IsPeakCertificate, peak_title, at_line_of, value_line_of, peak_cell_line_of, cell_lines_of, peak_text, minutes_in, minutes_of}
+use Rattle.highest_water.specs.Covers.{minutes_of, all_minutes}
+use Rattle.highest_water.specs.PeakTexts.{IsPeakValue, IsPeakCell, IsPeakCertificate, peak_title, at_line_of, value_line_of, peak_cell_line_of, cell_lines_of, peak_text}
 
 -- ---- lines
 
@@ -34,15 +35,15 @@ minutes_short n low high = elim (cases_Bool (ltb n 10)) [
 ]
 
 -- with its LF
-cell_short : (c : PeakCell) → IsPeakCell c → length (peak_cell_line_of c) + 1 ≤ 2 * minutes_in c
+cell_short : (c : PeakCell) → IsPeakCell c → length (peak_cell_line_of c) + 1 ≤ 2 * minutes_of c
 unfolding peak_cell_line_of
 cell_short (Under n) h = omega (arith, length-append (codes "u ") (decimal n), minutes_short n h.0 h.1)
 cell_short Single h = omega arith
 
 -- ---- all of them
 
-cells_short : (cs : List PeakCell) → AllByRecursion IsPeakCell cs → length (joined (cell_lines_of cs)) ≤ 5 + 2 * minutes_of cs
-unfolding last_line
+cells_short : (cs : List PeakCell) → AllByRecursion IsPeakCell cs → length (joined (cell_lines_of cs)) ≤ 5 + 2 * all_minutes cs
+unfolding last_line all_minutes
 cells_short [] h = omega arith
 cells_short (c ∷ cs) h =
     omega (arith, joined-cons (peak_cell_line_of c) (cell_lines_of cs), cell_short c h.0, cells_short cs h.1)
@@ -51,7 +52,7 @@ title_short : length peak_title ≡ 18
 unfolding peak_title
 title_short = refl
 
-pub text_short : (c : PeakCertificate) → IsPeakCertificate c → length (peak_text c) ≤ 545 + 2 * minutes_of c.peak.cells
+pub text_short : (c : PeakCertificate) → IsPeakCertificate c → length (peak_text c) ≤ 545 + 2 * all_minutes c.peak.cells
 unfolding peak_text
 text_short c h =
     let cells = cell_lines_of c.peak.cells in
@@ -77,5 +78,5 @@ text_short c h =
       cells_short c.peak.cells (recursion_from_All IsPeakCell c.peak.cells h.cells),
     )
 
-pub text_fits : (c : PeakCertificate) → IsPeakCertificate c → minutes_of c.peak.cells ≤ 5270400 → length (peak_text c) < 10542000
+pub text_fits : (c : PeakCertificate) → IsPeakCertificate c → all_minutes c.peak.cells ≤ 5270400 → length (peak_text c) < 10542000
 text_fits c h few = omega (arith, text_short c h, few)

@@ -1,5 +1,5 @@
 -- The text of a certificate of a highest water: lines of words and whole numbers, each ended by LF (this project).
-use Rattle.std.specs.Prelude.{ℕ, ◌+◌, ◌<◌, ◌≤◌, ◌^◌, ℤ, unsigned_abs, List, [], ◌∷◌, ◌++◌, map, All, codes, decimal}
+use Rattle.std.specs.Prelude.{ℕ, ◌<◌, ◌≤◌, ◌^◌, ℤ, unsigned_abs, List, [], ◌∷◌, ◌++◌, map, All, codes, decimal}
 use Rattle.std.specs.Fmt.{signed_decimal}
 use Rattle.zone_time.specs.Moments.{IsMoment, moment_text}
 use Rattle.cert_text.specs.Certificates.{IsStationName}
@@ -59,12 +59,3 @@ peak_lines_of c = peak_head_lines_of c ++ cell_lines_of c.peak.cells
 
 unfoldable pub peak_text : PeakCertificate → List ℕ
 peak_text c = joined (peak_lines_of c)
-
--- how many minutes cells hold
-abbrev pub minutes_in : PeakCell → ℕ
-minutes_in (Under n) = n
-minutes_in Single = 1
-
-abbrev pub minutes_of : List PeakCell → ℕ
-minutes_of [] = 0
-minutes_of (cell ∷ cells) = minutes_in cell + minutes_of cells

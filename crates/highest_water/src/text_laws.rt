@@ -3,7 +3,8 @@
 ghost use Rattle.std.specs.Prelude.{◌≡◌, ◌≢◌, ℕ, ◌+◌, ◌*◌, ◌<◌, ◌≤◌, List, length, Ok, Err};
 ghost use Rattle.highest_water.specs.declared.certificate.PeakCertificate.{PeakCertificate};
 ghost use Rattle.highest_water.specs.declared.fault.CertFault.{CertFault};
-ghost use Rattle.highest_water.specs.PeakTexts.{IsPeakCertificate, peak_lines_of, peak_text, minutes_of};
+ghost use Rattle.highest_water.specs.Covers.{all_minutes};
+ghost use Rattle.highest_water.specs.PeakTexts.{IsPeakCertificate, peak_lines_of, peak_text};
 ghost use Rattle.highest_water.specs.PeakSpelling.{SpellsPeak, IsPeakTextOf, IsPeakFaultLine, ReadsPeak};
 ghost use Rattle.highest_water.specs.PeakReadings.{peak_of};
 
@@ -25,8 +26,8 @@ pub fn peak_certificates_have_one_text()
 /// bytes, and so can be read again.
 pub fn peak_texts_are_short()
     ensures short { (c : PeakCertificate) → IsPeakCertificate c →
-        length (peak_text c) ≤ 545 + 2 * minutes_of c.peak.cells }
-    ensures fits { (c : PeakCertificate) → IsPeakCertificate c → minutes_of c.peak.cells ≤ 5270400 →
+        length (peak_text c) ≤ 545 + 2 * all_minutes c.peak.cells }
+    ensures fits { (c : PeakCertificate) → IsPeakCertificate c → all_minutes c.peak.cells ≤ 5270400 →
         length (peak_text c) < 10542000 }
 {}
 
