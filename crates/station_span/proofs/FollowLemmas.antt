@@ -123,7 +123,7 @@ mark_scale basis level has small =
       mark_most = omega (arith, ints);
     }
 
-usual_scale : IsScale (pos 1000000) (pos 0) (pos 0)
+pub usual_scale : IsScale (pos 1000000) (pos 0) (pos 0)
 usual_scale = record {
   times_least = omega (arith, ints);
   times_most = omega (arith, ints);
