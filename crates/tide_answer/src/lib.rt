@@ -23,6 +23,7 @@ mod judging;
 mod laws;
 mod listed;
 mod peak_check;
+mod peak_laws;
 mod predict;
 mod ready;
 mod sample;
@@ -40,6 +41,9 @@ pub use given::Given;
 pub use heights::worked_rows;
 pub use laws::{accepted_is_true, certified_is_accepted, certified_is_short};
 pub use listed::{Listed, station_events};
+pub use peak_laws::{
+    accepted_peak_is_true, highest_is_told, peak_certified_is_accepted, peak_certified_is_short,
+};
 pub use ready::{Ready, answer_into, can_stream, prepare};
 pub use station_cells::Rejection;
 pub use station_span::{Asked, Reach};
