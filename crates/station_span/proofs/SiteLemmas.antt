@@ -273,6 +273,11 @@ site_minutes reach book table name asked site ok =
     let was = was_found reach book table name asked site ok in
     (span_tests reach book site.basis asked.begin asked.end was.steps.curve.span).1
 
+-- its offsets lie in the ranges of a table
+pub site_basis : (reach : Reach) (book : Book) (table : List Offsets) (name : List ℕ) (asked : Asked) (site : Site) → IsTable table → site_in reach book table name asked ≡ Ok site → IsBasis (length book.stations) site.basis
+site_basis reach book table name asked site rows ok =
+    basis_sound book table name site.basis rows (was_found reach book table name asked site ok).basis
+
 -- it is found where no mark is asked too
 pub site_unmarked : (reach : Reach) (book : Book) (table : List Offsets) (name : List ℕ) (asked : Asked) (site : Site) → site_in reach book table name asked ≡ Ok site → site_in reach book table name (record asked { mark = None }) ≡ Ok site
 site_unmarked reach book table name asked site ok =

@@ -18,7 +18,7 @@ use Rattle.highest_water.proofs.VerdictLemmas.{verdict-cells}
 use Rattle.rate_bound.specs.Meanings.{over_mark}
 use Rattle.station_curve.specs.Schureman.{predicted_level}
 use Rattle.station_table.specs.declared.offsets.Offsets.{Offsets}
-use Rattle.station_table.specs.Offsets.{IsTable}
+use Rattle.station_table.specs.Offsets.{IsOffset, IsTable}
 use Rattle.zone_time.specs.declared.zone.Zone.TheVariants.{Utc}
 use Rattle.station_span.specs.declared.asked.Asked.{Asked}
 use Rattle.station_span.specs.declared.reach.Reach.TheVariants.{Highest}
@@ -26,9 +26,10 @@ use Rattle.station_span.specs.Peaks.{first_source, highest_of, highest_site, hig
 use Rattle.station_span.specs.Sites.{Site}
 use Rattle.station_span.specs.Workings.Peaks.{HasHighest}
 use Rattle.station_span.specs.Workings.Spans.{IsNear}
+use Rattle.station_span.proofs.LevelLemmas.{level_order}
 use Rattle.station_span.proofs.NameLemmas.{site_name}
 use Rattle.station_span.proofs.PeakLemmas.{IsHighestAt, accepted_certificate, accepted_highest, has_highest, highest_found, highest_minutes, highest_of_accepted, highest_parts, highest_unmarked, verdict_alike}
-use Rattle.station_span.proofs.SiteLemmas.{found_at, found_of_site, then_ok}
+use Rattle.station_span.proofs.SiteLemmas.{found_at, found_of_site, site_basis, then_ok}
 use Rattle.tide_answer.specs.declared.text.Answer.{Answer}
 use Rattle.tide_answer.specs.Answers.{text_alone, highest, highest_text_at, peak_certificate_by, peak_certified, peak_checked, peak_from, peak_judged}
 use Rattle.tide_answer.specs.Asking.{asked_of_peak}
@@ -55,34 +56,44 @@ no_more value other k l is also most = omega (arith, ints)
 less : (value other k l : ℤ) → value ≡ pos 1000000 *ℤ k → other ≡ pos 1000000 *ℤ l → value <ℤ other → k <ℤ l
 less value other k l is also most = omega (arith, ints)
 
-highest_water : (book : Book) (site : Site) (asked : Asked) (at value : ℤ) → asked.begin <ℤ asked.end → IsHighestAt book site asked at value → IsHighestWater book site asked at
-highest_water book site asked at value some peak =
+highest_water : (book : Book) (site : Site) (asked : Asked) (at value : ℤ) → IsOffset site.basis.high → asked.begin <ℤ asked.end → IsHighestAt book site asked at value → IsHighestWater book site asked at
+highest_water book site asked at value offset some peak =
     let from = peak.from in
     let before = peak.before in
+    let add = site.basis.high.add in
     let is = highest_value book site asked at value peak in
+    let greatest : (m : ℤ) → IsMovedInto site asked m → predicted_level book site.station m ≤ℤ predicted_level book site.station at = λ m moved.
+    let begins = moved.from in
+    let ends = moved.before in
+    no_more _ _ _ _ (level_value book site m) is (peak.greatest m (omega (arith, ints)) (omega (arith, ints))) in
+    let here : (at +ℤ add) -ℤ add ≡ at = omega (arith, ints) in
     record {
       inside = record { from = omega (arith, ints); before = omega (arith, ints) };
-      greatest = λ m moved.
-          let begins = moved.from in
-          let ends = moved.before in
-          no_more _ _ _ _ (level_value book site m) is (peak.greatest m (omega (arith, ints)) (omega (arith, ints)));
+      greatest = greatest;
       first = λ m moved earlier.
           let begins = moved.from in
           less _ _ _ _ (level_value book site m) is (peak.first m (omega (arith, ints)) earlier);
+      level = λ minute begins ends.
+          level_order book site minute (at +ℤ add) offset
+          (rw here (greatest (minute -ℤ add) (record { from = omega (arith, ints); before = omega (arith, ints) })));
     }
 
 -- ---- what a question is told
 
+highest_offset : (book : Book) (table : List Offsets) (name : List ℕ) (asked : Asked) (site : Site) → IsTable table → highest_site book table name asked ≡ Ok site → IsOffset site.basis.high
+highest_offset book table name asked site rows is =
+    (site_basis Highest book table name asked site rows (highest_parts book table name asked site is).0).high
+
 pub told_highest : TellsTheHighest
 unfolding highest
-told_highest book table name asked zone answer ok =
+told_highest book table name asked zone answer rows ok =
     let site = then_ok (highest_site book table name asked) _ answer ok in
     let some = highest_minutes book table name asked site.0 site.1 in
     record {
       site = site.0;
       at = (highest_of book site.0 asked).at;
       found = site.1;
-      highest = highest_water book site.0 asked _ _ some (highest_found book site.0 asked some);
+      highest = highest_water book site.0 asked _ _ (highest_offset book table name asked site.0 rows site.1) some (highest_found book site.0 asked some);
       told = (let last = site.2 in cc);
     }
 
@@ -153,7 +164,7 @@ peak_true reads only book table bytes answer is rows ok accepted =
       site = site;
       written = written;
       asked = was.found;
-      highest = highest_water book site asked cert.peak.at cert.peak.value some peak;
+      highest = highest_water book site asked cert.peak.at cert.peak.value found.sound.high some peak;
       value = highest_value book site asked cert.peak.at cert.peak.value peak;
       listing = subst (AcceptsListing (highest book table cert.station asked Utc)) answered
           (lists book table cert.station asked site cert.peak.at cert.peak.value was.found peak);

@@ -10,6 +10,7 @@ use Rattle.station_table.specs.Offsets.{IsTable}
 use Rattle.zone_time.specs.declared.zone.Zone.{Zone}
 use Rattle.zone_time.specs.declared.zone.Zone.TheVariants.{Utc}
 use Rattle.station_span.specs.declared.asked.Asked.{Asked}
+use Rattle.station_span.specs.Levels.{level_at}
 use Rattle.station_span.specs.Peaks.{highest_site}
 use Rattle.station_span.specs.Sites.{Site}
 use Rattle.tide_answer.specs.declared.text.Answer.{Answer}
@@ -24,11 +25,13 @@ pub record IsMovedInto (site : Site) (asked : Asked) (m : ℤ) : Type 0 where
   pub from : asked.begin ≤ℤ (m +ℤ site.basis.high.add)
   pub before : (m +ℤ site.basis.high.add) <ℤ asked.end
 
--- the first of these minutes that has their greatest level
+-- the first of these minutes that has their greatest level; and nowhere in the span is the station's own level higher than where
+-- it is moved to
 pub record IsHighestWater (book : Book) (site : Site) (asked : Asked) (at : ℤ) : Type 0 where
   pub inside : IsMovedInto site asked at
   pub greatest : (m : ℤ) → IsMovedInto site asked m → predicted_level book site.station m ≤ℤ predicted_level book site.station at
   pub first : (m : ℤ) → IsMovedInto site asked m → m <ℤ at → predicted_level book site.station m <ℤ predicted_level book site.station at
+  pub level : (minute : ℤ) → asked.begin ≤ℤ minute → minute <ℤ asked.end → level_at book site minute ≤ℤ level_at book site (at +ℤ site.basis.high.add)
 
 -- the answer tells the highest water of the station's span
 pub record IsToldHighest (book : Book) (table : List Offsets) (name : List ℕ) (asked : Asked) (zone : Zone) (answer : Answer) : Type 0 where
@@ -40,7 +43,7 @@ pub record IsToldHighest (book : Book) (table : List Offsets) (name : List ℕ) 
 
 abbrev pub TellsTheHighest : Type 0
 TellsTheHighest = (book : Book) (table : List Offsets) (name : List ℕ) (asked : Asked) (zone : Zone) (answer : Answer) →
-    highest book table name asked zone ≡ Ok answer → IsToldHighest book table name asked zone answer
+    IsTable table → highest book table name asked zone ≡ Ok answer → IsToldHighest book table name asked zone answer
 
 -- ---- its certificates
 
