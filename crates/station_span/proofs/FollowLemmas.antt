@@ -312,6 +312,7 @@ pub site_list_of_tide : (book : Book) (asked : Asked) (site : Site) (found : Fou
 site_list_of_tide book asked site found listed near is list =
     let ready = ready_of_found book asked site found near is in record {
       units = list.units ∙ is.units;
+      levels = rw list.units is.levels;
       events = list.events ∙ found_events book asked site found is;
       cells = list.cells ∙ found_cells book asked site found is;
       lines = list.lines;

@@ -2,6 +2,7 @@
 
 ghost use Rattle.std.specs.Prelude.{◌≡◌, ◌≤◌, unsigned_abs, option_map, IfErr, IfOk, OnOk};
 ghost use Rattle.std.specs.Option.{ForSome};
+ghost use Rattle.cert_text.specs.Certificates.{IsStationName};
 ghost use Rattle.event_list.specs.Events.{cover_over};
 ghost use Rattle.event_list.specs.Merging.{cells_left};
 ghost use Rattle.event_list.specs.Shifts.{HasOffsets};
@@ -47,6 +48,7 @@ pub fn list_station(
 ) -> Result<FoundEvents, Refusal>
     requires near { IsNear asked.now }
     ensures exact { Lists book.now asked.now (site_in Reach.Events book.now table.now name.now asked.now) result }
+    ensures named { OnOk result (IsStationName name.now) }
     ensures told { IfErr result (IsToldRefusal table.now) }
 {
     let found = find_station(alloc, book, table, Reach::Events, name, asked)?;

@@ -4,6 +4,7 @@ pub mod CheckLemmas
 pub mod LawLemmas
 pub mod LevelSteps
 pub mod PeakLawLemmas
+pub mod PeakLemmas
 pub mod ReadyLemmas
 pub mod RowLemmas
 pub mod StreamLemmas

@@ -64,6 +64,14 @@ text_alone text = record { text = text; rejected = false; cells = 0 }
 abbrev pub text_of_events : Book → Site → Asked → List ℕ → Answer
 text_of_events book site asked text = record { text = text; rejected = false; cells = cells_of book site asked }
 
+-- the word that accepts a certificate, and what follows of it
+abbrev pub text_accepted : List ℕ → Answer
+text_accepted told = text_alone (codes "Accepted\n" ++ told)
+
+-- the line of what is wrong with one
+abbrev pub text_rejected : List ℕ → Answer
+text_rejected line = record { text = line; rejected = true; cells = 0 }
+
 -- ---- events
 
 abbrev pub events_text : Layout → List ℕ → Units → List Event → Zone → List ℕ
@@ -109,8 +117,8 @@ version_of cert = if cert.version == 1 then First else Second
 -- a valid certificate is accepted, and the events follow that its own question has
 abbrev pub judged : Book → Site → Certificate → Zone → Option Rejection → Answer
 judged book site cert zone None =
-    text_alone (codes "Accepted\n" ++ plain_events_of cert.station site.station.units (events_of book site (asked_in cert)) zone)
-judged book site cert zone (Some rejection) = record { text = rejection_line rejection; rejected = true; cells = 0 }
+    text_accepted (plain_events_of cert.station site.station.units (events_of book site (asked_in cert)) zone)
+judged book site cert zone (Some rejection) = text_rejected (rejection_line rejection)
 
 unfoldable pub checked : Book → List Offsets → List ℕ → Zone → Result Answer Refusal
 checked book table bytes zone = do
@@ -191,9 +199,8 @@ peak_from (Err fault) = Err (refusal_of_peak fault)
 
 -- one that is accepted tells the highest water of its own question, in universal time
 abbrev pub peak_judged : Book → Site → PeakCertificate → PeakVerdict → Answer
-peak_judged book site cert Accepted =
-    text_alone (codes "Accepted\n" ++ highest_text_at book site cert.station cert.peak.at Utc)
-peak_judged book site cert verdict = record { text = verdict_line verdict; rejected = true; cells = 0 }
+peak_judged book site cert Accepted = text_accepted (highest_text_at book site cert.station cert.peak.at Utc)
+peak_judged book site cert verdict = text_rejected (verdict_line verdict)
 
 unfoldable pub peak_checked : Book → List Offsets → List ℕ → Result Answer Refusal
 peak_checked book table bytes = do

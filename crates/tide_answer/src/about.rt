@@ -1,17 +1,16 @@
 //! What is known of a station.
 
-ghost use Rattle.std.specs.Prelude.{◌≡◌, ◌≤◌, ◌<◌, ◌^◌, not, pos, count_by, length, IfErr};
-ghost use Rattle.std.specs.Ordering.{int_eq};
+ghost use Rattle.std.specs.Prelude.{◌≡◌, IfErr};
 ghost use Rattle.decimal_text.specs.Expected.{Gives};
 ghost use Rattle.tide_answer.specs.Answers.{constituent_count, known};
 ghost use Rattle.tide_fault.specs.Faults.{wants_memory_of_refusal, IsToldRefusal};
 
-use crate::text::Answer;
+use crate::text::{Answer, text_alone};
 use decimal_text::Text;
 use harmonics_text::{SoundBook, Station};
 use listing::about_text;
-use slope_agreement::agreement;
-use station_span::find_known;
+use slope_agreement::{agreement, predicted_agreements};
+use station_span::{find_known, station_at};
 use station_table::OffsetTable;
 use std::alloc::Global;
 use tide_fault::Refusal;
@@ -29,25 +28,17 @@ pub fn tell_about(
     ensures told { IfErr result (IsToldRefusal table.now) }
 {
     let found = find_known(alloc, book, table, name)?;
-    let station = &book.book().stations.as_slice()[found.basis.station as usize];
-    let bound = agreement(&found.curve);
-    let text = about_text(
-        alloc,
-        name,
-        &station.name,
-        found.units,
-        constituent_count(station),
-        bound,
-    )?;
-    Ok(Answer {
-        text,
-        rejected: false,
-        cells: 0,
-    })
+    let station = station_at(book.get(), found.basis.station);
+    let count = constituent_count(station);
+    predicted_agreements();
+    let agreement = agreement(&found.curve);
+    let text = about_text(alloc, name, &station.name, found.units, count, agreement)?;
+    Ok(text_alone(text))
 }
 
 fn constituent_count(station: &Station) -> u64
     ensures { result ≡ constituent_count station.now }
 {
-    station.amplitude.as_slice().iter().filter(|amplitude| **amplitude != 0).count() as u64
+    let amplitudes = station.amplitude.as_slice();
+    amplitudes.iter().filter(|amplitude| **amplitude != 0).count() as u64
 }

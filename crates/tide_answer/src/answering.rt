@@ -21,7 +21,7 @@ use crate::heights::list_heights;
 use crate::highest::{certify_peak, tell_highest};
 use crate::peak_check::check_peak_text;
 use crate::predict::predict;
-use crate::text::Answer;
+use crate::text::{Answer, text_alone};
 use harmonics_text::{Book, SoundBook};
 use listing::stations_text;
 use question::{Command, Question, SoundQuestion};
@@ -86,6 +86,7 @@ fn answer_command(
     }
 }
 
+#[tactic(auto, unfolding(crate::specs::Answers::asks_span))]
 fn answer_predict(
     alloc: Global,
     book: &SoundBook<'_>,
@@ -102,6 +103,7 @@ fn answer_predict(
     predict(alloc, book, table, name, &asked, layout, zone)
 }
 
+#[tactic(auto, unfolding(crate::specs::Answers::asks_span))]
 fn answer_certify(
     alloc: Global,
     book: &SoundBook<'_>,
@@ -116,6 +118,7 @@ fn answer_certify(
     certify(alloc, book, table, name, &asked)
 }
 
+#[tactic(auto, unfolding(crate::specs::Answers::asks_span))]
 fn answer_heights(
     alloc: Global,
     book: &SoundBook<'_>,
@@ -132,6 +135,7 @@ fn answer_heights(
     list_heights(alloc, book, table, name, &asked, *step, *layout, zone)
 }
 
+#[tactic(auto, unfolding(crate::specs::Answers::asks_span))]
 fn answer_calendar(
     alloc: Global,
     book: &SoundBook<'_>,
@@ -147,6 +151,7 @@ fn answer_calendar(
     list_days(alloc, book, table, name, &asked, zone)
 }
 
+#[tactic(auto, unfolding(crate::specs::Answers::asks_name))]
 fn answer_clock(
     alloc: Global,
     book: &SoundBook<'_>,
@@ -166,14 +171,10 @@ fn answer_stations(alloc: Global, book: &Book, table: &OffsetTable) -> Result<An
     ensures exact { IfOk result (λ answer. answer ≡ text_alone (stations_text_of book.now table.now)) }
     ensures memory { IfErr result (λ refusal. refusal ≡ Refusal.NoMemory) }
 {
-    let text = stations_text(alloc, book, table)?;
-    Ok(Answer {
-        text,
-        rejected: false,
-        cells: 0,
-    })
+    Ok(text_alone(stations_text(alloc, book, table)?))
 }
 
+#[tactic(auto, unfolding(crate::specs::Answers::asks_span))]
 fn answer_highest(
     alloc: Global,
     book: &SoundBook<'_>,
@@ -189,6 +190,7 @@ fn answer_highest(
     tell_highest(alloc, book, table, name, &asked, zone)
 }
 
+#[tactic(auto, unfolding(crate::specs::Answers::asks_span))]
 fn answer_peak(
     alloc: Global,
     book: &SoundBook<'_>,
@@ -203,6 +205,7 @@ fn answer_peak(
     certify_peak(alloc, book, table, name, &asked)
 }
 
+#[tactic(auto, unfolding(crate::specs::Answers::asks_name))]
 fn answer_about(
     alloc: Global,
     book: &SoundBook<'_>,

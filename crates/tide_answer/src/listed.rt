@@ -44,23 +44,23 @@ pub fn station_events(
     book: &Book,
     table: &OffsetTable,
     question: &Question,
-    _given: &Given,
+    given: &Given,
 ) -> Result<Listed, Refusal>
     requires book { IsBook book.now }
     requires asked { IsAsked question.now }
-    requires given { IsGiven _given.now }
+    requires given { IsGiven given.now }
     ensures exact { Gives wants_memory_of_refusal (listed book.now table.now question.now) result }
     ensures told { IfErr result (IsToldRefusal table.now) }
-    ensures events { IfOk result (λ listed. All (IsListed listed.units) listed.events) }
-    ensures units { IfOk result (λ listed. listed.units ≢ Units.KnotsSquared) }
-    ensures name { IfOk result (λ listed. All (λ b. (32 ≤ b) × (b ≢ 127)) listed.name) }
+    ensures lines { IfOk result (λ found. All (IsListed found.units) found.events) }
+    ensures levels { IfOk result (λ found. found.units ≢ Units.KnotsSquared) }
+    ensures printed { IfOk result (λ found. All (λ b. (32 ≤ b) × (b ≢ 127)) found.name) }
 {
     let question = SoundQuestion::new(question);
     let name = station_named(&question)?;
     let asked = span_named(&question)?;
     let found = list_station(alloc, &SoundBook::new(book), table, name, &asked)?;
     Ok(Listed {
-        name: name.copy(alloc)?,
+        name: name.copy()?,
         units: found.units,
         events: found.events,
     })

@@ -1,20 +1,24 @@
 //! The check of a certificate of a highest water.
 
-ghost use Rattle.std.specs.Prelude.{◌≡◌, ◌≤◌, length, IfErr, IfOk};
+ghost use Rattle.std.specs.Prelude.{◌≡◌, ◌<◌, ◌≤◌, ◌^◌, length, [], IfErr, IfOk};
 ghost use Rattle.decimal_text.specs.Expected.{Gives};
 ghost use Rattle.decimal_text.specs.declared.limits.TheConstants.{MOST_BYTES};
+ghost use Rattle.highest_water.specs.PeakReadings.{peak_of};
 ghost use Rattle.highest_water.specs.PeakTexts.{IsPeakCertificate};
-ghost use Rattle.tide_answer.specs.Answers.{peak_checked, refusal_of_peak};
-ghost use Rattle.tide_answer.specs.Asking.{asked_of_peak};
-ghost use Rattle.tide_answer.specs.Workings.Peaks.{peak_judged_in, peak_accepted, peak_rejected};
+ghost use Rattle.tide_answer.specs.Answers.{peak_checked, peak_from};
+ghost use Rattle.tide_answer.specs.Workings.Peaks.{peak_judged_in, peak_accepted};
 ghost use Rattle.tide_fault.specs.Faults.{wants_memory_of_refusal, IsToldRefusal};
 ghost use Rattle.station_span.specs.Workings.Peaks.{HasHighest, IsSourceIn};
 
+use crate::asking::asked_of_peak;
 use crate::highest::highest_text_at;
-use crate::text::Answer;
+use crate::text::{Answer, accepted, rejected};
 use decimal_text::Bytes;
 use harmonics_text::SoundBook;
-use highest_water::{CertFault, PeakCertificate, PeakVerdict, read_peak, verdict_line};
+use highest_water::{
+    CertFault, PeakCertificate, PeakVerdict, peak_certificates_have_one_text, read_peak,
+    verdict_line,
+};
 use station_span::{Asked, Found, find_level, judge_highest};
 use station_table::OffsetTable;
 use std::alloc::{AllocError, Global};
@@ -31,32 +35,38 @@ pub fn check_peak_text(
     table: &OffsetTable,
     bytes: &Bytes,
 ) -> Result<Answer, Refusal>
-    requires { length bytes.now ≤ MOST_BYTES }
+    requires few { length bytes.now ≤ MOST_BYTES }
     ensures exact { Gives wants_memory_of_refusal (peak_checked book.now table.now bytes.now) result }
     ensures told { IfErr result (IsToldRefusal table.now) }
 {
-    match read_peak(alloc, bytes.as_slice()) {
-        Ok(cert) => judge_peak(alloc, book, table, &cert),
-        Err(fault) => Err(refusal_of_peak(fault)),
-    }
+    let cert = peak_in(alloc, bytes.as_slice())?;
+    judge_peak(alloc, book, table, &cert)
 }
 
-fn refusal_of_peak(fault: CertFault) -> Refusal
-    ensures { result ≡ refusal_of_peak fault }
+fn peak_in(alloc: Global, bytes: &[u8]) -> Result<PeakCertificate, Refusal>
+    requires { length bytes.now ≤ MOST_BYTES }
+    ensures exact { Gives wants_memory_of_refusal (peak_from (peak_of bytes.now)) result }
+    ensures sound { IfOk result IsPeakCertificate }
+    ensures few { IfOk result (λ cert. length cert.peak.cells < 2 ^ 32) }
+    ensures told { IfErr result (IsToldRefusal []) }
 {
-    match fault {
-        CertFault::NoMemory => Refusal::NoMemory,
-        CertFault::NotACertificate { line } => Refusal::NotACertificate { line },
+    peak_certificates_have_one_text();
+    match read_peak(alloc, bytes) {
+        Ok(cert) => Ok(cert),
+        Err(CertFault::NoMemory) => Err(Refusal::NoMemory),
+        Err(CertFault::NotACertificate { line }) => Err(Refusal::NotACertificate { line }),
     }
 }
 
+#[tactic(auto, unfolding(crate::specs::Workings::Peaks::peak_judged_in))]
 fn judge_peak(
     alloc: Global,
     book: &SoundBook<'_>,
     table: &OffsetTable,
     cert: &PeakCertificate,
 ) -> Result<Answer, Refusal>
-    requires { IsPeakCertificate cert.now }
+    requires cert { IsPeakCertificate cert.now }
+    requires few { length cert.now.peak.cells < 2 ^ 32 }
     ensures exact { Gives wants_memory_of_refusal (peak_judged_in book.now table.now cert.now) result }
     ensures told { IfErr result (IsToldRefusal table.now) }
 {
@@ -64,17 +74,7 @@ fn judge_peak(
     let found = find_level(alloc, book, table, &cert.station, &asked)?;
     match judge_highest(&found, &asked, &cert.peak) {
         PeakVerdict::Accepted => Ok(accept_peak(alloc, &found, &asked, cert)?),
-        verdict => Ok(reject_peak(alloc, verdict)?),
-    }
-}
-
-fn asked_of_peak(cert: &PeakCertificate) -> Asked
-    ensures { result ≡ asked_of_peak cert.now }
-{
-    Asked {
-        begin: cert.begin,
-        end: cert.end,
-        mark: None,
+        verdict => Ok(rejected(verdict_line(alloc, verdict)?)),
     }
 }
 
@@ -88,23 +88,7 @@ fn accept_peak(
     requires inside { IsSourceIn found.now asked.now cert.now.peak.at }
     ensures { IfOk result (λ answer. answer ≡ peak_accepted found.now cert.now) }
 {
-    let clock = Zone::Utc;
-    let told = highest_text_at(alloc, found, asked, &cert.station, cert.peak.at, &clock.clock())?;
-    let mut text = Vec::from_slice(alloc, b"Accepted\n")?;
-    text.extend_from_slice(told.as_slice())?;
-    Ok(Answer {
-        text: Bytes::from_vec(text),
-        rejected: false,
-        cells: 0,
-    })
-}
-
-fn reject_peak(alloc: Global, verdict: PeakVerdict) -> Result<Answer, AllocError>
-    ensures { IfOk result (λ answer. answer ≡ peak_rejected verdict) }
-{
-    Ok(Answer {
-        text: verdict_line(alloc, verdict)?,
-        rejected: true,
-        cells: 0,
-    })
+    let zone = Zone::Utc;
+    let told = highest_text_at(alloc, found, asked, &cert.station, cert.peak.at, &zone.clock())?;
+    accepted(alloc, &told)
 }

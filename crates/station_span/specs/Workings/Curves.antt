@@ -76,6 +76,7 @@ pub record IsTideList (found : Found) (asked : Asked) (listed : FoundEvents) : T
 -- those of a site, whose span has a local time by every clock
 pub record IsSiteList (book : Book) (asked : Asked) (site : Site) (listed : FoundEvents) : Type 0 where
   pub units : listed.units ≡ site.station.units
+  pub levels : HasLevels listed.units
   pub events : listed.events ≡ events_of book site asked
   pub cells : listed.cells ≡ cells_of book site asked
   pub lines : All (IsListed listed.units) listed.events
