@@ -1,6 +1,5 @@
 -- What certificates of a highest water come to: what is accepted is true, and what is certified is accepted and short.
-use Rattle.std.proofs.Common.{◌≡◌, ◌<◌, ◌≤◌, ℕ, ℤ, pos, ◌+ℤ◌, ◌-ℤ◌, ◌*ℤ◌, ◌≤ℤ◌, ◌<ℤ◌, unsigned_abs, false, List, ◌++◌, length, codes, None, Result, Ok, Err, refl, sym, subst, ap, ◌∙◌, arith}
-use Rattle.std.specs.Option.{ForSome}
+use Rattle.std.proofs.Common.{◌≡◌, ◌<◌, ◌≤◌, ℕ, ℤ, pos, ◌+ℤ◌, ◌-ℤ◌, ◌*ℤ◌, ◌≤ℤ◌, ◌<ℤ◌, unsigned_abs, false, List, length, None, Result, Ok, Err, refl, sym, subst, ap, ◌∙◌, arith}
 use Rattle.std.proofs.lemmas.Int.{ints}
 use Rattle.harmonics_text.specs.declared.book.Book.{Book}
 use Rattle.harmonics_text.specs.Books.{IsBook}
@@ -25,18 +24,17 @@ use Rattle.station_span.specs.declared.reach.Reach.TheVariants.{Highest}
 use Rattle.station_span.specs.Peaks.{first_source, highest_of, highest_site, highest_verdict, level_curve, minute_count}
 use Rattle.station_span.specs.Sites.{Site}
 use Rattle.station_span.specs.Workings.Peaks.{HasHighest}
-use Rattle.station_span.specs.Workings.Spans.{IsNear}
 use Rattle.station_span.proofs.LevelLemmas.{level_order}
 use Rattle.station_span.proofs.NameLemmas.{site_name}
 use Rattle.station_span.proofs.PeakLemmas.{IsHighestAt, accepted_certificate, accepted_highest, has_highest, highest_found, highest_minutes, highest_of_accepted, highest_parts, highest_unmarked, verdict_alike}
 use Rattle.station_span.proofs.SiteLemmas.{found_at, found_of_site, site_basis, then_ok}
 use Rattle.tide_answer.specs.declared.text.Answer.{Answer}
-use Rattle.tide_answer.specs.Answers.{text_alone, highest, highest_text_at, peak_certificate_by, peak_certified, peak_checked, peak_from, peak_judged}
+use Rattle.tide_answer.specs.Answers.{text_alone, highest, highest_text_at, peak_certificate_by, peak_certified, peak_checked, peak_from, peak_judged, text_accepted}
 use Rattle.tide_answer.specs.Asking.{asked_of_peak}
 use Rattle.tide_answer.specs.Laws.{IsAskable, AcceptsListing}
 use Rattle.tide_answer.specs.PeakLaws.{IsMovedInto, IsHighestWater, TellsTheHighest, AcceptsWhatPeakCertifies, PeakCertifiesInShort, AcceptsOnlyTruePeaks}
-use Rattle.tide_answer.proofs.AnswerLemmas.{moment_near}
 use Rattle.tide_answer.proofs.LawLemmas.{near_asked}
+use Rattle.tide_answer.proofs.PeakLemmas.{peak_near}
 
 -- ---- the highest water, by the reference's level
 
@@ -93,12 +91,12 @@ told_highest book table name asked zone answer rows ok =
       site = site.0;
       at = (highest_of book site.0 asked).at;
       found = site.1;
-      highest = highest_water book site.0 asked _ _ (highest_offset book table name asked site.0 rows site.1) some (highest_found book site.0 asked some);
+      water = highest_water book site.0 asked _ _ (highest_offset book table name asked site.0 rows site.1) some (highest_found book site.0 asked some);
       told = (let last = site.2 in cc);
     }
 
 -- a span has one highest water
-lists : (book : Book) (table : List Offsets) (name : List ℕ) (asked : Asked) (site : Site) (at value : ℤ) → highest_site book table name asked ≡ Ok site → IsHighestAt book site asked at value → AcceptsListing (highest book table name asked Utc) (text_alone (codes "Accepted\n" ++ highest_text_at book site name at Utc))
+lists : (book : Book) (table : List Offsets) (name : List ℕ) (asked : Asked) (site : Site) (at value : ℤ) → highest_site book table name asked ≡ Ok site → IsHighestAt book site asked at value → AcceptsListing (highest book table name asked Utc) (text_accepted (highest_text_at book site name at Utc))
 unfolding highest
 lists book table name asked site at value is peak =
     let found = highest_found book site asked (highest_minutes book table name asked site is) in
@@ -139,12 +137,6 @@ was_judged book table bytes answer ok =
       judged = (let last = site.2 in cc);
     }
 
-no_mark : (P : ℤ → Type 0) → ForSome None P
-no_mark P level is = absurd cc
-
-near_read : (cert : PeakCertificate) → IsPeakCertificate cert → IsNear (asked_of_peak cert)
-near_read cert sound = record { begin = moment_near cert.begin sound.begin; end = moment_near cert.end sound.end; mark = no_mark _ }
-
 pub peak_true : ((bytes : List ℕ) → ReadsPeak bytes (peak_of bytes)) → ((c : PeakCertificate) (bytes : List ℕ) → IsPeakTextOf c bytes → IsPeakCertificate c) → AcceptsOnlyTruePeaks
 peak_true reads only book table bytes answer is rows ok accepted =
     let was = was_judged book table bytes answer ok in
@@ -152,7 +144,7 @@ peak_true reads only book table bytes answer is rows ok accepted =
     let asked = asked_of_peak cert in
     let site = was.site in
     let written : IsPeakTextOf cert bytes = rw was.read at (reads bytes) in
-    let near = near_read cert (only cert bytes written) in
+    let near = peak_near cert (only cert bytes written) in
     let parts = highest_parts book table cert.station asked site was.found in
     let found = found_of_site Highest book table cert.station asked site is rows near parts.0 in
     let right = unrejected book site cert _ answer was.judged accepted in
@@ -164,7 +156,7 @@ peak_true reads only book table bytes answer is rows ok accepted =
       site = site;
       written = written;
       asked = was.found;
-      highest = highest_water book site asked cert.peak.at cert.peak.value found.sound.high some peak;
+      water = highest_water book site asked cert.peak.at cert.peak.value found.sound.high some peak;
       value = highest_value book site asked cert.peak.at cert.peak.value peak;
       listing = subst (AcceptsListing (highest book table cert.station asked Utc)) answered
           (lists book table cert.station asked site cert.peak.at cert.peak.value was.found peak);

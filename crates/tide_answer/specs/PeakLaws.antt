@@ -38,7 +38,7 @@ pub record IsToldHighest (book : Book) (table : List Offsets) (name : List ℕ) 
   pub site : Site
   pub at : ℤ
   pub found : highest_site book table name asked ≡ Ok site
-  pub highest : IsHighestWater book site asked at
+  pub water : IsHighestWater book site asked at
   pub told : answer ≡ text_alone (highest_text_at book site name at zone)
 
 abbrev pub TellsTheHighest : Type 0
@@ -65,7 +65,7 @@ pub record IsTruePeak (book : Book) (table : List Offsets) (bytes : List ℕ) (a
   pub site : Site
   pub written : IsPeakTextOf certificate bytes
   pub asked : highest_site book table certificate.station (asked_of_peak certificate) ≡ Ok site
-  pub highest : IsHighestWater book site (asked_of_peak certificate) certificate.peak.at
+  pub water : IsHighestWater book site (asked_of_peak certificate) certificate.peak.at
   pub value : certificate.peak.value ≡ pos 1000000 *ℤ predicted_level book site.station certificate.peak.at
   pub listing : AcceptsListing (highest book table certificate.station (asked_of_peak certificate) Utc) answer
 
