@@ -211,8 +211,7 @@ peak_accepted again book table name asked certificate is rows askable ok =
     let cert = peak_certificate_by book site name asked in
     let some = was.highest.some in
     let found = highest_unmarked book table name asked site was.expected in
-    let right = verdict_unmarked book site asked (highest_of book site asked) ∙ highest_of_accepted book site asked some in
-    (
+    let right = verdict_unmarked book site asked (highest_of book site asked) ∙ highest_of_accepted book site asked some in (
       peak_judged book site cert Accepted,
       ap (peak_checked book table) was.text ∙ checked_by book table (peak_text cert) cert site (again cert was.sound) found right,
       lists book table name asked site _ _ was.expected (highest_found book site asked some),

@@ -1,46 +1,28 @@
 -- What the answers of a highest water come to: its text, the certificate that is written, and one that is read.
-use Rattle.std.proofs.Common.{◌≡◌, ◌≢◌, ℕ, suc, ◌+◌, ◌<◌, ◌≤◌, ◌^◌, ℤ, pos, ◌+ℤ◌, ◌-ℤ◌, ◌≤ℤ◌, ◌<ℤ◌, unsigned_abs, Bool, true, false, if◌then◌else◌, List, [], ◌∷◌, map, length, length-append, Ok, All, refl, sym, ap, ◌∙◌, arith}
-use Rattle.std.proofs.lemmas.Int.{ints}
+use Rattle.std.proofs.Common.{◌≡◌, ◌≢◌, ℕ, ◌+◌, ◌<◌, ◌≤◌, ◌^◌, ℤ, ◌+ℤ◌, List, [], ◌∷◌, map, length, length-append, Ok, refl, sym, ap, ◌∙◌, arith}
 use Rattle.std.proofs.lemmas.List.{length-map}
-use Rattle.std.proofs.lemmas.List.Elements.{All-nil, All-cons}
 use Rattle.cert_text.specs.Certificates.{IsStationName}
 use Rattle.cert_text.specs.Lines.{last_line}
 use Rattle.cert_text.specs.Texts.{joined}
-use Rattle.curve_law.specs.Meaning.{Meaning, IsLawful}
 use Rattle.decimal_text.specs.declared.limits.TheConstants.{MOST_BYTES}
 use Rattle.harmonics_text.specs.declared.book.Book.{Book}
 use Rattle.highest_water.specs.declared.certificate.PeakCertificate.{PeakCertificate}
 use Rattle.highest_water.specs.declared.peak.Peak.{Peak}
-use Rattle.highest_water.specs.declared.peak_cell.PeakCell.{PeakCell}
-use Rattle.highest_water.specs.declared.peak_cell.PeakCell.TheVariants.{Under, Single}
 use Rattle.highest_water.specs.declared.verdict.PeakVerdict.{PeakVerdict}
 use Rattle.highest_water.specs.declared.verdict.PeakVerdict.TheVariants.{WrongLength, Outside, NotUnder, WrongValue, Above, Accepted}
-use Rattle.highest_water.specs.Covers.{is_under, minutes_of, peak_of}
-use Rattle.highest_water.specs.Peaks.{highest_minute}
-use Rattle.highest_water.specs.PeakTexts.{IsPeakValue, IsPeakCell, IsPeakCertificate, cell_lines_of, peak_cell_line_of, peak_head_lines_of, peak_lines_of, peak_text}
+use Rattle.highest_water.specs.PeakTexts.{IsPeakCertificate, cell_lines_of, peak_cell_line_of, peak_head_lines_of, peak_lines_of, peak_text}
 use Rattle.highest_water.specs.Telling.{verdict_line}
-use Rattle.highest_water.specs.Verdicts.{cell_verdict, cells_verdict, or_next, peak_verdict}
-use Rattle.highest_water.proofs.AcceptedLemmas.{peak_of-accepted}
-use Rattle.highest_water.proofs.FindingLemmas.{highest-small}
-use Rattle.highest_water.proofs.HighestLemmas.{minute-highest}
-use Rattle.highest_water.proofs.UnderLemmas.{under-two, under-few}
-use Rattle.rate_bound.specs.declared.version.Version.TheVariants.{Second}
-use Rattle.rate_bound.specs.Scale.{IsScale}
-use Rattle.rate_bound.specs.Workings.MarkLaw.{mark_lawful}
 use Rattle.station_curve.specs.Limits.{IsGentle}
 use Rattle.station_table.specs.declared.offsets.Offsets.{Offsets}
 use Rattle.zone_time.specs.declared.zone.Zone.{Zone}
-use Rattle.zone_time.specs.Moments.{IsMoment}
 use Rattle.station_span.specs.declared.asked.Asked.{Asked}
 use Rattle.station_span.specs.declared.station.Found.{Found}
 use Rattle.station_span.specs.Peaks.{highest_of, highest_site}
 use Rattle.station_span.specs.Sites.{Site}
-use Rattle.station_span.specs.Workings.Levels.{source_of}
-use Rattle.station_span.specs.Workings.Peaks.{HasHighest, IsHighestFound, IsSourceIn, source_count, tide_levels, tide_peak, tide_verdict}
+use Rattle.station_span.specs.Workings.Peaks.{HasHighest, IsHighestFound, IsSourceIn, tide_peak, tide_verdict}
 use Rattle.station_span.specs.Workings.Spans.{AreMoments, IsNear}
 use Rattle.station_span.proofs.LevelLemmas.{site_level}
-use Rattle.station_span.proofs.PeakLemmas.{source_minute}
-use Rattle.station_span.proofs.SpanLemmas.{file_minute}
+use Rattle.station_span.proofs.PeakLemmas.{accepted_certificate, source_minute, tide_peak_accepted}
 use Rattle.tide_answer.specs.declared.text.Answer.{Answer}
 use Rattle.tide_answer.specs.Answers.{highest, highest_text_at, peak_certified, peak_judged, text_accepted, text_alone, text_rejected}
 use Rattle.tide_answer.specs.Asking.{asked_of_peak}
@@ -68,97 +50,10 @@ pub certified_whole : (book : Book) (table : List Offsets) (name : List ℕ) (as
 unfolding peak_certified
 certified_whole book table name asked site found peak expected is same = rw (expected, same, is.peak) refl
 
--- the cells that are accepted have lines
-under_accepted : (under : Bool) (number : ℕ) → (if under then Accepted else NotUnder number) ≡ Accepted → under ≡ true
-under_accepted true number ok = refl
-under_accepted false number ok = absurd cc
-
-cell_accepted : (c : Meaning) (at value a : ℤ) (number : ℕ) (cell : PeakCell) → cell_verdict c at value a number cell ≡ Accepted → IsPeakCell cell
-unfolding cell_verdict
-cell_accepted c at value a number (Under n) ok =
-    let under = under_accepted (is_under c at value a n) number ok in
-    (under-two c at value a n under, under-few c at value a n under)
-cell_accepted c at value a number Single ok = tt
-
-both_accepted : (first rest : PeakVerdict) → or_next first rest ≡ Accepted → (first ≡ Accepted) × (rest ≡ Accepted)
-both_accepted Accepted rest ok = (refl, ok)
-both_accepted (WrongLength covered wanted) rest ok = absurd cc
-both_accepted Outside rest ok = absurd cc
-both_accepted (NotUnder cell) rest ok = absurd cc
-both_accepted (WrongValue written computed) rest ok = absurd cc
-both_accepted (Above cell) rest ok = absurd cc
-
-cells_accepted : (c : Meaning) (at value a : ℤ) (number : ℕ) (cells : List PeakCell) → cells_verdict c at value a number cells ≡ Accepted → All IsPeakCell cells
-unfolding cells_verdict
-cells_accepted c at value a number [] ok = All-nil IsPeakCell
-cells_accepted c at value a number (cell ∷ cells) ok =
-    let both = both_accepted (cell_verdict c at value a number cell) _ ok in
-    All-cons IsPeakCell cell cells (cell_accepted c at value a number cell both.0)
-    (cells_accepted c at value (a +ℤ pos (minutes_of cell)) (suc number) cells both.1)
-
-then_accepted : (whole inside : Bool) (cells : PeakVerdict) (covered wanted : ℤ) → (if whole then (if inside then cells else Outside) else WrongLength covered wanted) ≡ Accepted → cells ≡ Accepted
-then_accepted true true cells covered wanted ok = ok
-then_accepted true false cells covered wanted ok = absurd cc
-then_accepted false inside cells covered wanted ok = absurd cc
-
-peak_cells : (c : Meaning) (a : ℤ) (n : ℕ) (peak : Peak) → peak_verdict c a n peak ≡ Accepted → All IsPeakCell peak.cells
-unfolding peak_verdict
-peak_cells c a n peak ok = cells_accepted c peak.at peak.value a 1 peak.cells (then_accepted _ _ _ _ _ ok)
-
-peak_value : (c : Meaning) (a : ℤ) (n : ℕ) → IsLawful c → c.first ≤ℤ a → (a +ℤ pos n) ≤ℤ c.last → 1 ≤ n → IsPeakValue (peak_of c a n).value
-unfolding peak_of
-peak_value c a n lawful first last some = highest-small c a (a +ℤ pos n) (highest_minute c a n) _ lawful first last (minute-highest c a n some)
-
--- the levels of a tide within the limits, over the minutes that are moved into the span
-levels_lawful : (found : Found) → IsGentle found.curve → IsLawful (tide_levels found)
-levels_lawful found gentle =
-    let scale : IsScale (pos 1000000) (pos 0) (pos 0) = record {
-      times_least = omega (arith, ints);
-      times_most = omega (arith, ints);
-      plus_least = omega (arith, ints);
-      plus_most = omega (arith, ints);
-      mark_least = omega (arith, ints);
-      mark_most = omega (arith, ints);
-    } in
-    mark_lawful Second found.curve (pos 1000000) (pos 0) (pos 0) true gentle scale
-
-some_source : (begin end add : ℤ) → begin <ℤ end → 1 ≤ unsigned_abs ((end -ℤ add) -ℤ (begin -ℤ add))
-some_source begin end add some = omega (arith, ints)
-
-last_source : (begin end add : ℤ) → begin <ℤ end → (begin -ℤ add) +ℤ pos (unsigned_abs ((end -ℤ add) -ℤ (begin -ℤ add))) ≡ end -ℤ add
-last_source begin end add some = omega (arith, ints)
-
-tide_value : (found : Found) (asked : Asked) → HasHighest found asked → IsGentle found.curve → IsPeakValue (tide_peak found asked).value
-unfolding tide_peak
-tide_value found asked has gentle =
-    peak_value (tide_levels found) (source_of found asked.begin) (source_count found asked) (levels_lawful found gentle)
-    has.levels.first.inside.least (rw (last_source asked.begin asked.end found.basis.high.add has.some) has.levels.last.inside.most)
-    (some_source asked.begin asked.end found.basis.high.add has.some)
-
-tide_cells : (found : Found) (asked : Asked) → HasHighest found asked → All IsPeakCell (tide_peak found asked).cells
-unfolding tide_peak
-tide_cells found asked has =
-    peak_cells (tide_levels found) (source_of found asked.begin) (source_count found asked) _
-    (peak_of-accepted (tide_levels found) (source_of found asked.begin) (source_count found asked)
-    (some_source asked.begin asked.end found.basis.high.add has.some))
-
-source_moment : (found : Found) (asked : Asked) (at : ℤ) → HasHighest found asked → IsSourceIn found asked at → IsMoment at
-source_moment found asked at has inside =
-    let level = source_minute found asked at has inside in
-    let file = file_minute found.curve.first_year (length found.curve.years) _ level.years level.inside in
-    let least = file.least in
-    let most = file.most in
-    record { first = omega (arith, ints); last = omega (arith, ints) }
-
-pub certificate_sound : (name : List ℕ) (asked : Asked) (found : Found) (peak : Peak) → IsStationName name → AreMoments asked → HasHighest found asked → IsGentle found.curve → peak ≡ tide_peak found asked → IsSourceIn found asked peak.at → IsPeakCertificate (peak_certificate_in name asked peak)
-certificate_sound name asked found peak named moments has gentle same inside = record {
-  station = named;
-  begin = moments.begin;
-  end = moments.end;
-  at = source_moment found asked peak.at has inside;
-  value = rw same (tide_value found asked has gentle);
-  cells = rw same (tide_cells found asked has);
-}
+-- the parts of one that is found lie within their ranges
+pub certificate_sound : (name : List ℕ) (asked : Asked) (found : Found) (peak : Peak) → IsStationName name → AreMoments asked → HasHighest found asked → IsGentle found.curve → peak ≡ tide_peak found asked → IsPeakCertificate (peak_certificate_in name asked peak)
+certificate_sound name asked found peak named moments has gentle same =
+    accepted_certificate name asked found peak named moments gentle has (rw same (tide_peak_accepted found asked has))
 
 -- ---- a certificate that is read
 

@@ -5,7 +5,7 @@ pub write_peak-requires : goal.write_peak-requires
 write_peak-requires c =
     let exact = c.in_ok-found.ensures.exact in
     rw (c.certificate_of-cert.ensures, c.in_ok-copy.ensures)
-    (certificate_sound c.args.name.now c.args.asked.now c.in_ok-found.found c.in_ok-peak.peak c.in_ok-found.ensures.named c.requires.moments exact.2.highest exact.2.gentle c.in_ok-peak.ensures.exact c.in_ok-peak.ensures.inside)
+    (certificate_sound c.args.name.now c.args.asked.now c.in_ok-found.found c.in_ok-peak.peak c.in_ok-found.ensures.named c.requires.moments exact.2.highest exact.2.gentle c.in_ok-peak.ensures.exact)
 
 pub returns-clause-exact : goal.returns-clause-exact
 returns-clause-exact c =
