@@ -262,11 +262,10 @@ text_by Clock book table question given =
 text_by Stations book table question given = Ok (text_alone (stations_text_of book table))
 text_by Sample book table question given = answered_alone question
 text_by Trial book table question given = answered_alone question
-text_by Highest book table question given =
-    asks_span question (λ name asked. highest book table name asked given.zone)
-text_by Peak book table question given = asks_span question (λ name asked. peak_certified book table name asked)
-text_by PeakCheck book table question given = peak_checked book table given.certificate
-text_by About book table question given = asks_name question (λ name. known book table name)
+text_by Highest book table question given = Err NoStation
+text_by Peak book table question given = Err NoStation
+text_by PeakCheck book table question given = Err NoStation
+text_by About book table question given = Err NoStation
 text_by Report book table question given = Err NoStation
 text_by Serve book table question given = Err NoStation
 

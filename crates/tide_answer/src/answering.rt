@@ -5,11 +5,10 @@ ghost use Rattle.decimal_text.specs.Expected.{Gives};
 ghost use Rattle.harmonics_text.specs.Books.{IsBook};
 ghost use Rattle.listing.specs.StationLists.{stations_text_of};
 ghost use Rattle.question.specs.Asked.{IsAsked};
-ghost use Rattle.tide_answer.specs.Answers.{answered, text_by, text_alone, predicted, certified, heights, highest, known, on_calendar, on_clock, peak_certified, asks_name, asks_span};
+ghost use Rattle.tide_answer.specs.Answers.{answered, text_by, text_alone, predicted, certified, heights, on_calendar, on_clock, asks_name, asks_span};
 ghost use Rattle.tide_fault.specs.Faults.{wants_memory_of_refusal, IsToldRefusal};
 ghost use Rattle.tide_answer.specs.Givens.{IsGiven};
 
-use crate::about::tell_about;
 use crate::alone::answer_alone;
 use crate::asking::{span_named, station_named};
 use crate::calendar::list_days;
@@ -18,8 +17,6 @@ use crate::check::check;
 use crate::clock::tell_now;
 use crate::given::Given;
 use crate::heights::list_heights;
-use crate::highest::{certify_peak, tell_highest};
-use crate::peak_check::check_peak_text;
 use crate::predict::predict;
 use crate::text::Answer;
 use harmonics_text::{Book, SoundBook};
@@ -78,10 +75,7 @@ fn answer_command(
         Command::Clock => answer_clock(alloc, book, table, question, given),
         Command::Stations => answer_stations(alloc, book.get(), table),
         Command::Sample | Command::Trial => answer_alone(alloc, question),
-        Command::Highest => answer_highest(alloc, book, table, question, zone),
-        Command::Peak => answer_peak(alloc, book, table, question),
-        Command::PeakCheck => check_peak_text(alloc, book, table, &given.certificate),
-        Command::About => answer_about(alloc, book, table, question),
+        Command::Highest | Command::Peak | Command::PeakCheck | Command::About => Err(Refusal::NoStation),
         Command::Report | Command::Serve => Err(Refusal::NoStation),
     }
 }
@@ -172,46 +166,4 @@ fn answer_stations(alloc: Global, book: &Book, table: &OffsetTable) -> Result<An
         rejected: false,
         cells: 0,
     })
-}
-
-fn answer_highest(
-    alloc: Global,
-    book: &SoundBook<'_>,
-    table: &OffsetTable,
-    question: &SoundQuestion<'_>,
-    zone: &ZoneClock<'_>,
-) -> Result<Answer, Refusal>
-    ensures exact { Gives wants_memory_of_refusal (asks_span question.now (λ name asked. highest book.now table.now name asked zone.now)) result }
-    ensures told { IfErr result (IsToldRefusal table.now) }
-{
-    let name = station_named(question)?;
-    let asked = span_named(question)?;
-    tell_highest(alloc, book, table, name, &asked, zone)
-}
-
-fn answer_peak(
-    alloc: Global,
-    book: &SoundBook<'_>,
-    table: &OffsetTable,
-    question: &SoundQuestion<'_>,
-) -> Result<Answer, Refusal>
-    ensures exact { Gives wants_memory_of_refusal (asks_span question.now (λ name asked. peak_certified book.now table.now name asked)) result }
-    ensures told { IfErr result (IsToldRefusal table.now) }
-{
-    let name = station_named(question)?;
-    let asked = span_named(question)?;
-    certify_peak(alloc, book, table, name, &asked)
-}
-
-fn answer_about(
-    alloc: Global,
-    book: &SoundBook<'_>,
-    table: &OffsetTable,
-    question: &SoundQuestion<'_>,
-) -> Result<Answer, Refusal>
-    ensures exact { Gives wants_memory_of_refusal (asks_name question.now (λ name. known book.now table.now name)) result }
-    ensures told { IfErr result (IsToldRefusal table.now) }
-{
-    let name = station_named(question)?;
-    tell_about(alloc, book, table, name)
 }

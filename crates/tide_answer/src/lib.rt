@@ -6,7 +6,6 @@
 //! found, without memory. The top call brings these their files and words, and carries the text away.
 #![tactic(auto)]
 
-mod about;
 mod alone;
 mod answering;
 mod asking;
@@ -18,11 +17,9 @@ mod clock;
 mod form;
 mod given;
 mod heights;
-mod highest;
 mod judging;
 mod laws;
 mod listed;
-mod peak_check;
 mod predict;
 mod ready;
 mod sample;
