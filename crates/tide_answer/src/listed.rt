@@ -38,7 +38,6 @@ pub struct Listed {
 /// # Errors
 /// Each [`Refusal`] exactly where `specs/Answers.antt` has it; [`Refusal::NoMemory`] says nothing
 /// of the question.
-#[tactic(auto, unfolding(crate::specs::Answers::listed))]
 pub fn station_events(
     alloc: Global,
     book: &Book,
@@ -55,12 +54,13 @@ pub fn station_events(
     ensures units { IfOk result (λ listed. listed.units ≢ Units.KnotsSquared) }
     ensures name { IfOk result (λ listed. All (λ b. (32 ≤ b) × (b ≢ 127)) listed.name) }
 {
+    table.known();
     let question = SoundQuestion::new(question);
     let name = station_named(&question)?;
     let asked = span_named(&question)?;
     let found = list_station(alloc, &SoundBook::new(book), table, name, &asked)?;
     Ok(Listed {
-        name: name.copy(alloc)?,
+        name: name.copy()?,
         units: found.units,
         events: found.events,
     })
