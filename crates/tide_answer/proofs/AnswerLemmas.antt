@@ -77,7 +77,7 @@ pub asks_whole : (question : Question) (next : List ℕ → Asked → Result Ans
 unfolding asks_span
 asks_whole question next name asked named spans = rw (named, spans) refl
 
-excused_by : {A : Type 0} (memory : Bool) (expected : Result A Refusal) (refusal : Refusal) → expected ≡ Err refusal → Excused memory expected refusal
+pub excused_by : {A : Type 0} (memory : Bool) (expected : Result A Refusal) (refusal : Refusal) → expected ≡ Err refusal → Excused memory expected refusal
 excused_by true expected refusal e = tt
 excused_by false expected refusal e = e
 

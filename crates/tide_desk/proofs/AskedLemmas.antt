@@ -20,15 +20,17 @@ use Rattle.question.specs.Keys.{all_keys, has_key, key_named, name_of}
 use Rattle.question.specs.Questions.{Said, nothing_said, also, refuse_if, has_form, command_of, with_item, with_items, missing_key, complete, asked, question_of}
 use Rattle.question.specs.Words.{pairs_of}
 use Rattle.question.proofs.FormLemmas.{moment_of-range, mark_of-range}
+use Rattle.report_sheets.specs.Pages.{missing_of}
+use Rattle.report_sheets.specs.Sheets.{SheetMeaning}
 use Rattle.zone_time.specs.Moments.{IsMoment, moment_of}
 use Rattle.station_span.specs.declared.asked.Asked.{Asked}
 use Rattle.tide_fault.specs.declared.refusal.Refusal.{Refusal}
 use Rattle.tide_answer.specs.declared.text.Answer.{Answer}
-use Rattle.tide_answer.specs.Answers.{asks_span, built, named_by}
+use Rattle.tide_answer.specs.Answers.{asks_span, named_by}
 use Rattle.tide_answer.specs.Asking.{asked_by}
 use Rattle.tide_answer.specs.Laws.{IsAskable}
 use Rattle.station_span.proofs.SiteLemmas.{then_ok}
-use Rattle.tide_desk.specs.Answers.{asked_of, ask_from, asks_to_serve, question_in, refused_from}
+use Rattle.tide_desk.specs.Answers.{asked_of, ask_from, asks_to_serve, known_in, question_in, wanted_by}
 
 -- ---- the question of pairs
 
@@ -55,12 +57,12 @@ unserved : (serves : Bool) (asked : Result Question AskFault) (question : Questi
 unserved true asked question ok = absurd cc
 unserved false asked question ok = ok
 
-words_ask : (words : List (List ℕ)) (question : Question) → asked_of words ≡ Ok question → WasAsked (pairs_of words) question
+words_ask : (sheets : List SheetMeaning) (words : List (List ℕ)) (question : Question) → asked_of sheets words ≡ Ok question → WasAsked (pairs_of words) question
 unfolding asked_of
-words_ask words question ok =
+words_ask sheets words question ok =
     let asked = then_ok (ask_from (question_in (pairs_of words))) _ question ok in
-    let is = then_ok (refused_from (built asked.0)) _ question asked.2 in
-    let same : asked.0 ≡ question = (let last = is.2 in cc) in
+    let known = then_ok (known_in (wanted_by asked.0) (missing_of sheets (wanted_by asked.0))) _ question asked.2 in
+    let same : asked.0 ≡ question = (let last = known.2 in cc) in
     pairs_ask (pairs_of words) question
     (unserved (asks_to_serve (pairs_of words)) (question_of (pairs_of words)) question
     (ask_ok (question_in (pairs_of words)) question (asked.1 ∙ ap (λ (q : Question). Ok q) same)))
@@ -76,9 +78,9 @@ value_in_range : {V : Type 0} (P : V → Type 0) (form : List ℕ → Option V) 
 value_in_range P form None range v is = absurd cc
 value_in_range P form (Some text) range v is = range text v is
 
-pub asked_in_range : (words : List (List ℕ)) (question : Question) → asked_of words ≡ Ok question → IsInRange question
-asked_in_range words question ok =
-    let was = words_ask words question ok in
+pub asked_in_range : (sheets : List SheetMeaning) (words : List (List ℕ)) (question : Question) → asked_of sheets words ≡ Ok question → IsInRange question
+asked_in_range sheets words question ok =
+    let was = words_ask sheets words question ok in
     subst IsInRange was.is (record {
       begin = value_in_range IsMoment moment_of (was.said key.Begin) moment_of-range;
       end = value_in_range IsMoment moment_of (was.said key.End) moment_of-range;
@@ -136,9 +138,9 @@ items_unsaid (item ∷ items) place said more ok none =
     let one = then_ok (with_item Line Predict place item said) _ more ok in
     items_unsaid items (place + 1) one.0 more one.2 (item_unsaid place item said one.0 one.1 none)
 
-pub predict_names_none : (words : List (List ℕ)) (question : Question) → asked_of words ≡ Ok question → question.command ≡ Predict → question.certificate ≡ None
-predict_names_none words question ok is =
-    let was = words_ask words question ok in
+pub predict_names_none : (sheets : List SheetMeaning) (words : List (List ℕ)) (question : Question) → asked_of sheets words ≡ Ok question → question.command ≡ Predict → question.certificate ≡ None
+predict_names_none sheets words question ok is =
+    let was = words_ask sheets words question ok in
     let command : was.command ≡ Predict = ap (λ (q : Question). q.command) was.is ∙ is in
     let none = items_unsaid (pairs_of words).items 1 nothing_said was.said (rw command at was.items) refl in
     ap (λ (q : Question). q.certificate) (sym was.is) ∙ ap (option_and_then some_text) none

@@ -1,5 +1,5 @@
 -- What certificates come to over files and words.
-use Rattle.std.proofs.Common.{◌≡◌, ℕ, ℤ, ◌≤◌, List, [], ◌∷◌, length, length-append, Option, Some, None, Ok, refl, subst, sym, ap, ◌∙◌, arith}
+use Rattle.std.proofs.Common.{◌≡◌, ℕ, ℤ, ◌≤◌, false, List, [], ◌∷◌, length, length-append, Option, Some, None, Ok, refl, subst, sym, ap, ◌∙◌, arith}
 use Rattle.std.specs.Prelude.{IsSomeAnd}
 use Rattle.cert_text.specs.declared.certificate.Certificate.{Certificate}
 use Rattle.cert_text.specs.Lines.{ended, joined}
@@ -10,15 +10,16 @@ use Rattle.question.specs.declared.command.Command.TheVariants.{Predict, Certify
 use Rattle.question.specs.declared.question.Layout.{Layout}
 use Rattle.question.specs.declared.question.Layout.TheVariants.{Plain}
 use Rattle.question.specs.declared.question.Question.{Question}
+use Rattle.report_sheets.specs.Sheets.{SheetMeaning}
 use Rattle.zone_time.specs.declared.zone.Zone.{Zone}
 use Rattle.station_span.specs.declared.asked.Asked.{Asked}
 use Rattle.tide_answer.specs.declared.given.Given.{Given}
 use Rattle.tide_answer.specs.declared.text.Answer.{Answer}
-use Rattle.tide_answer.specs.Answers.{built, certified, checked, predicted, text_by}
+use Rattle.tide_answer.specs.Answers.{certified, checked, predicted, text_by}
 use Rattle.tide_answer.specs.Asking.{asked_in}
 use Rattle.tide_answer.specs.Laws as books
 use Rattle.named_files.specs.declared.materials.Materials.{Materials}
-use Rattle.tide_desk.specs.Answers.{answer_of, answered_by, given_with, minute_for}
+use Rattle.tide_desk.specs.Answers.{answer_of, answered_by, given_with, is_report, minute_for}
 use Rattle.tide_desk.specs.Laws.{Asks, Subject, subject_in, subject_of, AsksListing, HaveSameBook, HoldsCertificate, AcceptsWithListing, AcceptsWhatCertifyAnswers, AcceptsOnlyTrueCertificates}
 use Rattle.tide_edge.specs.FileStates.{Folder}
 use Rattle.named_files.specs.Readings.{book_named, table_named, zone_named, certificate_named}
@@ -29,18 +30,10 @@ use Rattle.decimal_text.specs.declared.limits.TheConstants.{MOST_BYTES}
 -- ---- what the commands are
 
 certify_reads : (question : Question) → question.command ≡ Certify → ReadsFiles question
-certify_reads question is seed = rw is refl
+certify_reads question is = record { alone = λ seed. rw is refl; plain = ap is_report is }
 
 check_reads : (question : Question) → question.command ≡ Check → ReadsFiles question
-check_reads question is seed = rw is refl
-
-check_built : (question : Question) → question.command ≡ Check → built question ≡ Ok tt
-unfolding built
-check_built question is = rw is refl
-
-predict_built : (question : Question) → question.command ≡ Predict → built question ≡ Ok tt
-unfolding built
-predict_built question is = rw is refl
+check_reads question is = record { alone = λ seed. rw is refl; plain = ap is_report is }
 
 text_at : (command other : Command) (read : Materials) (question : Question) (given : Given) (answer : Answer) → command ≡ other → text_by command read.book read.table question given ≡ Ok answer → text_by other read.book read.table question given ≡ Ok answer
 text_at command other read question given answer same ok =
@@ -71,10 +64,10 @@ listing_text question read minute name asked listing command layout names is =
     ∙ ap (λ (l : Layout). predicted read.book read.table name asked l read.zone) layout
     ∙ is
 
-listed : (folder : Folder) (check question : Question) (subject : Subject) (file name : List ℕ) (asked : Asked) (read : Materials) (listing : Answer) (minute : ℤ) → check.file ≡ Some file → WasRead folder check file read → IsSubject subject name asked → predicted read.book read.table name asked Plain read.zone ≡ Ok listing → AsksListing check subject question → question.certificate ≡ None → answered_by (λ slot. folder) minute question question.file ≡ Ok listing
+listed : (sheets : List SheetMeaning) (folder : Folder) (check question : Question) (subject : Subject) (file name : List ℕ) (asked : Asked) (read : Materials) (listing : Answer) (minute : ℤ) → check.file ≡ Some file → WasRead folder check file read → IsSubject subject name asked → predicted read.book read.table name asked Plain read.zone ≡ Ok listing → AsksListing check subject question → question.certificate ≡ None → answered_by sheets (λ slot. folder) minute question question.file ≡ Ok listing
 unfolding certificate_named
-listed folder check question subject file name asked read listing minute named was about is asks none =
-    is_answered folder minute question listing (predict_built question asks.command) (record {
+listed sheets folder check question subject file name asked read listing minute named was about is asks none =
+    is_answered sheets folder minute question listing (ap is_report asks.command) (record {
       name = file;
       file = asks.files.file ∙ named;
       read = record read { certificate = [] };
@@ -87,16 +80,16 @@ listed folder check question subject file name asked read listing minute named w
       text = listing_text question (record read { certificate = [] }) minute name asked listing asks.command asks.layout (names_subject question subject name asked asks.about about) is;
     })
 
-with_listing : (folder : Folder) (check : Question) (subject : Subject) (file name : List ℕ) (asked : Asked) (read : Materials) (answer : Answer) → check.file ≡ Some file → WasRead folder check file read → IsSubject subject name asked → books.AcceptsListing (predicted read.book read.table name asked Plain read.zone) answer → AcceptsWithListing folder check subject answer
-with_listing folder check subject file name asked read answer named was about accepts =
+with_listing : (sheets : List SheetMeaning) (folder : Folder) (check : Question) (subject : Subject) (file name : List ℕ) (asked : Asked) (read : Materials) (answer : Answer) → check.file ≡ Some file → WasRead folder check file read → IsSubject subject name asked → books.AcceptsListing (predicted read.book read.table name asked Plain read.zone) answer → AcceptsWithListing sheets folder check subject answer
+with_listing sheets folder check subject file name asked read answer named was about accepts =
     let to_question = λ (minute : ℤ) (question : Question) (asks : AsksListing check subject question) (none : question.certificate ≡ None).
-    listed folder check question subject file name asked read accepts.0 minute named was about accepts.1 asks none in
+    listed sheets folder check question subject file name asked read accepts.0 minute named was about accepts.1 asks none in
     record {
-      listing = accepts.0;
+      shown = accepts.0;
       text = accepts.2;
       to_words = λ minute words question is asks.
-          words_answer folder minute words question is
-          ∙ to_question minute question asks (predict_names_none words question is asks.command);
+          words_answer sheets folder minute words question is
+          ∙ to_question minute question asks (predict_names_none sheets words question is asks.command);
       to_question = to_question;
     }
 
@@ -113,9 +106,9 @@ record IsCertified (folder : Folder) (question : Question) (certificate : Answer
   pub names : NamesSpan question name asked
   pub text : certified read.book read.table name asked ≡ Ok certificate
 
-was_certified : (folder : Folder) (minute : ℤ) (words : List (List ℕ)) (question : Question) (certificate : Answer) → Asks words Certify question → answer_of folder minute words ≡ Ok certificate → IsCertified folder question certificate
-was_certified folder minute words question certificate asks ok =
-    let was = was_answered folder minute words question certificate asks.asked (certify_reads question asks.is) ok in
+was_certified : (sheets : List SheetMeaning) (folder : Folder) (minute : ℤ) (words : List (List ℕ)) (question : Question) (certificate : Answer) → Asks sheets words Certify question → answer_of sheets folder minute words ≡ Ok certificate → IsCertified folder question certificate
+was_certified sheets folder minute words question certificate asks ok =
+    let was = was_answered sheets folder minute words question certificate asks.asked (certify_reads question asks.is) ok in
     let text = text_at question.command Certify was.read question (given_with was.read (minute_for question.command minute)) certificate asks.is was.text in
     let over = went_over_span question (λ name asked. certified was.read.book was.read.table name asked) certificate text in
     record {
@@ -159,10 +152,10 @@ checked_files before after certify check certificate zone was has few holds show
   certificate = certificate_there after check.certificate certificate.text holds.certificate few;
 }
 
-checks : (folder : Folder) (minute : ℤ) (words : List (List ℕ)) (check : Question) (file : List ℕ) (read : Materials) (answer : Answer) → Asks words Check check → check.file ≡ Some file → WasRead folder check file read → checked read.book read.table read.certificate read.zone ≡ Ok answer → answer_of folder minute words ≡ Ok answer
-checks folder minute words check file read answer asks named was ok =
-    words_answer folder minute words check asks.asked
-    ∙ is_answered folder minute check answer (check_built check asks.is)
+checks : (sheets : List SheetMeaning) (folder : Folder) (minute : ℤ) (words : List (List ℕ)) (check : Question) (file : List ℕ) (read : Materials) (answer : Answer) → Asks sheets words Check check → check.file ≡ Some file → WasRead folder check file read → checked read.book read.table read.certificate read.zone ≡ Ok answer → answer_of sheets folder minute words ≡ Ok answer
+checks sheets folder minute words check file read answer asks named was ok =
+    words_answer sheets folder minute words check asks.asked
+    ∙ is_answered sheets folder minute check answer (ap is_report asks.is)
     (record {
       name = file;
       file = named;
@@ -172,11 +165,11 @@ checks folder minute words check file read answer asks named was ok =
     })
 
 pub certified_accepted : books.AcceptsWhatIsCertified → books.CertifiesInShort → AcceptsWhatCertifyAnswers
-certified_accepted accepts shortens before after minute later words more certify check certificate zone asks ok asks_check holds shown =
-    let was = was_certified before minute words certify certificate asks ok in
+certified_accepted accepts shortens sheets before after minute later words more certify check certificate zone asks ok asks_check holds shown =
+    let was = was_certified sheets before minute words certify certificate asks ok in
     let book = named_book before was.file was.read.book was.files.book in
     let table = named_table before certify.offsets was.read.table was.files.table in
-    let can = askable certify was.name was.asked (asked_in_range words certify asks.asked) was.names in
+    let can = askable certify was.name was.asked (asked_in_range sheets words certify asks.asked) was.names in
     let short = shortens was.read.book was.read.table was.name was.asked certificate book table can was.text in
     let has = has_book before after certify check certificate was holds.file in
     let files = checked_files before after certify check certificate zone was has (omega (arith, short)) holds shown in
@@ -185,8 +178,8 @@ certified_accepted accepts shortens before after minute later words more certify
     let subject : IsSubject (subject_of certify) was.name was.asked =
     record { station = was.names.station; begin = was.names.begin; end = was.names.end; mark = was.names.mark } in (
       accepted.0,
-      checks after later more check has.name read accepted.0 asks_check has.named files accepted.1,
-      with_listing after check (subject_of certify) has.name was.name was.asked read accepted.0 has.named files subject accepted.2,
+      checks sheets after later more check has.name read accepted.0 asks_check has.named files accepted.1,
+      with_listing sheets after check (subject_of certify) has.name was.name was.asked read accepted.0 has.named files subject accepted.2,
     )
 
 -- ---- what check accepts is true
@@ -205,8 +198,8 @@ named_read : (folder : Folder) (file : Option (List ℕ)) (name : List ℕ) (boo
 named_read folder file name book named ok = rw named ok
 
 pub accepted_true : books.AcceptsOnlyWhatIsTrue → AcceptsOnlyTrueCertificates
-accepted_true tells folder minute words check answer asks ok accepted =
-    let was = was_answered folder minute words check answer asks.asked (check_reads check asks.is) ok in
+accepted_true tells sheets folder minute words check answer asks ok accepted =
+    let was = was_answered sheets folder minute words check answer asks.asked (check_reads check asks.is) ok in
     let read = was.read in
     let judged = text_at check.command Check read check (given_with read (minute_for check.command minute)) answer asks.is was.text in
     let is_true = tells read.book read.table read.certificate read.zone answer
@@ -222,6 +215,6 @@ accepted_true tells folder minute words check answer asks ok accepted =
       shown = was.files.zone;
       held = certificate_held folder check.certificate read.certificate was.files.certificate (text_some cert read.certificate is_true.written);
       is_true = is_true;
-      listing = with_listing folder check (subject_in cert) was.name cert.station (asked_in cert) read answer was.file was.files
+      listing = with_listing sheets folder check (subject_in cert) was.name cert.station (asked_in cert) read answer was.file was.files
           (record { station = refl; begin = refl; end = refl; mark = refl }) is_true.listing;
     }

@@ -5,4 +5,5 @@ pub mod FileLemmas
 pub mod MemoryLemmas
 pub mod OutcomeLemmas
 pub mod ReplyLemmas
+pub mod SheetLemmas
 pub mod TableLemmas

@@ -132,7 +132,7 @@ unfoldable pub answered_over : List SheetMeaning → Folders → ℤ → Questio
 answered_over sheets folders minute question name = do
   read ← files_in folders question name
   refused_over read.table
-    (answered_with (is_report question.command) sheets read.book read.table question (given_with read (minute_for question.command minute)))
+      (answered_with (is_report question.command) sheets read.book read.table question (given_with read (minute_for question.command minute)))
 
 -- a question that names no file is answered alone
 abbrev pub answered_by : List SheetMeaning → Folders → ℤ → Question → Option (List ℕ) → Result Answer NoAnswer
