@@ -1,12 +1,13 @@
 -- What is known of a question that words ask.
 use Rattle.std.proofs.Common.{◌≡◌, ℕ, ◌+◌, ℤ, ◌≤◌, Bool, true, false, cond, not, ◌&&◌, List, [], ◌∷◌, Option, Some, None, is_some, Result, Ok, Err, refl, subst, sym, ap, ◌∙◌}
-use Rattle.std.specs.Prelude.{option_and_then, unsigned_abs}
+use Rattle.std.specs.Prelude.{option_and_then, unsigned_abs, unwrap_or}
 use Rattle.std.specs.List.{find}
 use Rattle.std.specs.Option.{ForSome, ok_or}
 use Rattle.std.specs.Str.{bytes_eq}
 use Rattle.std.proofs.lemmas.Bool.{and_parts}
+use Rattle.std.proofs.lemmas.Slice.Eq.{bytes_eq-Decides}
+use Rattle.curve_law.proofs.CoverLemmas.{by_test}
 use Rattle.question.specs.declared.command.Command.{Command}
-use Rattle.question.specs.declared.command.Command.TheVariants.{Predict}
 use Rattle.question.specs.declared.fault.AskFault.{AskFault}
 use Rattle.question.specs.declared.fault.AskFault.TheVariants.{UnknownCommand, NotAPair, UnknownKey, RepeatedKey, BadValue}
 use Rattle.question.specs.declared.key.Key.{Key}
@@ -15,7 +16,8 @@ use Rattle.question.specs.declared.origin.Origin.TheVariants.{Line}
 use Rattle.question.specs.declared.pairs.Item.{Item}
 use Rattle.question.specs.declared.pairs.Pairs.{Pairs}
 use Rattle.question.specs.declared.question.Question.{Question}
-use Rattle.question.specs.Forms.{mark_of, some_text}
+use Rattle.question.specs.declared.question.ZoneWord.TheVariants.{Utc}
+use Rattle.question.specs.Forms.{mark_of, some_text, zone_of}
 use Rattle.question.specs.Keys.{all_keys, has_key, key_named, name_of}
 use Rattle.question.specs.Questions.{Said, nothing_said, also, refuse_if, has_form, command_of, with_item, with_items, missing_key, complete, asked, question_of}
 use Rattle.question.specs.Words.{pairs_of}
@@ -87,7 +89,7 @@ asked_in_range sheets words question ok =
       mark = value_in_range (λ millionths. unsigned_abs millionths ≤ 10000000000) mark_of (was.said key.Mark) mark_of-range;
     })
 
--- ---- words that ask `predict` name no certificate
+-- ---- words name no key that their command hasn't
 
 found_passes : {X : Type 0} (test : X → Bool) (xs : List X) (x : X) → find test xs ≡ Some x → test x ≡ true
 found_passes test [] x is = absurd cc
@@ -101,49 +103,53 @@ got_ok : {A E : Type 0} (o : Option A) (fault : E) (x : A) → ok_or o fault ≡
 got_ok (Some y) fault x ok = cc
 got_ok None fault x ok = absurd cc
 
-abbrev Unsaid : Said → Type 0
-Unsaid said = said key.Certificate ≡ None
+-- the command has no key of that name
+abbrev pub Lacks : Command → Key → Type 0
+Lacks command k = key_named Line command (name_of k) ≡ None
 
-key_unsaid : (k : Key) (text : List ℕ) (said : Said) → has_key Line Predict k ≡ true → Unsaid said → Unsaid (also k text said)
-key_unsaid key.File text said has none = none
-key_unsaid key.Offsets text said has none = none
-key_unsaid key.Certificate text said has none = absurd cc
-key_unsaid key.Station text said has none = none
-key_unsaid key.Begin text said has none = none
-key_unsaid key.End text said has none = none
-key_unsaid key.Mark text said has none = none
-key_unsaid key.Step text said has none = none
-key_unsaid key.Zone text said has none = none
-key_unsaid key.Layout text said has none = none
-key_unsaid key.Seed text said has none = none
-key_unsaid key.Port text said has none = none
-key_unsaid key.Sheets text said has none = none
+key_unsaid : (command : Command) (k new : Key) (name text : List ℕ) (said : Said) → Lacks command k → key_named Line command name ≡ Some new → said k ≡ None → also new text said k ≡ None
+key_unsaid command k new name text said lacks found none = by_test (bytes_eq (name_of k) (name_of new))
+    (λ same.
+    let passes = found_passes (λ k. bytes_eq (name_of k) name && has_key Line command k) all_keys new found in
+    let first = (bytes_eq-Decides (name_of k) (name_of new)).0 same in
+    let second = (bytes_eq-Decides (name_of new) name).0 (and_parts _ _ passes).0 in
+    let never = sym lacks ∙ ap (key_named Line command) (first ∙ second) ∙ found in
+    absurd cc)
+    (λ other. rw other none)
 
-item_unsaid : (place : ℕ) (item : Item) (said more : Said) → with_item Line Predict place item said ≡ Ok more → Unsaid said → Unsaid more
+item_unsaid : (command : Command) (k : Key) (place : ℕ) (item : Item) (said more : Said) → Lacks command k → with_item Line command place item said ≡ Ok more → said k ≡ None → more k ≡ None
 unfolding with_item
-item_unsaid place item said more ok none =
+item_unsaid command k place item said more lacks ok none =
     let text = then_ok (ok_or item.value (NotAPair place)) _ more ok in
-    let k = then_ok (ok_or (key_named Line Predict item.key) (UnknownKey place)) _ more text.2 in
-    let new = then_ok (refuse_if (is_some (said k.0)) (RepeatedKey place)) _ more k.2 in
-    let good = then_ok (refuse_if (not (has_form Line k.0 text.0)) (BadValue place)) _ more new.2 in
-    let same : also k.0 text.0 said ≡ more = (let last = good.2 in cc) in
-    let found = got_ok (key_named Line Predict item.key) (UnknownKey place) k.0 k.1 in
-    let passes = found_passes (λ k. bytes_eq (name_of k) item.key && has_key Line Predict k) all_keys k.0 found in
-    subst Unsaid same (key_unsaid k.0 text.0 said (and_parts _ _ passes).1 none)
+    let new = then_ok (ok_or (key_named Line command item.key) (UnknownKey place)) _ more text.2 in
+    let once = then_ok (refuse_if (is_some (said new.0)) (RepeatedKey place)) _ more new.2 in
+    let good = then_ok (refuse_if (not (has_form Line new.0 text.0)) (BadValue place)) _ more once.2 in
+    let same : also new.0 text.0 said ≡ more = (let last = good.2 in cc) in
+    let found = got_ok (key_named Line command item.key) (UnknownKey place) new.0 new.1 in
+    subst (λ (s : Said). s k ≡ None) same (key_unsaid command k new.0 item.key text.0 said lacks found none)
 
-items_unsaid : (items : List Item) (place : ℕ) (said more : Said) → with_items Line Predict place items said ≡ Ok more → Unsaid said → Unsaid more
+items_unsaid : (command : Command) (k : Key) (items : List Item) (place : ℕ) (said more : Said) → Lacks command k → with_items Line command place items said ≡ Ok more → said k ≡ None → more k ≡ None
 unfolding with_items
-items_unsaid [] place said more ok none = let same : said ≡ more = cc in subst Unsaid same none
-items_unsaid (item ∷ items) place said more ok none =
-    let one = then_ok (with_item Line Predict place item said) _ more ok in
-    items_unsaid items (place + 1) one.0 more one.2 (item_unsaid place item said one.0 one.1 none)
+items_unsaid command k [] place said more lacks ok none = let same : said ≡ more = cc in subst (λ (s : Said). s k ≡ None) same none
+items_unsaid command k (item ∷ items) place said more lacks ok none =
+    let one = then_ok (with_item Line command place item said) _ more ok in
+    items_unsaid command k items (place + 1) one.0 more lacks one.2 (item_unsaid command k place item said one.0 lacks one.1 none)
 
-pub predict_names_none : (sheets : List SheetMeaning) (words : List (List ℕ)) (question : Question) → asked_of sheets words ≡ Ok question → question.command ≡ Predict → question.certificate ≡ None
-predict_names_none sheets words question ok is =
+words_unsaid : (sheets : List SheetMeaning) (words : List (List ℕ)) (question : Question) (command : Command) (k : Key) → asked_of sheets words ≡ Ok question → question.command ≡ command → Lacks command k → (said : Said) × (said k ≡ None) × (asked Line command said ≡ question)
+words_unsaid sheets words question command k ok is lacks =
     let was = words_ask sheets words question ok in
-    let command : was.command ≡ Predict = ap (λ (q : Question). q.command) was.is ∙ is in
-    let none = items_unsaid (pairs_of words).items 1 nothing_said was.said (rw command at was.items) refl in
-    ap (λ (q : Question). q.certificate) (sym was.is) ∙ ap (option_and_then some_text) none
+    let same : was.command ≡ command = ap (λ (q : Question). q.command) was.is ∙ is in
+    (was.said, items_unsaid command k (pairs_of words).items 1 nothing_said was.said lacks (rw same at was.items) refl, rw same at was.is)
+
+pub names_no_certificate : (sheets : List SheetMeaning) (words : List (List ℕ)) (question : Question) (command : Command) → Lacks command key.Certificate → asked_of sheets words ≡ Ok question → question.command ≡ command → question.certificate ≡ None
+names_no_certificate sheets words question command lacks ok is =
+    let was = words_unsaid sheets words question command key.Certificate ok is lacks in
+    ap (λ (q : Question). q.certificate) (sym was.2) ∙ ap (option_and_then some_text) was.1
+
+pub names_no_zone : (sheets : List SheetMeaning) (words : List (List ℕ)) (question : Question) (command : Command) → Lacks command key.Zone → asked_of sheets words ≡ Ok question → question.command ≡ command → question.zone ≡ Utc
+names_no_zone sheets words question command lacks ok is =
+    let was = words_unsaid sheets words question command key.Zone ok is lacks in
+    ap (λ (q : Question). q.zone) (sym was.2) ∙ ap (λ (text : Option (List ℕ)). unwrap_or (option_and_then (zone_of Line) text) Utc) was.1
 
 -- ---- what it names of a span
 
