@@ -1,4 +1,4 @@
--- What certificates of a highest water come to: what is certified is accepted and short, and what is accepted is the highest water of its own question, as is what a question is told (this project).
+-- What certificates of a highest water come to: what is certified is accepted and short, and what is accepted is the highest water of its own question (this project).
 use Rattle.std.specs.Prelude.{◌≡◌, ◌<◌, ℕ, ℤ, pos, ◌+ℤ◌, ◌*ℤ◌, ◌≤ℤ◌, ◌<ℤ◌, false, List, length, Ok}
 use Rattle.harmonics_text.specs.declared.book.Book.{Book}
 use Rattle.harmonics_text.specs.Books.{IsBook}
@@ -59,7 +59,7 @@ PeakCertifiesInShort = (book : Book) (table : List Offsets) (name : List ℕ) (a
     IsBook book → IsTable table → IsAskable asked → peak_certified book table name asked ≡ Ok certificate → length certificate.text < 10542000
 
 -- the bytes are the text of a certificate whose minute has the highest water of its own question, and whose value is a million
--- times the level there; and the answer tells what that question is told
+-- times the reference's level there; and the answer tells what that question is told
 pub record IsTruePeak (book : Book) (table : List Offsets) (bytes : List ℕ) (answer : Answer) : Type 0 where
   pub certificate : PeakCertificate
   pub site : Site

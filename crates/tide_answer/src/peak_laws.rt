@@ -6,8 +6,9 @@ use highest_water::{
     peak_certificates_have_one_text, peak_readings_go_by_the_grammar, peak_texts_are_short,
 };
 
-/// The water that a question is told is the highest of its station's span: the first of the
-/// reference's minutes moved into the span that has their greatest level.
+/// What a question is told is the highest water of its station's span: at the first of the reference's
+/// minutes moved there that has their greatest level. Nowhere in the span is the station's own level
+/// higher than the one that is told.
 pub fn highest_is_told()
     ensures { TellsTheHighest }
 {}
@@ -28,8 +29,8 @@ pub fn peak_certified_is_short()
 }
 
 /// What is accepted as a highest water is one, whoever wrote it: its minute is that of its own
-/// question's highest water, its value the level there, and the answer tells what that question is
-/// told.
+/// question's highest water, its value the reference's level there, and the answer tells what that
+/// question is told.
 pub fn accepted_peak_is_true()
     ensures { AcceptsOnlyTruePeaks }
 {

@@ -14,8 +14,8 @@ pub fn what_peak_answers_is_accepted()
 }
 
 /// Whatever `peakcheck` accepts, whoever wrote it, is true: its minute is that of its own question's
-/// highest water, its value the level there, and the answer tells what `highest` answers to that
-/// question in universal time.
+/// highest water, its value the reference's level there, and the answer tells what `highest` answers to
+/// that question in universal time.
 pub fn what_peakcheck_accepts_is_true()
     ensures { AcceptsOnlyTruePeaks }
 {
