@@ -3,22 +3,24 @@
 mod rows;
 mod sizes;
 
-ghost use Rattle.std.specs.Prelude.{IfOk};
+ghost use Rattle.std.specs.Prelude.{[], IfOk};
 ghost use Rattle.harmonics_text.specs.Books.{IsBook};
 ghost use Rattle.question.specs.Asked.{IsAsked};
 ghost use Rattle.tide_answer.specs.Givens.{IsGiven};
+ghost use Rattle.tide_fault.specs.Faults.{IsTold};
 
 use crate::texts::words_of;
-use decimal_text::Bytes;
+use decimal_text::{Bytes, Text};
 use harmonics_text::{Book, BookFault, read_book};
 use question::{AskFault, Command, Question, SoundQuestion, pairs_of_words, read_question};
-use rows::{ANSWERS, FAULTS, STREAMS, VERDICTS};
+use rows::{ANSWERS, ASK_FAULTS, CUT_SHORT, HALF_SLACK, REFUSALS, STREAMS, VERDICTS};
 use station_span::{worked_levels, worked_spans};
 use station_table::{OffsetFault, OffsetTable, read_offsets};
 use std::alloc::{AllocError, Global};
+use std::process::Abort;
 use std::test::Fail;
 use tide_answer::{
-    Fault, Given, accepted_is_true, answer, answer_alone, answer_into, certified_is_accepted,
+    Fault, Given, Slot, accepted_is_true, answer, answer_alone, answer_into, certified_is_accepted,
     fault_line, fault_status, prepare, worked_rows,
 };
 use tide_edge::MemorySink;
@@ -164,16 +166,43 @@ fn seeds_have_their_trials(rt: HostRuntime) -> Result<(), Fail> {
 const TRIAL: &[u8] = b"seed 0\nstations 40\nminutes 4285440\nevents 10902\ncells 325629\n\
     quiet 237516\naccepted 40\n";
 
+fn assert_told(
+    rt: &impl Abort,
+    alloc: Global,
+    fault: &Fault,
+    status: u8,
+    line: &str,
+) -> Result<(), AllocError>
+    requires { IsTold [] fault.now }
+{
+    let told = fault_line(alloc, fault, &OffsetTable::new(alloc))?;
+    assert_eq!(rt; fault_status(fault).number(), status);
+    assert_eq!(rt; told.as_slice(), line.as_bytes());
+    Ok(())
+}
+
 #[test]
 fn faults_have_their_lines(rt: HostRuntime) -> Result<(), Fail> {
     let alloc = rt.alloc();
-    for (fault, status, line) in FAULTS {
-        let table = OffsetTable::new(alloc);
-        assert_eq!(rt; fault_status(fault).number(), *status);
-        assert_eq!(rt;
-            fault_line(alloc, fault, &table)?.as_slice(),
-            line.as_bytes()
-        );
+    for &(fault, status, line) in ASK_FAULTS {
+        assert_told(&rt, alloc, &Fault::Ask(fault), status, line)?;
+    }
+    for &(refusal, status, line) in REFUSALS {
+        assert_told(&rt, alloc, &Fault::Refused(refusal), status, line)?;
+    }
+    let word = Text::from_str(alloc, "graph")?;
+    for (fault, status, line) in [
+        (Fault::NoSheet { word }, 4, "refused: no sheet graph\n"),
+        (Fault::TooLong(Slot::Zone), 3, "zone: too long\n"),
+        (Fault::Book(CUT_SHORT), 3, "file: line 16: cut short (11)\n"),
+        (
+            Fault::Offsets(HALF_SLACK),
+            3,
+            "offsets: row 2: half slack (8)\n",
+        ),
+        (Fault::BadZone, 3, "zone: bad zone file\n"),
+    ] {
+        assert_told(&rt, alloc, &fault, status, line)?;
     }
     Ok(())
 }

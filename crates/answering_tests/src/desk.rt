@@ -89,7 +89,15 @@ fn run_over_all(
     let mut out = MemorySink::new(alloc, most.max(1), 1_000_000, only(alloc, fails.out)?)?;
     let mut err = MemorySink::new(alloc, most.max(1), 4096, only(alloc, fails.err)?)?;
     let mut clock = FixedClock::new(15_791_220, only(alloc, fails.clock)?);
-    let status = run(alloc, &words, &mut files, &mut out, &mut err, &mut clock);
+    let status = run(
+        alloc,
+        &words,
+        &mut files,
+        &mut out,
+        &mut err,
+        &mut clock,
+        Vec::new(alloc),
+    );
     Ok(Outcome {
         status,
         out: Bytes::from_vec(Vec::from_slice(alloc, out.bytes())?),

@@ -3,7 +3,7 @@ use Rattle.std.proofs.Common.{◌≡◌, false, refl}
 use Rattle.question.specs.declared.fault.AskFault.TheVariants as ask
 use Rattle.harmonics_text.specs.declared.fault.BookFault.TheVariants as form
 use Rattle.station_table.specs.declared.fault.OffsetFault.TheVariants as table
-use Rattle.tide_fault.specs.declared.fault.Fault.TheVariants.{Ask, TooLong, Book, Offsets, BadZone, Refused}
+use Rattle.tide_fault.specs.declared.fault.Fault.TheVariants.{Ask, NoSheet, TooLong, Book, Offsets, BadZone, Refused}
 use Rattle.tide_fault.specs.declared.refusal.Refusal.{Refusal}
 use Rattle.tide_fault.specs.declared.refusal.Refusal.TheVariants as refusals
 use Rattle.tide_fault.specs.Faults.{status_of_refusal}
@@ -20,6 +20,7 @@ pub told_as_it_is : (none : NoAnswer) → is_read_fault (status_of none) ≡ is_
 told_as_it_is Unread = refl
 told_as_it_is (Told (Ask ask.NoMemory)) = refl
 told_as_it_is (Told (Ask _)) = refl
+told_as_it_is (Told (NoSheet word)) = refl
 told_as_it_is (Told (TooLong slot)) = refl
 told_as_it_is (Told (Book form.NoMemory)) = refl
 told_as_it_is (Told (Book (form.At line why))) = refl

@@ -34,7 +34,7 @@ use Rattle.station_table.specs.declared.offset.Slack.{Slack}
 use Rattle.station_table.specs.Bases.{is_plain}
 use Rattle.year_blend.specs.Places.{AreYears, InDomain}
 use Rattle.zone_time.specs.Zones.{InZoneYears}
-use Rattle.station_span.specs.declared.following.Listed.{Listed}
+use Rattle.station_span.specs.declared.following.FoundEvents.{FoundEvents}
 use Rattle.station_span.specs.declared.asked.Asked.{Asked}
 use Rattle.station_span.specs.declared.reach.Reach.TheVariants.{Events}
 use Rattle.station_span.specs.declared.station.Found.{Found}
@@ -123,7 +123,7 @@ mark_scale basis level has small =
       mark_most = omega (arith, ints);
     }
 
-usual_scale : IsScale (pos 1000000) (pos 0) (pos 0)
+pub usual_scale : IsScale (pos 1000000) (pos 0) (pos 0)
 usual_scale = record {
   times_least = omega (arith, ints);
   times_most = omega (arith, ints);
@@ -308,10 +308,11 @@ unfolding cells_of
 found_cells book asked site found is =
     rw (count-agrees (followed_tide Second found asked.mark) (followed_by Second book site asked.mark) (widened_of found.basis asked.begin asked.end) (found_alike Second book asked site found asked.mark is), is.basis) refl
 
-pub site_list_of_tide : (book : Book) (asked : Asked) (site : Site) (found : Found) (listed : Listed) → IsNear asked → IsFound Events book asked site found → IsTideList found asked listed → IsSiteList book asked site listed
+pub site_list_of_tide : (book : Book) (asked : Asked) (site : Site) (found : Found) (listed : FoundEvents) → IsNear asked → IsFound Events book asked site found → IsTideList found asked listed → IsSiteList book asked site listed
 site_list_of_tide book asked site found listed near is list =
     let ready = ready_of_found book asked site found near is in record {
       units = list.units ∙ is.units;
+      levels = rw list.units is.levels;
       events = list.events ∙ found_events book asked site found is;
       cells = list.cells ∙ found_cells book asked site found is;
       lines = list.lines;

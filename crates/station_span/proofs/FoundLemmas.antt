@@ -65,7 +65,7 @@ pub known_whole : (book : Book) (table : List Offsets) (name : List ℕ) (site :
 unfolding station_in
 known_whole book table name site units tide from is unit curve = rw (from, is, unit, curve) refl
 
-found_by : (reach : Reach) (book : Book) (table : List Offsets) (name : List ℕ) (asked : Asked) (basis : Basis) (station : Station) → basis_from (basis_of book table name) ≡ Ok basis → slice_get book.stations basis.station ≡ Some station → site_in reach book table name asked ≡ site_at reach book (record { basis = basis; station = station }) asked
+pub found_by : (reach : Reach) (book : Book) (table : List Offsets) (name : List ℕ) (asked : Asked) (basis : Basis) (station : Station) → basis_from (basis_of book table name) ≡ Ok basis → slice_get book.stations basis.station ≡ Some station → site_in reach book table name asked ≡ site_at reach book (record { basis = basis; station = station }) asked
 unfolding site_in
 found_by reach book table name asked basis station from is = rw (from, is) refl
 

@@ -1,17 +1,28 @@
 -- What was found of a station whose span has a highest water.
-use Rattle.std.proofs.Common.{◌≡◌, ℕ, ℤ, pos, ◌+ℤ◌, ◌-ℤ◌, ◌≤ℤ◌, ◌<ℤ◌, ◌≤◌, unsigned_abs, Bool, true, false, List, Ok, Err, refl, subst, ap, ◌∙◌, arith}
+use Rattle.std.proofs.Common.{◌≡◌, ℕ, ℤ, pos, ◌+ℤ◌, ◌-ℤ◌, ◌≤ℤ◌, ◌<ℤ◌, ◌≤◌, unsigned_abs, length, Bool, true, false, List, None, Ok, Err, refl, subst, ap, ◌∙◌, arith}
 use Rattle.std.specs.Bool.{IsTrue}
 use Rattle.std.proofs.lemmas.Int.{ints}
-use Rattle.curve_law.specs.Meaning.{Meaning, AgreeOver}
+use Rattle.cert_text.specs.Certificates.{IsStationName}
+use Rattle.curve_law.specs.Meaning.{Meaning, AgreeOver, IsLawful, IsSpan}
+use Rattle.curve_law.proofs.CoverLemmas.{by_test}
 use Rattle.decimal_text.specs.Expected.{Excused}
 use Rattle.harmonics_text.specs.declared.book.Book.{Book}
 use Rattle.highest_water.specs.declared.peak.Peak.{Peak}
+use Rattle.highest_water.specs.declared.verdict.PeakVerdict.TheVariants.{Accepted}
 use Rattle.highest_water.specs.Covers.{peak_of}
-use Rattle.highest_water.specs.Peaks.{AgreeOnValues}
+use Rattle.highest_water.specs.Peaks.{IsHighest, AgreeOnValues}
+use Rattle.highest_water.specs.PeakTexts.{IsPeakCertificate}
 use Rattle.highest_water.specs.Verdicts.{peak_verdict}
-use Rattle.highest_water.proofs.AgreeLemmas.{peak_of-agrees, verdict-agrees}
+use Rattle.highest_water.proofs.AcceptedLemmas.{peak_of-accepted}
+use Rattle.highest_water.proofs.AgreeLemmas.{highest-agrees, peak_of-agrees, verdict-agrees}
+use Rattle.highest_water.proofs.FindingLemmas.{highest-small}
+use Rattle.highest_water.proofs.HighestLemmas.{minute-highest}
+use Rattle.highest_water.proofs.VerdictLemmas.{verdict-highest, verdict-cells}
 use Rattle.rate_bound.specs.declared.version.Version.TheVariants.{Second}
+use Rattle.rate_bound.specs.Workings.MarkLaw.{mark_lawful}
 use Rattle.rate_bound.proofs.Predicted.{mark_agrees}
+use Rattle.station_curve.specs.Limits.{IsGentle}
+use Rattle.station_table.specs.declared.basis.Basis.{Basis}
 use Rattle.station_table.specs.Bases.{is_equal}
 use Rattle.station_table.specs.declared.offsets.Offsets.{Offsets}
 use Rattle.tide_fault.specs.declared.refusal.Refusal.{Refusal}
@@ -19,13 +30,16 @@ use Rattle.station_span.specs.declared.asked.Asked.{Asked}
 use Rattle.station_span.specs.declared.reach.Reach.TheVariants.{Levels, Highest}
 use Rattle.station_span.specs.declared.station.Found.{Found}
 use Rattle.station_span.specs.Levels.{level_in}
-use Rattle.station_span.specs.Peaks.{highest_of, highest_site, highest_verdict, level_curve, minute_count}
+use Rattle.station_span.specs.Peaks.{first_source, highest_of, highest_site, highest_verdict, level_curve, minute_count}
 use Rattle.station_span.specs.Sites.{Site, lacks_minute, site_in}
 use Rattle.station_span.specs.Workings.Levels.{HasLevel, source_of}
-use Rattle.station_span.specs.Workings.Peaks.{HasHighest, IsSourceIn, tide_levels, tide_peak, tide_verdict}
-use Rattle.station_span.specs.Workings.Spans.{IsFound}
+use Rattle.station_span.specs.Workings.Peaks.{HasHighest, IsSourceIn, source_count, tide_levels, tide_peak, tide_verdict}
+use Rattle.station_span.specs.Workings.Spans.{AreMoments, IsFound}
+use Rattle.station_span.proofs.FollowLemmas.{usual_scale}
 use Rattle.station_span.proofs.FoundLemmas.{excused_by, excused_then}
 use Rattle.station_span.proofs.LevelLemmas.{between, found_levels, in_book, near_minute}
+use Rattle.station_span.proofs.SiteLemmas.{found_at, site_minutes, site_unmarked, then_ok}
+use Rattle.station_span.proofs.SpanLemmas.{moment}
 
 -- ---- it has levels
 
@@ -133,3 +147,99 @@ refused_level memory book table name asked site found refusal is basis level =
 pub tide_peak-is : (found : Found) (asked : Asked) (c : Meaning) (b e : ℤ) → c ≡ tide_levels found → b ≡ source_of found asked.begin → e ≡ source_of found asked.end → peak_of c b (unsigned_abs (e -ℤ b)) ≡ tide_peak found asked
 unfolding tide_peak
 tide_peak-is found asked c b e levels first last = rw (levels, first, last) refl
+
+-- ---- what is accepted by the tide
+
+levels_lawful : (found : Found) → IsGentle found.curve → IsLawful (tide_levels found)
+levels_lawful found gentle = mark_lawful Second found.curve (pos 1000000) (pos 0) (pos 0) true gentle usual_scale
+
+source_end : (begin end add : ℤ) → begin ≤ℤ end → (begin -ℤ add) +ℤ pos (unsigned_abs ((end -ℤ add) -ℤ (begin -ℤ add))) ≡ end -ℤ add
+source_end begin end add forward = omega (arith, ints)
+
+-- it is the highest water
+pub tide_highest : (found : Found) (asked : Asked) (peak : Peak) → IsGentle found.curve → HasHighest found asked → tide_verdict found asked peak ≡ Accepted → IsHighest (tide_levels found) (source_of found asked.begin) (source_of found asked.end) peak.at peak.value
+unfolding tide_verdict
+tide_highest found asked peak gentle has ok =
+    let all = source_end asked.begin asked.end found.basis.high.add has.levels.forward in
+    let span : IsSpan (tide_levels found) (source_of found asked.begin) (source_count found asked) =
+    record { first = has.levels.first.inside.least; last = rw all has.levels.last.inside.most } in
+    rw all at (verdict-highest (tide_levels found) (source_of found asked.begin) (source_count found asked) peak (levels_lawful found gentle) span ok)
+
+-- a certificate of it has a text
+pub accepted_certificate : (name : List ℕ) (asked : Asked) (found : Found) (peak : Peak) → IsStationName name → AreMoments asked → IsGentle found.curve → HasHighest found asked → tide_verdict found asked peak ≡ Accepted → IsPeakCertificate (record { station = name; begin = asked.begin; end = asked.end; peak = peak })
+unfolding tide_verdict
+accepted_certificate name asked found peak named moments gentle has ok =
+    let highest = tide_highest found asked peak gentle has ok in
+    let from = highest.from in
+    let before = highest.before in
+    let least = has.levels.first.inside.least in
+    let most = has.levels.last.inside.most in
+    record {
+      station = named;
+      begin = moments.begin;
+      end = moments.end;
+      at = moment found.curve.first_year (length found.curve.years) peak.at has.levels.first.years
+          (record { least = omega (arith, ints); most = omega (arith, ints) });
+      value = highest-small (tide_levels found) (source_of found asked.begin) (source_of found asked.end) peak.at peak.value (levels_lawful found gentle) least most highest;
+      cells = (verdict-cells (tide_levels found) (source_of found asked.begin) (source_count found asked) peak ok).1;
+    }
+
+-- the one that is found is accepted
+pub tide_peak_accepted : (found : Found) (asked : Asked) → HasHighest found asked → tide_verdict found asked (tide_peak found asked) ≡ Accepted
+unfolding tide_verdict tide_peak
+tide_peak_accepted found asked has =
+    let some = has.some in
+    peak_of-accepted (tide_levels found) (source_of found asked.begin) (source_count found asked) (omega (arith, ints))
+
+-- ---- a site with a highest water
+
+level_equal : (basis : Basis) → level_in basis ≡ Ok tt → IsTrue (is_equal basis)
+level_equal basis ok = by_test (is_equal basis)
+    (λ equal. rw equal refl)
+    (λ other. absurd (let none = rw other at ok in cc))
+
+pub highest_parts : (book : Book) (table : List Offsets) (name : List ℕ) (asked : Asked) (site : Site) → highest_site book table name asked ≡ Ok site → (site_in Highest book table name asked ≡ Ok site) × IsTrue (is_equal site.basis)
+unfolding highest_site
+highest_parts book table name asked site ok =
+    let found = then_ok (site_in Highest book table name asked) _ site ok in
+    let level = then_ok (level_in found.0.basis) _ site found.2 in
+    let same : found.0 ≡ site = (let last = level.2 in cc) in
+    subst (λ s. (site_in Highest book table name asked ≡ Ok s) × IsTrue (is_equal s.basis)) same (found.1, level_equal found.0.basis level.1)
+
+equal_level : (basis : Basis) → IsTrue (is_equal basis) → level_in basis ≡ Ok tt
+equal_level basis equal = rw equal refl
+
+-- a mark asks nothing of it
+pub highest_unmarked : (book : Book) (table : List Offsets) (name : List ℕ) (asked : Asked) (site : Site) → highest_site book table name asked ≡ Ok site → highest_site book table name (record asked { mark = None }) ≡ Ok site
+unfolding highest_site
+highest_unmarked book table name asked site ok =
+    let parts = highest_parts book table name asked site ok in
+    rw (site_unmarked Highest book table name asked site parts.0, equal_level site.basis parts.1) refl
+
+pub highest_minutes : (book : Book) (table : List Offsets) (name : List ℕ) (asked : Asked) (site : Site) → highest_site book table name asked ≡ Ok site → asked.begin <ℤ asked.end
+highest_minutes book table name asked site ok =
+    some_minute asked.begin asked.end (site_minutes Highest book table name asked site (highest_parts book table name asked site ok).0)
+
+-- a minute and its value are the highest water of the reference's minutes that are moved into the span
+abbrev pub IsHighestAt : Book → Site → Asked → ℤ → ℤ → Type 0
+IsHighestAt book site asked at value =
+    IsHighest (level_curve book site) (first_source site asked) (first_source site asked +ℤ pos (minute_count asked)) at value
+
+pub highest_found : (book : Book) (site : Site) (asked : Asked) → asked.begin <ℤ asked.end → IsHighestAt book site asked (highest_of book site asked).at (highest_of book site asked).value
+unfolding highest_of peak_of
+highest_found book site asked some =
+    minute-highest (level_curve book site) (first_source site asked) (minute_count asked) (omega (arith, ints))
+
+pub highest_of_accepted : (book : Book) (site : Site) (asked : Asked) → asked.begin <ℤ asked.end → highest_verdict book site asked (highest_of book site asked) ≡ Accepted
+unfolding highest_verdict highest_of
+highest_of_accepted book site asked some =
+    peak_of-accepted (level_curve book site) (first_source site asked) (minute_count asked) (omega (arith, ints))
+
+pub accepted_highest : (book : Book) (asked : Asked) (site : Site) (peak : Peak) → IsFound Highest book asked site (found_at book site) → IsTrue (is_equal site.basis) → highest_verdict book site asked peak ≡ Accepted → IsHighestAt book site asked peak.at peak.value
+accepted_highest book asked site peak is equal ok =
+    let found = found_at book site in
+    let has = has_highest book asked site found is equal in
+    let tide = tide_highest found asked peak is.gentle has (verdict_alike book asked site found peak is has ∙ ok) in
+    highest-agrees (tide_levels found) (level_curve book site) (source_of found asked.begin) (minute_count asked) peak.at peak.value
+    (levels_alike book asked site found is has)
+    (rw (last_source asked.begin asked.end site.basis.high.add has.levels.forward) tide)

@@ -1,5 +1,5 @@
 -- A site that was found has a tide that predicts it.
-use Rattle.std.proofs.Common.{◌≡◌, ℕ, zero, suc, ◌<◌, ◌≤◌, nat_lt, ℤ, pos, negsuc, ◌-ℤ◌, ◌≤ℤ◌, int_lt, unsigned_abs, Bool, true, false, IsTrue, List, [], ◌∷◌, length, Option, Some, None, Result, Ok, Err, All, slice_get, fold, refl, subst, arith}
+use Rattle.std.proofs.Common.{◌≡◌, ℕ, zero, suc, ◌<◌, ◌≤◌, nat_lt, ℤ, pos, negsuc, ◌-ℤ◌, ◌≤ℤ◌, int_lt, unsigned_abs, Bool, true, false, IsTrue, List, [], ◌∷◌, length, Option, Some, None, Result, Ok, Err, All, slice_get, fold, refl, subst, ◌∙◌, arith}
 use Rattle.std.specs.Int.{int_max, int_min}
 use Rattle.std.specs.List.{position, position_or_len}
 use Rattle.std.specs.Option.{ForSome, ok_or}
@@ -29,12 +29,12 @@ use Rattle.station_table.specs.Bases.{IsBasis, usual, is_equal, station_at, row_
 use Rattle.station_table.specs.Offsets.{IsTable, IsOffset, IsOffsets, IsSlack}
 use Rattle.station_span.specs.declared.asked.Asked.{Asked}
 use Rattle.station_span.specs.declared.reach.Reach.{Reach}
-use Rattle.station_span.specs.declared.reach.Reach.TheVariants.{Events}
+use Rattle.station_span.specs.declared.reach.Reach.TheVariants.{Events, Levels, Highest}
 use Rattle.tide_fault.specs.declared.refusal.Refusal.TheVariants.{NoStation}
 use Rattle.station_span.specs.declared.station.Found.{Found}
-use Rattle.station_span.specs.Sites.{Site, basis_from, lacks_minute, level_unit, reached, has_span, span_in, tide_from, length_in, mark_in, span_limit, site_at, site_in}
+use Rattle.station_span.specs.Sites.{Site, basis_from, lacks_minute, level_unit, moved, reached, has_span, span_in, tide_from, length_in, mark_in, span_limit, site_at, site_in}
 use Rattle.station_span.specs.Workings.Spans.{HasLevels, IsBeside, IsFound, IsNear, IsNearSpan, IsReached}
-use Rattle.station_span.proofs.FoundLemmas.{HasCurve}
+use Rattle.station_span.proofs.FoundLemmas.{HasCurve, found_by, found_whole}
 use Rattle.station_span.proofs.SpanLemmas.{book_years, has_offsets, reached_span}
 
 -- ---- what the steps of a site came to
@@ -220,21 +220,35 @@ span_near begin end least greatest forward b e adds =
       record { begins = omega (arith, ints); ends = omega (arith, ints) },
     )
 
-events_reached : (book : Book) (basis : Basis) (asked : Asked) → HasOffsets basis → IsNear asked → span_in Events book basis asked.begin asked.end ≡ Ok tt → IsReached Events book basis asked.begin asked.end
-events_reached book basis asked has near ok =
-    let tests = span_tests Events book basis asked.begin asked.end ok in
+high_add : (basis : Basis) → HasOffsets basis → AreAdds basis.high.add basis.high.add
+high_add basis has =
+    let add = has.high.add in record { least = add.least; ordered = omega (arith, ints); most = add.most }
+
+moved_near : (basis : Basis) (begin end : ℤ) → begin ≤ℤ end → unsigned_abs begin ≤ 20000000000 → unsigned_abs end ≤ 20000000000 → HasOffsets basis → IsNearSpan (moved basis begin end) × IsBeside begin end (moved basis begin end)
+moved_near basis begin end forward b e has = by_test (is_equal basis)
+    (λ equal. rw equal (span_near begin end basis.high.add basis.high.add forward b e (high_add basis has)))
+    (λ other. rw other (span_near begin end (least_add basis) (greatest_add basis) forward b e (basis_adds basis has)))
+
+reached_near : (reach : Reach) (basis : Basis) (begin end : ℤ) → begin ≤ℤ end → unsigned_abs begin ≤ 20000000000 → unsigned_abs end ≤ 20000000000 → HasOffsets basis → IsNearSpan (reached reach basis begin end) × IsBeside begin end (reached reach basis begin end)
+reached_near Events basis begin end forward b e has = span_near begin end (least_add basis) (greatest_add basis) forward b e (basis_adds basis has)
+reached_near Levels basis begin end forward b e has = moved_near basis begin end forward b e has
+reached_near Highest basis begin end forward b e has = moved_near basis begin end forward b e has
+
+span_reached : (reach : Reach) (book : Book) (basis : Basis) (asked : Asked) → HasOffsets basis → IsNear asked → span_in reach book basis asked.begin asked.end ≡ Ok tt → IsReached reach book basis asked.begin asked.end
+span_reached reach book basis asked has near ok =
+    let tests = span_tests reach book basis asked.begin asked.end ok in
     let forward : asked.begin ≤ℤ asked.end = (let test = tests.0 in grind (arith, ints)) in
-    let both = span_near asked.begin asked.end (least_add basis) (greatest_add basis) forward near.begin near.end (basis_adds basis has) in
-    reached_span Events book basis asked.begin asked.end tests.0 tests.1 tests.2 both.0 both.1
+    let both = reached_near reach basis asked.begin asked.end forward near.begin near.end has in
+    reached_span reach book basis asked.begin asked.end tests.0 tests.1 tests.2 both.0 both.1
 
 -- ---- a site that was found has a tide that predicts it
 
 abbrev pub found_at : Book → Site → Found
 found_at book site = record { basis = site.basis; units = site.station.units; curve = tide_of book site.station }
 
-pub found_of_site : (book : Book) (table : List Offsets) (name : List ℕ) (asked : Asked) (site : Site) → IsBook book → IsTable table → IsNear asked → site_in Events book table name asked ≡ Ok site → IsFound Events book asked site (found_at book site)
-found_of_site book table name asked site is rows near ok =
-    let was = was_found Events book table name asked site ok in
+pub found_of_site : (reach : Reach) (book : Book) (table : List Offsets) (name : List ℕ) (asked : Asked) (site : Site) → IsBook book → IsTable table → IsNear asked → site_in reach book table name asked ≡ Ok site → IsFound reach book asked site (found_at book site)
+found_of_site reach book table name asked site is rows near ok =
+    let was = was_found reach book table name asked site ok in
     let steps = was.steps in
     let sound = basis_sound book table name site.basis rows was.basis in
     let station = each_got (IsStation (length book.constituents)) book.stations site.basis.station site.station is.stations was.station in
@@ -246,7 +260,30 @@ found_of_site book table name asked site is rows near ok =
       predicts = predicts_tide book site.station is;
       gentle = gentle_tide book site.station is station (curve_none book site.station _ steps.tide refl steps.curve.curve);
       years = book_years book is;
-      span = events_reached book site.basis asked (has_offsets _ site.basis sound) near steps.curve.span;
+      span = span_reached reach book site.basis asked (has_offsets _ site.basis sound) near steps.curve.span;
       few = few_minutes asked.begin asked.end steps.few;
       mark = mark_here site.basis asked.mark steps.mark;
     }
+
+-- ---- what any site that was found says
+
+-- its span has the minutes that are needed
+pub site_minutes : (reach : Reach) (book : Book) (table : List Offsets) (name : List ℕ) (asked : Asked) (site : Site) → site_in reach book table name asked ≡ Ok site → lacks_minute reach asked.begin asked.end ≡ false
+site_minutes reach book table name asked site ok =
+    let was = was_found reach book table name asked site ok in
+    (span_tests reach book site.basis asked.begin asked.end was.steps.curve.span).1
+
+-- its offsets lie in the ranges of a table
+pub site_basis : (reach : Reach) (book : Book) (table : List Offsets) (name : List ℕ) (asked : Asked) (site : Site) → IsTable table → site_in reach book table name asked ≡ Ok site → IsBasis (length book.stations) site.basis
+site_basis reach book table name asked site rows ok =
+    basis_sound book table name site.basis rows (was_found reach book table name asked site ok).basis
+
+-- it is found where no mark is asked too
+pub site_unmarked : (reach : Reach) (book : Book) (table : List Offsets) (name : List ℕ) (asked : Asked) (site : Site) → site_in reach book table name asked ≡ Ok site → site_in reach book table name (record asked { mark = None }) ≡ Ok site
+site_unmarked reach book table name asked site ok =
+    let was = was_found reach book table name asked site ok in
+    let steps = was.steps in
+    let bare : Asked = record asked { mark = None } in
+    let curve = steps.curve in
+    found_by reach book table name bare site.basis site.station was.basis was.station
+    ∙ found_whole reach book site bare steps.units steps.tide (record { unit = curve.unit; span = curve.span; curve = curve.curve }) steps.few refl

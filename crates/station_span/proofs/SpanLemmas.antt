@@ -49,7 +49,7 @@ book_years book is = record {
   few = is.few_years;
 }
 
-moment : (first_year : ℤ) (years : ℕ) (m : ℤ) → AreYears first_year years → InDomain first_year years m → IsMoment m
+pub moment : (first_year : ℤ) (years : ℕ) (m : ℤ) → AreYears first_year years → InDomain first_year years m → IsMoment m
 moment first_year years m are inside =
     let file = file_minute first_year years m are inside in
     let least = file.least in

@@ -2,6 +2,7 @@
 
 ghost use Rattle.std.specs.Prelude.{◌≡◌, ◌≤◌, unsigned_abs, option_map, IfErr, IfOk, OnOk};
 ghost use Rattle.std.specs.Option.{ForSome};
+ghost use Rattle.cert_text.specs.Certificates.{IsStationName};
 ghost use Rattle.event_list.specs.Events.{cover_over};
 ghost use Rattle.event_list.specs.Merging.{cells_left};
 ghost use Rattle.event_list.specs.Shifts.{HasOffsets};
@@ -31,7 +32,7 @@ use tide_fault::Refusal;
 /// The events of a station over a span, in its reference's unit, and how many cells its curves were cut
 /// into to find them.
 #[derive(Debug, Drop)]
-pub struct Listed {
+pub struct FoundEvents {
     pub units: Units,
     pub events: Events,
     pub cells: u64,
@@ -44,9 +45,10 @@ pub fn list_station(
     table: &OffsetTable,
     name: &Text,
     asked: &Asked,
-) -> Result<Listed, Refusal>
+) -> Result<FoundEvents, Refusal>
     requires near { IsNear asked.now }
     ensures exact { Lists book.now asked.now (site_in Reach.Events book.now table.now name.now asked.now) result }
+    ensures named { OnOk result (IsStationName name.now) }
     ensures told { IfErr result (IsToldRefusal table.now) }
 {
     let found = find_station(alloc, book, table, Reach::Events, name, asked)?;
@@ -54,7 +56,7 @@ pub fn list_station(
 }
 
 /// The station's events over the span that is asked.
-pub fn find_events(alloc: Global, found: &Found, asked: &Asked) -> Result<Listed, AllocError>
+pub fn find_events(alloc: Global, found: &Found, asked: &Asked) -> Result<FoundEvents, AllocError>
     requires ready { IsReady asked.now found.now }
     requires near { IsNear asked.now }
     ensures { IfOk result (λ listed. IsTideList found.now asked.now listed) }
@@ -62,7 +64,7 @@ pub fn find_events(alloc: Global, found: &Found, asked: &Asked) -> Result<Listed
     let mut merge = merge_of(found, asked);
     let merged = merged_events(alloc, &mut merge)?;
     let events = shifted_events(alloc, merged, found, asked)?;
-    Ok(Listed {
+    Ok(FoundEvents {
         units: found.units,
         events,
         cells: merge.cells(),

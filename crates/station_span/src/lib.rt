@@ -20,11 +20,11 @@ mod worked;
 pub use asked::Asked;
 pub use curves::{mark_curve, slack_curve, turn_curve};
 pub use following::{
-    Listed, find_events, list_station, mark_search, merge_of, slack_search, turn_search,
+    FoundEvents, find_events, list_station, mark_search, merge_of, slack_search, turn_search,
 };
 pub use knowing::find_known;
 pub use levels::{check_level, is_rising, level_at, worked_levels};
 pub use peaks::{find_highest, find_level, judge_highest, moved_minute};
 pub use reach::Reach;
-pub use station::{Found, find_station, reached};
+pub use station::{Found, find_station, reached, station_at};
 pub use worked::worked_spans;

@@ -1,6 +1,7 @@
 //! The highest water of a station over a span.
 
-ghost use Rattle.std.specs.Prelude.{◌≡◌, ◌<◌, ◌≤◌, ◌^◌, ◌+ℤ◌, length, unsigned_abs, IfErr, IfOk};
+ghost use Rattle.std.specs.Prelude.{◌≡◌, ◌<◌, ◌≤◌, ◌^◌, ◌+ℤ◌, length, unsigned_abs, IfErr, IfOk, OnOk};
+ghost use Rattle.cert_text.specs.Certificates.{IsStationName};
 ghost use Rattle.highest_water.specs.declared.verdict.PeakVerdict.{PeakVerdict};
 ghost use Rattle.tide_fault.specs.Faults.{IsToldRefusal};
 ghost use Rattle.station_span.specs.Peaks.{highest_site};
@@ -33,6 +34,7 @@ pub fn find_level(
 ) -> Result<Found, Refusal>
     requires near { IsNear asked.now }
     ensures exact { FindsHighest book.now asked.now (highest_site book.now table.now name.now asked.now) result }
+    ensures named { OnOk result (IsStationName name.now) }
     ensures told { IfErr result (IsToldRefusal table.now) }
 {
     let found = find_station(alloc, book, table, Reach::Highest, name, asked)?;

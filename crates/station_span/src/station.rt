@@ -99,6 +99,7 @@ fn find_at(
     })
 }
 
+/// A book's station by its place.
 pub fn station_at(book: &Book, place: u32) -> &Station
     requires { place < length book.now.stations }
     ensures { slice_get book.now.stations place ≡ Some result.now }

@@ -1,6 +1,6 @@
 //! What the program does with its words.
 
-ghost use Rattle.std.specs.Prelude.{◌≡◌, ◌⊎◌, ℤ, Bool, IsTrue, IsOk, IsSome, IfSome, None, false};
+ghost use Rattle.std.specs.Prelude.{◌≡◌, ◌⊎◌, ℤ, Bool, IsTrue, IsOk, IsSome, IfSome, None, false, map};
 ghost use Rattle.named_files.specs.NoAnswers.{is_read_fault};
 ghost use Rattle.named_files.specs.Readings.{Folders};
 ghost use Rattle.tide_desk.specs.Answers.{AsksClock, HasFiles, NamesFile, allowed_by, answer_from, answer_of, asked_of};
@@ -15,6 +15,7 @@ ghost use Rattle.tide.specs.Pages.{AsksAnswer, AsksService, page_answer, page_of
 use crate::help::{Page, asks_to_serve, page_asked};
 use decimal_text::Words;
 use named_files::refuse;
+use report_sheets::Sheet;
 use std::alloc::Global;
 use tide_desk::run;
 use tide_edge::{Clock, Door, Files, Sink, write_all};
@@ -22,7 +23,7 @@ use tide_fault::Status;
 use tide_server::serve;
 
 /// Writes the page that the words ask for, or serves where they ask for that, or else answers them, over
-/// the objects that it is handed and no others. A page takes neither files nor door nor clock; an answer
+/// the objects that it is handed and no others. The sheets are those of a report. A page takes neither files nor door nor clock; an answer
 /// leaves the door as it is, and serving leaves `out`.
 pub fn respond<F: Files, D: Door, O: Sink, E: Sink, K: Clock>(
     alloc: Global,
@@ -32,28 +33,29 @@ pub fn respond<F: Files, D: Door, O: Sink, E: Sink, K: Clock>(
     out: &mut O,
     err: &mut E,
     clock: &mut K,
+    sheets: Vec<Box<dyn Sheet>>,
 ) -> Status
     requires { (D.state door.old).doorway.port ≡ None }
     ensures page { IfSome (page_of words.now) (λ page. EndsAs (page_answer page) result
         (outputs (O.state out.old) (E.state err.old)) (outputs (O.state out.new) (E.state err.new))) }
     ensures page_alone { IsSome (page_of words.now) → (files.new ≡ files.old) × (door.new ≡ door.old) × (clock.new ≡ clock.old) }
-    ensures own_answer { AsksAnswer words.now → IsTrue (F.state files.old).store.tells
-        → (AsksClock (asked_of words.now) → IsTrue (K.state clock.old).tells)
-        → IsFirm (AsksClock (asked_of words.now)) (sources (F.state files.old) (K.state clock.old)) (sources (F.state files.new) (K.state clock.new))
+    ensures own_answer { let meanings = map meaning sheets.items in let asked = asked_of meanings words.now in
+        AsksAnswer words.now → IsTrue (F.state files.old).store.tells → (AsksClock asked → IsTrue (K.state clock.old).tells)
+        → IsFirm (AsksClock asked) (sources (F.state files.old) (K.state clock.old)) (sources (F.state files.new) (K.state clock.new))
         ⊎ (¬ (result ≡ Status.ReadFault))
-        → EndsAs (answer_of (F.state files.old).store.folder (next_minute (K.state clock.old)) words.now) result
+        → EndsAs (answer_of meanings (F.state files.old).store.folder (next_minute (K.state clock.old)) words.now) result
         (outputs (O.state out.old) (E.state err.old)) (outputs (O.state out.new) (E.state err.new)) }
-    ensures some_answer { AsksAnswer words.now → (folders : Folders) × (minute : ℤ) × EndsAs (answer_from folders minute words.now) result
+    ensures some_answer { AsksAnswer words.now → (folders : Folders) × (minute : ℤ) × EndsAs (answer_from (map meaning sheets.items) folders minute words.now) result
         (outputs (O.state out.old) (E.state err.old)) (outputs (O.state out.new) (E.state err.new)) }
-    ensures answer_reads { AsksAnswer words.now
-        → WentOn (is_read_fault result) (AsksClock (asked_of words.now)) (allowed_by (asked_of words.now))
+    ensures answer_reads { let asked = asked_of (map meaning sheets.items) words.now in
+        AsksAnswer words.now → WentOn (is_read_fault result) (AsksClock asked) (allowed_by asked)
         (sources (F.state files.old) (K.state clock.old)) (sources (F.state files.new) (K.state clock.new)) }
     ensures unwritten { AsksAnswer words.now → IsUntouched result out.old out.new }
     ensures untold { AsksAnswer words.now → IsSilent result err.old err.new }
-    ensures unopened { AsksAnswer words.now → ¬ (NamesFile (asked_of words.now)) → files.new ≡ files.old }
-    ensures unasked { AsksAnswer words.now → ¬ (AsksClock (asked_of words.now)) → clock.new ≡ clock.old }
+    ensures unopened { AsksAnswer words.now → ¬ (NamesFile (asked_of (map meaning sheets.items) words.now)) → files.new ≡ files.old }
+    ensures unasked { AsksAnswer words.now → ¬ (AsksClock (asked_of (map meaning sheets.items) words.now)) → clock.new ≡ clock.old }
     ensures asked_last { AsksAnswer words.now → IsTrue (F.state files.old).store.tells
-        → ¬ (HasFiles (λ slot. (F.state files.old).store.folder) (asked_of words.now)) → clock.new ≡ clock.old }
+        → ¬ (HasFiles (λ slot. (F.state files.old).store.folder) (asked_of (map meaning sheets.items) words.now)) → clock.new ≡ clock.old }
     ensures same_door { AsksAnswer words.now → door.new ≡ door.old }
     ensures own_service { AsksService words.now → IsTrue (F.state files.old).store.tells
         → ServerEndsAs (IsTrue (F.state files.old).store.is_steady) (stock_of (F.state files.old).store.folder words.now) result
@@ -80,7 +82,7 @@ pub fn respond<F: Files, D: Door, O: Sink, E: Sink, K: Clock>(
     match page_asked(words) {
         Some(page) => write_page(page, out, err),
         None if asks_to_serve(words) => serve(alloc, words, files, door, err, clock),
-        None => run(alloc, words, files, out, err, clock),
+        None => run(alloc, words, files, out, err, clock, sheets),
     }
 }
 

@@ -70,7 +70,14 @@ fn responded(alloc: Global, line: &str) -> Result<Left, AllocError> {
     let mut err = MemorySink::new(alloc, 4_096, 4_096, Vec::new(alloc))?;
     let mut clock = FixedClock::new(15_791_220, Vec::new(alloc));
     let status = respond(
-        alloc, &words, &mut files, &mut door, &mut out, &mut err, &mut clock,
+        alloc,
+        &words,
+        &mut files,
+        &mut door,
+        &mut out,
+        &mut err,
+        &mut clock,
+        Vec::new(alloc),
     );
     Ok(Left {
         status,

@@ -1,31 +1,37 @@
 -- What the answer to a question comes to by its steps.
-use Rattle.std.proofs.Common.{◌≡◌, ℕ, ℤ, Bool, true, false, List, Some, Result, Ok, Err, ◌≤◌, unsigned_abs, refl, arith}
+use Rattle.std.proofs.Common.{◌≡◌, ◌≢◌, ℕ, ℤ, Bool, true, false, List, Some, Result, Ok, Err, ◌≤◌, unsigned_abs, slice_get, refl, arith}
 use Rattle.std.proofs.lemmas.Int.{ints}
 use Rattle.decimal_text.specs.Expected.{Excused, Gives}
 use Rattle.calendar_sheet.specs.Calendars.{calendar_text_of}
 use Rattle.harmonics_text.specs.declared.book.Book.{Book}
+use Rattle.harmonics_text.specs.declared.book.Station.{Station}
+use Rattle.harmonics_text.specs.declared.book.Units.{Units}
+use Rattle.harmonics_text.specs.declared.book.Units.TheVariants.{Feet, Meters, Knots, KnotsSquared}
+use Rattle.listing.specs.Abouts.{about_text_of}
 use Rattle.question.specs.declared.question.Layout.{Layout}
 use Rattle.question.specs.declared.question.Question.{Question}
 use Rattle.question.specs.Asked.{IsAsked}
+use Rattle.slope_agreement.specs.Agreements.{agreement_of, predicted_agreement}
 use Rattle.station_table.specs.declared.offsets.Offsets.{Offsets}
 use Rattle.zone_time.specs.declared.zone.Zone.{Zone}
 use Rattle.zone_time.specs.Moments.{IsMoment}
 use Rattle.station_span.specs.declared.asked.Asked.{Asked}
-use Rattle.station_span.specs.declared.following.Listed.{Listed}
+use Rattle.station_span.specs.declared.following.FoundEvents.{FoundEvents}
 use Rattle.station_span.specs.declared.reach.Reach.TheVariants.{Events}
+use Rattle.station_span.specs.declared.station.Found.{Found}
 use Rattle.tide_fault.specs.declared.refusal.Refusal.{Refusal}
 use Rattle.tide_answer.specs.declared.text.Answer.{Answer}
-use Rattle.tide_answer.specs.Answers.{asks_name, asks_span, events_text, named_by, predicted, on_calendar}
+use Rattle.tide_answer.specs.Answers.{asks_name, asks_span, constituent_count, events_text, known, listed, named_by, predicted, on_calendar, text_alone}
 use Rattle.tide_answer.specs.Asking.{asked_by}
 use Rattle.tide_fault.specs.Faults.{wants_memory_of_refusal}
-use Rattle.station_span.specs.Sites.{Site, site_in}
+use Rattle.station_span.specs.Sites.{Site, site_in, station_in}
 use Rattle.station_span.specs.Workings.Curves.{IsSiteList}
-use Rattle.station_span.specs.Workings.Spans.{IsNear}
+use Rattle.station_span.specs.Workings.Spans.{HasLevels, IsKnown, IsNear}
 use Rattle.station_span.proofs.FoundLemmas.{excused_then}
 
 -- ---- events
 
-pub predicted_whole : (book : Book) (table : List Offsets) (name : List ℕ) (asked : Asked) (layout : Layout) (zone : Zone) (site : Site) (listed : Listed) (text : List ℕ) → site_in Events book table name asked ≡ Ok site → IsSiteList book asked site listed → text ≡ events_text layout name listed.units listed.events zone → predicted book table name asked layout zone ≡ Ok (record { text = text; rejected = false; cells = listed.cells })
+pub predicted_whole : (book : Book) (table : List Offsets) (name : List ℕ) (asked : Asked) (layout : Layout) (zone : Zone) (site : Site) (listed : FoundEvents) (text : List ℕ) → site_in Events book table name asked ≡ Ok site → IsSiteList book asked site listed → text ≡ events_text layout name listed.units listed.events zone → predicted book table name asked layout zone ≡ Ok (record { text = text; rejected = false; cells = listed.cells })
 unfolding predicted
 predicted_whole book table name asked layout zone site listed text found list is =
     rw (found, is, list.units, list.events, list.cells) refl
@@ -35,7 +41,7 @@ unfolding predicted
 predicted_refused memory book table name asked layout zone refusal excused =
     excused_then memory (site_in Events book table name asked) _ refusal excused
 
-pub calendar_whole : (book : Book) (table : List Offsets) (name : List ℕ) (asked : Asked) (zone : Zone) (site : Site) (listed : Listed) (text : List ℕ) → site_in Events book table name asked ≡ Ok site → IsSiteList book asked site listed → text ≡ calendar_text_of name listed.units listed.events zone asked.begin asked.end → on_calendar book table name asked zone ≡ Ok (record { text = text; rejected = false; cells = listed.cells })
+pub calendar_whole : (book : Book) (table : List Offsets) (name : List ℕ) (asked : Asked) (zone : Zone) (site : Site) (listed : FoundEvents) (text : List ℕ) → site_in Events book table name asked ≡ Ok site → IsSiteList book asked site listed → text ≡ calendar_text_of name listed.units listed.events zone asked.begin asked.end → on_calendar book table name asked zone ≡ Ok (record { text = text; rejected = false; cells = listed.cells })
 unfolding on_calendar
 calendar_whole book table name asked zone site listed text found list is =
     rw (found, is, list.units, list.events, list.cells) refl
@@ -45,13 +51,33 @@ unfolding on_calendar
 calendar_refused memory book table name asked zone refusal excused =
     excused_then memory (site_in Events book table name asked) _ refusal excused
 
+pub listed_whole : (book : Book) (table : List Offsets) (question : Question) (name : List ℕ) (asked : Asked) (site : Site) (found : FoundEvents) → named_by question.station ≡ Ok name → named_by (asked_by question) ≡ Ok asked → site_in Events book table name asked ≡ Ok site → IsSiteList book asked site found → listed book table question ≡ Ok (record { name = name; units = found.units; events = found.events })
+unfolding listed
+listed_whole book table question name asked site found named spans expected list =
+    rw (named, spans, expected, list.units, list.events) refl
+
+pub has_word : (units : Units) → HasLevels units → units ≢ KnotsSquared
+has_word Feet levels = λ e. absurd (cc)
+has_word Meters levels = λ e. absurd (cc)
+has_word Knots levels = λ e. absurd (cc)
+has_word KnotsSquared levels = absurd levels
+
+-- ---- what is known of a station
+
+pub known_whole : (book : Book) (table : List Offsets) (name : List ℕ) (site : Site) (found : Found) (station : Station) → station_in book table name ≡ Ok site → IsKnown book site found → slice_get book.stations found.basis.station ≡ Some station → agreement_of found.curve ≡ predicted_agreement book site.station → known book table name ≡ Ok (text_alone (about_text_of name station.name found.units (constituent_count station) (agreement_of found.curve)))
+unfolding known
+known_whole book table name site found station expected is at agrees =
+    let here = is.station in
+    let same : station ≡ site.station = cc in
+    rw (expected, same, is.units, agrees) refl
+
 -- ---- what a question names
 
 pub asks_whole : (question : Question) (next : List ℕ → Asked → Result Answer Refusal) (name : List ℕ) (asked : Asked) → named_by question.station ≡ Ok name → named_by (asked_by question) ≡ Ok asked → asks_span question next ≡ next name asked
 unfolding asks_span
 asks_whole question next name asked named spans = rw (named, spans) refl
 
-excused_by : {A : Type 0} (memory : Bool) (expected : Result A Refusal) (refusal : Refusal) → expected ≡ Err refusal → Excused memory expected refusal
+pub excused_by : {A : Type 0} (memory : Bool) (expected : Result A Refusal) (refusal : Refusal) → expected ≡ Err refusal → Excused memory expected refusal
 excused_by true expected refusal e = tt
 excused_by false expected refusal e = e
 

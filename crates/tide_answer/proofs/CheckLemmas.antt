@@ -52,7 +52,7 @@ use Rattle.decimal_text.specs.declared.limits.TheConstants.{MOST_BYTES}
 
 -- ---- a text has a line for each cell
 
-lines_long : (lines : List (List ℕ)) → length lines ≤ length (joined lines)
+pub lines_long : (lines : List (List ℕ)) → length lines ≤ length (joined lines)
 lines_long [] = omega arith
 lines_long (line ∷ lines) =
     let more = lines_long lines in

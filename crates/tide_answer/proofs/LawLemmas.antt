@@ -153,7 +153,7 @@ accepted_true reads only book table bytes zone answer is rows ok accepted =
     let site = was.site in
     let written : IsTextOf cert bytes = rw was.read at (reads bytes) in
     let sound = only cert bytes written in
-    let found = found_of_site book table cert.station (asked_in cert) site is rows (near_read cert sound) was.found in
+    let found = found_of_site Events book table cert.station (asked_in cert) site is rows (near_read cert sound) was.found in
     let none = unrejected book site cert zone _ answer was.judged accepted in
     let answered : judged book site cert zone None ≡ answer = ap (judged book site cert zone) (sym none) ∙ was.judged in
     record {
@@ -185,7 +185,7 @@ all_none f s =
     let t = covers_of f s in
     rw (slack_none s f.slack t.slack ok.slack, track_none s names.Turn (Some f.turn) (Some t.turn) ok.turn, track_none s names.Slack f.slack t.slack ok.slack, track_none s names.Mark f.mark t.mark ok.mark) refl
 
-near_asked : (asked : Asked) → IsAskable asked → IsNear asked
+pub near_asked : (asked : Asked) → IsAskable asked → IsNear asked
 near_asked asked is = record { begin = moment_near asked.begin is.begin; end = moment_near asked.end is.end; mark = is.mark }
 
 -- what was certified is the text of a certificate
@@ -209,7 +209,7 @@ was_certified book table name asked certificate is rows askable ok =
     let was = site_certified book table name asked certificate ok in
     let site = was.0 in
     let near = near_asked asked askable in
-    let found = found_of_site book table name asked site is rows near was.1 in
+    let found = found_of_site Events book table name asked site is rows near was.1 in
     let ready = ready_of_found book asked site (found_at book site) near found in
     let tracks = sym (tracks_alike book asked site (found_at book site) (covers_of (followed_tide Second (found_at book site) asked.mark) (widened_of site.basis asked.begin asked.end)) found refl) in
     record {

@@ -8,7 +8,7 @@ use Rattle.question.specs.declared.question.Layout.{Layout}
 use Rattle.station_table.specs.declared.offsets.Offsets.{Offsets}
 use Rattle.zone_time.specs.declared.zone.Zone.{Zone}
 use Rattle.station_span.specs.declared.asked.Asked.{Asked}
-use Rattle.station_span.specs.declared.following.Listed.{Listed}
+use Rattle.station_span.specs.declared.following.FoundEvents.{FoundEvents}
 use Rattle.station_span.specs.declared.reach.Reach.{Reach}
 use Rattle.station_span.specs.declared.reach.Reach.TheVariants.{Events, Levels}
 use Rattle.tide_fault.specs.declared.refusal.Refusal.{Refusal}
@@ -62,7 +62,7 @@ refused_level memory book table name now zone site found refusal expected is exc
     rw expected (excused_then memory (level_in site.basis) _ refusal (rw is.basis at excused))
 
 -- where nothing is
-pub whole_clock : (book : Book) (table : List Offsets) (name : List ℕ) (now : ℤ) (zone : Zone) (site : Site) (found : Found) (listed : Listed) (level : ℤ) (rising : Bool) → IsNear (asked_from now) → HasSite Events book table name (asked_from now) site found → IsTideList found (asked_from now) listed → level ≡ tide_level found now → rising ≡ is_tide_rising found now → on_clock book table name now zone ≡ Ok (record { text = clock_text_of name found.units now level rising listed.events zone; rejected = false; cells = listed.cells })
+pub whole_clock : (book : Book) (table : List Offsets) (name : List ℕ) (now : ℤ) (zone : Zone) (site : Site) (found : Found) (listed : FoundEvents) (level : ℤ) (rising : Bool) → IsNear (asked_from now) → HasSite Events book table name (asked_from now) site found → IsTideList found (asked_from now) listed → level ≡ tide_level found now → rising ≡ is_tide_rising found now → on_clock book table name now zone ≡ Ok (record { text = clock_text_of name found.units now level rising listed.events zone; rejected = false; cells = listed.cells })
 unfolding on_clock
 whole_clock book table name now zone site found listed level rising near has tide level_is rising_is =
     let level_here = rw has.is.basis at has.level in

@@ -3,6 +3,9 @@ pub mod CertificateLemmas
 pub mod CheckLemmas
 pub mod LawLemmas
 pub mod LevelSteps
+pub mod ListedLemmas
+pub mod PeakLawLemmas
+pub mod PeakLemmas
 pub mod ReadyLemmas
 pub mod RowLemmas
 pub mod StreamLemmas

@@ -16,7 +16,7 @@ use Rattle.tide_answer.specs.declared.given.Given.{Given}
 use Rattle.station_span.specs.declared.reach.Reach.TheVariants.{Events}
 use Rattle.tide_fault.specs.declared.refusal.Refusal.{Refusal}
 use Rattle.station_span.specs.declared.station.Found.{Found}
-use Rattle.tide_answer.specs.Answers.{answered, built, asks_span, named_by, predicted, certified}
+use Rattle.tide_answer.specs.Answers.{answered, asks_span, named_by, predicted, certified}
 use Rattle.tide_answer.specs.Asking.{asked_by}
 use Rattle.station_span.specs.Following.{cells_of, tracks_of}
 use Rattle.event_list.specs.Events.{cell_count}
@@ -30,19 +30,19 @@ use Rattle.station_span.proofs.FoundLemmas.{excused_then}
 
 -- where the name is missing
 pub refused_station : (command : Command) (book : Book) (table : List Offsets) (question : Question) (given : Given) (refusal : Refusal) → question.command ≡ command → IsTrue (can_stream command) → named_by question.station ≡ Err refusal → prepared book table question given ≡ Err refusal
-unfolding prepared answered built asks_span
+unfolding prepared answered asks_span
 refused_station Predict book table question given refusal is can name = rw (is, name) refl
 refused_station Certify book table question given refusal is can name = rw (is, name) refl
 refused_station _ book table question given refusal is can name = absurd (let no = can in cc)
 
 pub refused_span : (command : Command) (book : Book) (table : List Offsets) (question : Question) (given : Given) (text : List ℕ) (refusal : Refusal) → question.command ≡ command → IsTrue (can_stream command) → named_by question.station ≡ Ok text → named_by (asked_by question) ≡ Err refusal → prepared book table question given ≡ Err refusal
-unfolding prepared answered built asks_span asked_by
+unfolding prepared answered asks_span asked_by
 refused_span Predict book table question given text refusal is can name span = rw (is, name, span) refl
 refused_span Certify book table question given text refusal is can name span = rw (is, name, span) refl
 refused_span _ book table question given text refusal is can name span = absurd (let no = can in cc)
 
 pub refused_site : (command : Command) (memory : Bool) (book : Book) (table : List Offsets) (question : Question) (given : Given) (text : List ℕ) (asked : Asked) (refusal : Refusal) → question.command ≡ command → IsTrue (can_stream command) → named_by question.station ≡ Ok text → named_by (asked_by question) ≡ Ok asked → Excused memory (site_in Events book table text asked) refusal → Excused memory (prepared book table question given) refusal
-unfolding prepared answered built asks_span asked_by predicted certified
+unfolding prepared answered asks_span asked_by predicted certified
 refused_site Predict memory book table question given text asked refusal is can name span excused =
     rw (is, name, span) (excused_then memory (site_in Events book table text asked >>= _) _ refusal (excused_then memory (site_in Events book table text asked) _ refusal excused))
 refused_site Certify memory book table question given text asked refusal is can name span excused =
@@ -51,7 +51,7 @@ refused_site _ memory book table question given text asked refusal is can name s
 
 -- where it doesn't stream
 pub ready_none : (command : Command) (book : Book) (table : List Offsets) (question : Question) (given : Given) (text : List ℕ) (asked : Asked) (site : Site) → question.command ≡ command → IsTrue (can_stream command) → named_by question.station ≡ Ok text → named_by (asked_by question) ≡ Ok asked → site_in Events book table text asked ≡ Ok site → streams_by site.basis question.layout given.zone ≡ false → prepared book table question given ≡ Ok (record { stream = None })
-unfolding prepared answered built asks_span asked_by predicted certified
+unfolding prepared answered asks_span asked_by predicted certified
 ready_none Predict book table question given text asked site is can name span found streams = rw (is, name, span, found, streams) refl
 ready_none Certify book table question given text asked site is can name span found streams = rw (is, name, span, found, streams) refl
 ready_none _ book table question given text asked site is can name span found streams = absurd (let no = can in cc)
@@ -63,7 +63,7 @@ both true false h = (refl, h)
 both false b h = (h, absurd cc)
 
 pub ready_some : (command : Command) (layout : Layout) (book : Book) (table : List Offsets) (question : Question) (given : Given) (text : List ℕ) (asked : Asked) (site : Site) (found : Found) → question.command ≡ command → question.layout ≡ layout → IsTrue (can_stream command) → named_by question.station ≡ Ok text → named_by (asked_by question) ≡ Ok asked → site_in Events book table text asked ≡ Ok site → IsFound Events book asked site found → streams_by site.basis layout given.zone ≡ true → prepared book table question given ≡ Ok (record { stream = Some (stream_answer (form_of command) found text asked given.zone) })
-unfolding prepared answered built asks_span asked_by predicted certified cells_of cell_count tracks_of
+unfolding prepared answered asks_span asked_by predicted certified cells_of cell_count tracks_of
 ready_some Predict Plain book table question given text asked site found is lay can name span at has streams =
     let events = sym (found_events book asked site found has) in
     let cells = sym (found_cells book asked site found has) in

@@ -1,7 +1,8 @@
 -- The answer to a question over a book of harmonic constants and a table of offsets (this project).
-use Rattle.std.specs.Prelude.{ℕ, ◌+◌, ◌/◌, ℤ, pos, ◌+ℤ◌, ◌-ℤ◌, ◌*ℤ◌, nat_lt, unsigned_abs, true, false, ◌==◌, if◌then◌else◌, List, ◌++◌, map, codes, Option, Some, None, Result, Ok, Err}
+use Rattle.std.specs.Prelude.{ℕ, ◌+◌, ◌/◌, ℤ, pos, ◌+ℤ◌, ◌-ℤ◌, ◌*ℤ◌, nat_lt, unsigned_abs, true, false, not, ◌==◌, if◌then◌else◌, List, ◌++◌, count_by, map, codes, Option, Some, None, Result, Ok, Err}
 use Rattle.std.specs.List.{range_with_len}
 use Rattle.std.specs.Option.{ok_or}
+use Rattle.std.specs.Ordering.{int_eq}
 use Rattle.cert_text.specs.declared.certificate.Certificate.{Certificate}
 use Rattle.cert_text.specs.declared.fault.CertFault.{CertFault}
 use Rattle.cert_text.specs.Lines.{certificate_text}
@@ -11,39 +12,49 @@ use Rattle.curve_law.specs.declared.event.Event.{Event}
 use Rattle.decimal_text.specs.Expected.{◌>>=◌}
 use Rattle.event_list.specs.Shifts.{widened_of}
 use Rattle.harmonics_text.specs.declared.book.Book.{Book}
+use Rattle.harmonics_text.specs.declared.book.Station.{Station}
 use Rattle.harmonics_text.specs.declared.book.Units.{Units}
+use Rattle.highest_water.specs.declared.certificate.PeakCertificate.{PeakCertificate}
+use Rattle.highest_water.specs.declared.fault.CertFault.{CertFault as PeakFault}
+use Rattle.highest_water.specs.declared.fault.CertFault.TheVariants as peak
+use Rattle.highest_water.specs.declared.verdict.PeakVerdict.{PeakVerdict}
+use Rattle.highest_water.specs.declared.verdict.PeakVerdict.TheVariants.{Accepted}
+use Rattle.highest_water.specs.PeakTexts.{peak_text}
+use Rattle.highest_water.specs.PeakReadings.{peak_of}
+use Rattle.highest_water.specs.Telling.{verdict_line}
 use Rattle.listing.specs.declared.row.Row.{Row}
-use Rattle.listing.specs.Listings.{plain_events_of, plain_heights_of, clock_text_of}
+use Rattle.listing.specs.Abouts.{about_text_of}
+use Rattle.listing.specs.Listings.{plain_events_of, plain_heights_of, clock_text_of, highest_text_of}
 use Rattle.listing.specs.Records.{csv_events_of, csv_heights_of}
 use Rattle.listing.specs.StationLists.{stations_text_of}
 use Rattle.question.specs.declared.command.Command.{Command}
-use Rattle.question.specs.declared.command.Command.TheVariants.{Predict, Certify, Check, Heights, Calendar, Clock, Stations, Sample, Trial}
+use Rattle.question.specs.declared.command.Command.TheVariants.{Predict, Certify, Check, Heights, Calendar, Clock, Stations, Sample, Trial, Serve, Report, Highest, Peak, PeakCheck, About}
 use Rattle.question.specs.declared.question.Layout.{Layout}
 use Rattle.question.specs.declared.question.Layout.TheVariants.{Plain, Csv}
 use Rattle.question.specs.declared.question.Question.{Question}
 use Rattle.rate_bound.specs.declared.version.Version.{Version}
 use Rattle.rate_bound.specs.declared.version.Version.TheVariants.{First, Second}
 use Rattle.sample_tides.specs.File.{sample_of}
+use Rattle.slope_agreement.specs.Agreements.{predicted_agreement}
 use Rattle.station_table.specs.declared.offsets.Offsets.{Offsets}
 use Rattle.zone_time.specs.declared.zone.Zone.{Zone}
+use Rattle.zone_time.specs.declared.zone.Zone.TheVariants.{Utc}
 use Rattle.station_span.specs.declared.asked.Asked.{Asked}
 use Rattle.tide_answer.specs.declared.given.Given.{Given}
 use Rattle.station_span.specs.declared.reach.Reach.TheVariants.{Events, Levels}
 use Rattle.tide_fault.specs.declared.refusal.Refusal.{Refusal}
-use Rattle.tide_fault.specs.declared.refusal.Refusal.TheVariants.{NotBuilt, NoStation, TooManyRows}
+use Rattle.tide_fault.specs.declared.refusal.Refusal.TheVariants.{NoMemory, NotACertificate, NoStation, TooManyRows}
 use Rattle.station_cells.specs.declared.rejection.Rejection.{Rejection}
+use Rattle.tide_answer.specs.declared.listed.Listed.{Listed}
 use Rattle.tide_answer.specs.declared.text.Answer.{Answer}
-use Rattle.tide_answer.specs.Asking.{asked_by, asked_from, asked_in, is_built}
+use Rattle.tide_answer.specs.Asking.{asked_by, asked_from, asked_in, asked_of_peak}
 use Rattle.tide_fault.specs.Faults.{refusal_of_cert}
 use Rattle.station_span.specs.Following.{followed_by, events_of, tracks_of, cells_of}
 use Rattle.station_cells.specs.Rejections.{rejection_of, rejection_line}
 use Rattle.station_span.specs.Levels.{is_rising_at, level_at, level_in}
-use Rattle.station_span.specs.Sites.{Site, site_in}
+use Rattle.station_span.specs.Peaks.{highest_of, highest_site, highest_verdict}
+use Rattle.station_span.specs.Sites.{Site, site_in, station_in}
 use Rattle.tide_answer.specs.Trials.{trial_of}
-
--- directly after the words: what isn't built as yet
-unfoldable pub built : Question → Result (Unit {0}) Refusal
-built question = if is_built question then Ok tt else Err NotBuilt
 
 -- a text for which no cells are counted
 abbrev pub text_alone : List ℕ → Answer
@@ -52,6 +63,14 @@ text_alone text = record { text = text; rejected = false; cells = 0 }
 -- a text of events, with the cells of the curves that they come from
 abbrev pub text_of_events : Book → Site → Asked → List ℕ → Answer
 text_of_events book site asked text = record { text = text; rejected = false; cells = cells_of book site asked }
+
+-- the word that accepts a certificate, and what follows of it
+abbrev pub text_accepted : List ℕ → Answer
+text_accepted told = text_alone (codes "Accepted\n" ++ told)
+
+-- the line of what is wrong with one
+abbrev pub text_rejected : List ℕ → Answer
+text_rejected line = record { text = line; rejected = true; cells = 0 }
 
 -- ---- events
 
@@ -98,8 +117,8 @@ version_of cert = if cert.version == 1 then First else Second
 -- a valid certificate is accepted, and the events follow that its own question has
 abbrev pub judged : Book → Site → Certificate → Zone → Option Rejection → Answer
 judged book site cert zone None =
-    text_alone (codes "Accepted\n" ++ plain_events_of cert.station site.station.units (events_of book site (asked_in cert)) zone)
-judged book site cert zone (Some rejection) = record { text = rejection_line rejection; rejected = true; cells = 0 }
+    text_accepted (plain_events_of cert.station site.station.units (events_of book site (asked_in cert)) zone)
+judged book site cert zone (Some rejection) = text_rejected (rejection_line rejection)
 
 unfoldable pub checked : Book → List Offsets → List ℕ → Zone → Result Answer Refusal
 checked book table bytes zone = do
@@ -148,6 +167,59 @@ on_clock book table name now zone = do
       (clock_text_of name site.station.units now (level_at book site now) (is_rising_at book site now)
       (events_of book site (asked_from now)) zone))
 
+-- ---- the highest water
+
+-- the minute and the level of the station, by its reference's minute
+abbrev pub highest_text_at : Book → Site → List ℕ → ℤ → Zone → List ℕ
+highest_text_at book site name at zone =
+    let minute = at +ℤ site.basis.high.add in highest_text_of name site.station.units minute (level_at book site minute) zone
+
+unfoldable pub highest : Book → List Offsets → List ℕ → Asked → Zone → Result Answer Refusal
+highest book table name asked zone = do
+  site ← highest_site book table name asked
+  Ok (text_alone (highest_text_at book site name (highest_of book site asked).at zone))
+
+-- its certificate
+abbrev pub peak_certificate_by : Book → Site → List ℕ → Asked → PeakCertificate
+peak_certificate_by book site name asked =
+    record { station = name; begin = asked.begin; end = asked.end; peak = highest_of book site asked }
+
+unfoldable pub peak_certified : Book → List Offsets → List ℕ → Asked → Result Answer Refusal
+peak_certified book table name asked = do
+  site ← highest_site book table name asked
+  Ok (text_alone (peak_text (peak_certificate_by book site name asked)))
+
+abbrev pub refusal_of_peak : PeakFault → Refusal
+refusal_of_peak peak.NoMemory = NoMemory
+refusal_of_peak (peak.NotACertificate line) = NotACertificate line
+
+abbrev pub peak_from : Result PeakCertificate PeakFault → Result PeakCertificate Refusal
+peak_from (Ok cert) = Ok cert
+peak_from (Err fault) = Err (refusal_of_peak fault)
+
+-- one that is accepted tells the highest water of its own question, in universal time
+abbrev pub peak_judged : Book → Site → PeakCertificate → PeakVerdict → Answer
+peak_judged book site cert Accepted = text_accepted (highest_text_at book site cert.station cert.peak.at Utc)
+peak_judged book site cert verdict = text_rejected (verdict_line verdict)
+
+unfoldable pub peak_checked : Book → List Offsets → List ℕ → Result Answer Refusal
+peak_checked book table bytes = do
+  cert ← peak_from (peak_of bytes)
+  site ← highest_site book table cert.station (asked_of_peak cert)
+  Ok (peak_judged book site cert (highest_verdict book site (asked_of_peak cert) cert.peak))
+
+-- ---- what is known of a station
+
+-- how many constituents its levels are made of
+abbrev pub constituent_count : Station → ℕ
+constituent_count station = count_by (λ amplitude. not (int_eq amplitude (pos 0))) station.amplitude
+
+unfoldable pub known : Book → List Offsets → List ℕ → Result Answer Refusal
+known book table name = do
+  site ← station_in book table name
+  Ok (text_alone (about_text_of name site.station.name site.station.units (constituent_count site.station)
+      (predicted_agreement book site.station)))
+
 -- ---- all of them
 
 -- what a question names of a station, where it names it
@@ -165,11 +237,19 @@ asks_name question next = do
   name ← named_by question.station
   next name
 
--- what a command that reads no file gives for a seed
+-- the events that a question asks, for whoever lays them out
+unfoldable pub listed : Book → List Offsets → Question → Result Listed Refusal
+listed book table question = do
+  name ← named_by question.station
+  asked ← named_by (asked_by question)
+  site ← site_in Events book table name asked
+  Ok (record { name = name; units = site.station.units; events = events_of book site asked })
+
+-- what a command that reads no file gives for a seed; the others are asked of a station
 abbrev pub text_from : Command → Option ℕ → Result Answer Refusal
 text_from Sample (Some seed) = Ok (text_alone (sample_of seed))
 text_from Trial (Some seed) = trial_of seed >>= λ text. Ok (text_alone text)
-text_from _ _ = Err NotBuilt
+text_from _ _ = Err NoStation
 
 -- the answer to a question that names no file, or the first refusal
 unfoldable pub answered_alone : Question → Result Answer Refusal
@@ -189,10 +269,14 @@ text_by Clock book table question given =
 text_by Stations book table question given = Ok (text_alone (stations_text_of book table))
 text_by Sample book table question given = answered_alone question
 text_by Trial book table question given = answered_alone question
-text_by _ book table question given = Err NotBuilt
+text_by Highest book table question given =
+    asks_span question (λ name asked. highest book table name asked given.zone)
+text_by Peak book table question given = asks_span question (λ name asked. peak_certified book table name asked)
+text_by PeakCheck book table question given = peak_checked book table given.certificate
+text_by About book table question given = asks_name question (λ name. known book table name)
+text_by Report book table question given = Err NoStation
+text_by Serve book table question given = Err NoStation
 
 -- the answer to a question over a book and a table that were read, or the first refusal
 unfoldable pub answered : Book → List Offsets → Question → Given → Result Answer Refusal
-answered book table question given = do
-  is ← built question
-  text_by question.command book table question given
+answered book table question given = text_by question.command book table question given

@@ -1,9 +1,8 @@
 -- What a question asks of a station: a span, and perhaps a mark (this project).
-use Rattle.std.specs.Prelude.{ℤ, pos, ◌+ℤ◌, Bool, true, false, Option, None, option_and_then}
+use Rattle.std.specs.Prelude.{ℤ, pos, ◌+ℤ◌, Option, None, option_and_then}
 use Rattle.std.specs.Option.{option_map}
 use Rattle.cert_text.specs.declared.certificate.Certificate.{Certificate}
-use Rattle.question.specs.declared.command.Command.{Command}
-use Rattle.question.specs.declared.command.Command.TheVariants.{Predict, Certify, Check, Heights, Calendar, Clock, Stations, Sample, Trial}
+use Rattle.highest_water.specs.declared.certificate.PeakCertificate.{PeakCertificate}
 use Rattle.question.specs.declared.question.Question.{Question}
 use Rattle.station_span.specs.declared.asked.Asked.{Asked}
 
@@ -20,20 +19,6 @@ asked_from now = record { begin = now; end = now +ℤ pos 1440; mark = None }
 abbrev pub asked_in : Certificate → Asked
 asked_in cert = record { begin = cert.begin; end = cert.end; mark = cert.mark }
 
--- ---- What is built as yet
-
-abbrev pub is_built_command : Command → Bool
-is_built_command Predict = true
-is_built_command Certify = true
-is_built_command Check = true
-is_built_command Heights = true
-is_built_command Calendar = true
-is_built_command Clock = true
-is_built_command Stations = true
-is_built_command Sample = true
-is_built_command Trial = true
-is_built_command _ = false
-
--- every question of a command that is built
-abbrev pub is_built : Question → Bool
-is_built question = is_built_command question.command
+-- what a certificate of a highest water speaks of
+abbrev pub asked_of_peak : PeakCertificate → Asked
+asked_of_peak cert = record { begin = cert.begin; end = cert.end; mark = None }

@@ -1,4 +1,5 @@
 pub mod Certifying
+pub mod Peaks
 pub mod Rows
 pub mod Streaming
 pub mod Tallies

@@ -7,7 +7,7 @@ ghost use Rattle.tide_answer.specs.Answers.{answered_alone, text_from};
 ghost use Rattle.tide_fault.specs.Faults.{wants_memory_of_refusal, IsToldRefusal};
 
 use crate::sample::give_sample;
-use crate::text::Answer;
+use crate::text::{Answer, text_alone};
 use crate::trial::try_sample;
 use question::{Command, SoundQuestion};
 use std::alloc::Global;
@@ -27,7 +27,7 @@ pub fn answer_alone(alloc: Global, question: &SoundQuestion<'_>) -> Result<Answe
     match (question.command, question.seed) {
         (Command::Sample, Some(seed)) => Ok(give_sample(alloc, seed)?),
         (Command::Trial, Some(seed)) => give_trial(alloc, seed),
-        _ => Err(Refusal::NotBuilt),
+        _ => Err(Refusal::NoStation),
     }
 }
 
@@ -36,9 +36,5 @@ fn give_trial(alloc: Global, seed: u64) -> Result<Answer, Refusal>
     ensures exact { Gives wants_memory_of_refusal (text_from Command.Trial (Some seed)) result }
     ensures told { IfErr result (IsToldRefusal []) }
 {
-    Ok(Answer {
-        text: try_sample(alloc, seed)?,
-        rejected: false,
-        cells: 0,
-    })
+    Ok(text_alone(try_sample(alloc, seed)?))
 }

@@ -5,21 +5,23 @@ ghost use Rattle.decimal_text.specs.Expected.{Gives};
 ghost use Rattle.harmonics_text.specs.Books.{IsBook};
 ghost use Rattle.listing.specs.StationLists.{stations_text_of};
 ghost use Rattle.question.specs.Asked.{IsAsked};
-ghost use Rattle.tide_answer.specs.Answers.{answered, text_by, text_alone, predicted, certified, heights, on_calendar, on_clock, asks_name, asks_span};
+ghost use Rattle.tide_answer.specs.Answers.{answered, text_by, text_alone, predicted, certified, heights, highest, known, on_calendar, on_clock, peak_certified, asks_name, asks_span};
 ghost use Rattle.tide_fault.specs.Faults.{wants_memory_of_refusal, IsToldRefusal};
 ghost use Rattle.tide_answer.specs.Givens.{IsGiven};
 
+use crate::about::tell_about;
 use crate::alone::answer_alone;
 use crate::asking::{span_named, station_named};
-use crate::built::check_built;
 use crate::calendar::list_days;
 use crate::certify::certify;
 use crate::check::check;
 use crate::clock::tell_now;
 use crate::given::Given;
 use crate::heights::list_heights;
+use crate::highest::{certify_peak, tell_highest};
+use crate::peak_check::check_peak_text;
 use crate::predict::predict;
-use crate::text::Answer;
+use crate::text::{Answer, text_alone};
 use harmonics_text::{Book, SoundBook};
 use listing::stations_text;
 use question::{Command, Question, SoundQuestion};
@@ -28,9 +30,10 @@ use std::alloc::Global;
 use tide_fault::Refusal;
 use zone_time::ZoneClock;
 
-/// The answer to a question over a book and a table, or the first refusal in their order: what isn't
-/// built, a certificate's form, the station, its unit, the span, the limits, the mark, a level, the
-/// rows.
+/// The answer to a question over a book and a table, or the first refusal in their order: a
+/// certificate's form, the station, its unit, the span, the limits, the mark, a level, the rows. A
+/// report is answered by [`station_events`](crate::station_events), and serving by no text: these are
+/// answered as a question without a station.
 ///
 /// # Errors
 /// Each [`Refusal`] exactly where `specs/Answers.antt` has it; [`Refusal::NoMemory`] says nothing
@@ -49,7 +52,6 @@ pub fn answer(
     ensures exact { Gives wants_memory_of_refusal (answered book.now table.now question.now given.entry.now) result }
     ensures told { IfErr result (IsToldRefusal table.now) }
 {
-    check_built(question)?;
     let book = SoundBook::new(book);
     let question = SoundQuestion::new(question);
     answer_command(alloc, &book, table, &question, given)
@@ -76,10 +78,15 @@ fn answer_command(
         Command::Clock => answer_clock(alloc, book, table, question, given),
         Command::Stations => answer_stations(alloc, book.get(), table),
         Command::Sample | Command::Trial => answer_alone(alloc, question),
-        _ => Err(Refusal::NotBuilt),
+        Command::Highest => answer_highest(alloc, book, table, question, zone),
+        Command::Peak => answer_peak(alloc, book, table, question),
+        Command::PeakCheck => check_peak_text(alloc, book, table, &given.certificate),
+        Command::About => answer_about(alloc, book, table, question),
+        Command::Report | Command::Serve => Err(Refusal::NoStation),
     }
 }
 
+#[tactic(auto, unfolding(crate::specs::Answers::asks_span))]
 fn answer_predict(
     alloc: Global,
     book: &SoundBook<'_>,
@@ -96,6 +103,7 @@ fn answer_predict(
     predict(alloc, book, table, name, &asked, layout, zone)
 }
 
+#[tactic(auto, unfolding(crate::specs::Answers::asks_span))]
 fn answer_certify(
     alloc: Global,
     book: &SoundBook<'_>,
@@ -110,6 +118,7 @@ fn answer_certify(
     certify(alloc, book, table, name, &asked)
 }
 
+#[tactic(auto, unfolding(crate::specs::Answers::asks_span))]
 fn answer_heights(
     alloc: Global,
     book: &SoundBook<'_>,
@@ -126,6 +135,7 @@ fn answer_heights(
     list_heights(alloc, book, table, name, &asked, *step, *layout, zone)
 }
 
+#[tactic(auto, unfolding(crate::specs::Answers::asks_span))]
 fn answer_calendar(
     alloc: Global,
     book: &SoundBook<'_>,
@@ -141,6 +151,7 @@ fn answer_calendar(
     list_days(alloc, book, table, name, &asked, zone)
 }
 
+#[tactic(auto, unfolding(crate::specs::Answers::asks_name))]
 fn answer_clock(
     alloc: Global,
     book: &SoundBook<'_>,
@@ -160,10 +171,50 @@ fn answer_stations(alloc: Global, book: &Book, table: &OffsetTable) -> Result<An
     ensures exact { IfOk result (λ answer. answer ≡ text_alone (stations_text_of book.now table.now)) }
     ensures memory { IfErr result (λ refusal. refusal ≡ Refusal.NoMemory) }
 {
-    let text = stations_text(alloc, book, table)?;
-    Ok(Answer {
-        text,
-        rejected: false,
-        cells: 0,
-    })
+    Ok(text_alone(stations_text(alloc, book, table)?))
+}
+
+#[tactic(auto, unfolding(crate::specs::Answers::asks_span))]
+fn answer_highest(
+    alloc: Global,
+    book: &SoundBook<'_>,
+    table: &OffsetTable,
+    question: &SoundQuestion<'_>,
+    zone: &ZoneClock<'_>,
+) -> Result<Answer, Refusal>
+    ensures exact { Gives wants_memory_of_refusal (asks_span question.now (λ name asked. highest book.now table.now name asked zone.now)) result }
+    ensures told { IfErr result (IsToldRefusal table.now) }
+{
+    let name = station_named(question)?;
+    let asked = span_named(question)?;
+    tell_highest(alloc, book, table, name, &asked, zone)
+}
+
+#[tactic(auto, unfolding(crate::specs::Answers::asks_span))]
+fn answer_peak(
+    alloc: Global,
+    book: &SoundBook<'_>,
+    table: &OffsetTable,
+    question: &SoundQuestion<'_>,
+) -> Result<Answer, Refusal>
+    ensures exact { Gives wants_memory_of_refusal (asks_span question.now (λ name asked. peak_certified book.now table.now name asked)) result }
+    ensures told { IfErr result (IsToldRefusal table.now) }
+{
+    let name = station_named(question)?;
+    let asked = span_named(question)?;
+    certify_peak(alloc, book, table, name, &asked)
+}
+
+#[tactic(auto, unfolding(crate::specs::Answers::asks_name))]
+fn answer_about(
+    alloc: Global,
+    book: &SoundBook<'_>,
+    table: &OffsetTable,
+    question: &SoundQuestion<'_>,
+) -> Result<Answer, Refusal>
+    ensures exact { Gives wants_memory_of_refusal (asks_name question.now (λ name. known book.now table.now name)) result }
+    ensures told { IfErr result (IsToldRefusal table.now) }
+{
+    let name = station_named(question)?;
+    tell_about(alloc, book, table, name)
 }

@@ -1,12 +1,14 @@
-//! What a question names of a station.
+//! What a question, or a certificate, asks of a station.
 
 ghost use Rattle.std.specs.Prelude.{◌≡◌, [], Ok, Err, IfErr, IfOk};
 ghost use Rattle.tide_answer.specs.Answers.{named_by};
-ghost use Rattle.tide_answer.specs.Asking.{asked_by, asked_from};
+ghost use Rattle.tide_answer.specs.Asking.{asked_by, asked_in, asked_of_peak};
 ghost use Rattle.tide_fault.specs.Faults.{IsToldRefusal};
 ghost use Rattle.station_span.specs.Workings.Spans.{AreMoments, IsNear};
 
+use cert_text::Certificate;
 use decimal_text::Text;
+use highest_water::PeakCertificate;
 use question::SoundQuestion;
 use station_span::Asked;
 use tide_fault::Refusal;
@@ -39,5 +41,27 @@ pub fn span_named(question: &SoundQuestion<'_>) -> Result<Asked, Refusal>
             mark: question.mark,
         }),
         _ => Err(Refusal::NoStation),
+    }
+}
+
+/// What a certificate speaks of.
+pub fn asked_in(cert: &Certificate) -> Asked
+    ensures { result ≡ asked_in cert.now }
+{
+    Asked {
+        begin: cert.begin,
+        end: cert.end,
+        mark: cert.mark,
+    }
+}
+
+/// What a certificate of a highest water speaks of.
+pub fn asked_of_peak(cert: &PeakCertificate) -> Asked
+    ensures { result ≡ asked_of_peak cert.now }
+{
+    Asked {
+        begin: cert.begin,
+        end: cert.end,
+        mark: None,
     }
 }

@@ -1,27 +1,27 @@
 //! The check of a certificate.
 
-ghost use Rattle.std.specs.Prelude.{◌≡◌, ◌≤◌, ◌<◌, ◌^◌, ◌++◌, codes, length, None, All, IfOk, IfErr};
+ghost use Rattle.std.specs.Prelude.{◌≡◌, ◌≤◌, length, None, IfOk, IfErr};
 ghost use Rattle.cert_text.specs.Certificates.{IsCertificate};
 ghost use Rattle.decimal_text.specs.Expected.{Gives};
-ghost use Rattle.listing.specs.Listings.{plain_events_of};
 ghost use Rattle.tide_answer.specs.Answers.{checked};
 ghost use Rattle.tide_answer.specs.Asking.{asked_in};
 ghost use Rattle.tide_fault.specs.Faults.{wants_memory_of_refusal, IsToldRefusal};
 ghost use Rattle.station_cells.specs.Rejections.{HasFewCells};
-ghost use Rattle.tide_answer.specs.Workings.Certifying.{accepted, rejected, judged_in, tide_rejection};
+ghost use Rattle.tide_answer.specs.Workings.Certifying.{accepted, judged_in, tide_rejection};
 ghost use Rattle.station_span.specs.Workings.Curves.{tide_events, IsReady};
 ghost use Rattle.station_span.specs.Workings.Spans.{IsNear};
 ghost use Rattle.decimal_text.specs.declared.limits.TheConstants.{MOST_BYTES};
 
+use crate::asking::asked_in;
 use crate::judging::find_rejection;
-use crate::text::Answer;
+use crate::text::{Answer, accepted, rejected};
 use cert_text::{Certificate, certificates_have_one_text, read_certificate};
 use curve_law::Events;
 use decimal_text::Bytes;
 use event_list::{merged, shifted};
 use harmonics_text::SoundBook;
 use listing::plain_events;
-use station_cells::{Rejection, rejection_line};
+use station_cells::rejection_line;
 use station_span::{Asked, Found, Reach, find_station, reached};
 use station_table::OffsetTable;
 use std::alloc::{AllocError, Global};
@@ -64,29 +64,8 @@ fn judge(
     let found = find_station(alloc, book, table, Reach::Events, &cert.station, &asked)?;
     match find_rejection(&found, &asked, cert) {
         None => Ok(accept(alloc, &found, &asked, cert, zone)?),
-        Some(rejection) => Ok(reject(alloc, rejection)?),
+        Some(rejection) => Ok(rejected(rejection_line(alloc, rejection)?)),
     }
-}
-
-/// What a certificate speaks of.
-fn asked_in(cert: &Certificate) -> Asked
-    ensures { result ≡ asked_in cert.now }
-{
-    Asked {
-        begin: cert.begin,
-        end: cert.end,
-        mark: cert.mark,
-    }
-}
-
-fn reject(alloc: Global, rejection: Rejection) -> Result<Answer, AllocError>
-    ensures { IfOk result (λ answer. answer ≡ rejected rejection) }
-{
-    Ok(Answer {
-        text: rejection_line(alloc, rejection)?,
-        rejected: true,
-        cells: 0,
-    })
 }
 
 // The events that the cells of a valid certificate have, which are those that its question has.
@@ -107,20 +86,7 @@ fn accept(
 {
     let events = events_of(alloc, found, asked, cert)?;
     let list = plain_events(alloc, &cert.station, found.units, &events, zone.zone())?;
-    Ok(Answer {
-        text: accepted_text(alloc, &list)?,
-        rejected: false,
-        cells: 0,
-    })
-}
-
-fn accepted_text(alloc: Global, list: &Bytes) -> Result<Bytes, AllocError>
-    ensures { IfOk result (λ text. text ≡ codes "Accepted\n" ++ list.now) }
-{
-    let mut text = Vec::new(alloc);
-    text.extend_from_slice(b"Accepted\n")?;
-    text.extend_from_slice(list.as_slice())?;
-    Ok(Bytes::from_vec(text))
+    accepted(alloc, &list)
 }
 
 fn events_of(

@@ -9,7 +9,7 @@ ghost use Rattle.station_span.specs.Workings.Levels.{HasLevel, HasLevelsIn};
 ghost use Rattle.station_span.specs.Workings.Spans.{IsNear};
 ghost use Rattle.zone_time.specs.Zones.{InZoneYears};
 
-use crate::text::Answer;
+use crate::text::{Answer, text_alone};
 use decimal_text::{Bytes, Text};
 use harmonics_text::{SoundBook, Units};
 use listing::{Row, Rows, csv_heights, plain_heights};
@@ -46,11 +46,7 @@ pub fn list_heights(
     check_rows(asked, step)?;
     let rows = rows_of(alloc, &found, asked, step)?;
     let text = heights_text(alloc, layout, name, found.units, &rows, zone)?;
-    Ok(Answer {
-        text,
-        rejected: false,
-        cells: 0,
-    })
+    Ok(text_alone(text))
 }
 
 #[tactic(auto, unfolding(crate::specs::Answers::rows_in))]

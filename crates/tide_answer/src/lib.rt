@@ -6,10 +6,10 @@
 //! found, without memory. The top call brings these their files and words, and carries the text away.
 #![tactic(auto)]
 
+mod about;
 mod alone;
 mod answering;
 mod asking;
-mod built;
 mod calendar;
 mod certify;
 mod certifying;
@@ -18,8 +18,12 @@ mod clock;
 mod form;
 mod given;
 mod heights;
+mod highest;
 mod judging;
 mod laws;
+mod listed;
+mod peak_check;
+mod peak_laws;
 mod predict;
 mod ready;
 mod sample;
@@ -33,10 +37,13 @@ mod trial;
 pub use alone::answer_alone;
 pub use answering::answer;
 pub use book_loading::load_book;
-pub use built::check_built;
 pub use given::Given;
 pub use heights::worked_rows;
 pub use laws::{accepted_is_true, certified_is_accepted, certified_is_short};
+pub use listed::{Listed, station_events};
+pub use peak_laws::{
+    accepted_peak_is_true, highest_is_told, peak_certified_is_accepted, peak_certified_is_short,
+};
 pub use ready::{Ready, answer_into, can_stream, prepare};
 pub use station_cells::Rejection;
 pub use station_span::{Asked, Reach};

@@ -12,7 +12,7 @@ use decimal_text::{Bytes, Text};
 use harmonics_text::SoundBook;
 use listing::{csv_events, plain_events};
 use question::Layout;
-use station_span::{Asked, Listed, list_station};
+use station_span::{Asked, FoundEvents, list_station};
 use station_table::OffsetTable;
 use std::alloc::{AllocError, Global};
 use tide_fault::Refusal;
@@ -46,7 +46,7 @@ fn list_events(
     alloc: Global,
     layout: Layout,
     name: &Text,
-    listed: &Listed,
+    listed: &FoundEvents,
     zone: &ZoneClock<'_>,
 ) -> Result<Bytes, AllocError>
     requires listed { All (IsListed listed.now.units) listed.now.events }

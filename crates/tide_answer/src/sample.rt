@@ -4,7 +4,7 @@ ghost use Rattle.std.specs.Prelude.{◌≡◌, IfOk};
 ghost use Rattle.sample_tides.specs.File.{sample_of};
 ghost use Rattle.tide_answer.specs.Answers.{text_alone};
 
-use crate::text::Answer;
+use crate::text::{Answer, text_alone};
 use sample_tides::sample;
 use std::alloc::{AllocError, Global};
 
@@ -12,9 +12,5 @@ use std::alloc::{AllocError, Global};
 pub fn give_sample(alloc: Global, seed: u64) -> Result<Answer, AllocError>
     ensures { IfOk result (λ answer. answer ≡ text_alone (sample_of seed)) }
 {
-    Ok(Answer {
-        text: sample(alloc, seed)?,
-        rejected: false,
-        cells: 0,
-    })
+    Ok(text_alone(sample(alloc, seed)?))
 }

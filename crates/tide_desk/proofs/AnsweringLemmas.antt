@@ -3,23 +3,26 @@ use Rattle.std.proofs.Common.{◌≡◌, ℕ, ℤ, Bool, true, false, cond, if�
 use Rattle.std.specs.Bool.{IsTrue}
 use Rattle.std.specs.Prelude.{IsOk, IsSome, count_by, pos}
 use Rattle.std.specs.Option.{IsSomeAnd, option_map_or}
-use Rattle.decimal_text.specs.Expected.{Gives}
+use Rattle.std.specs.Result.{IsErrAnd}
+use Rattle.decimal_text.specs.Expected.{Excused, Gives, Meets}
 use Rattle.question.specs.declared.command.Command.{Command}
 use Rattle.question.specs.declared.question.Question.{Question}
+use Rattle.report_sheets.specs.Sheets.{SheetMeaning}
 use Rattle.tide_answer.specs.declared.text.Answer.{Answer}
 use Rattle.tide_answer.specs.Answers.{answered_alone}
 use Rattle.tide_edge.specs.Clocks.{ClockState, clock_after}
-use Rattle.decimal_text.specs.Expected.{Meets}
 use Rattle.tide_edge.specs.Faults.{Rose, counted}
 use Rattle.tide_edge.specs.FileStates.{FilesState}
 use Rattle.tide_edge.specs.Whole.{Allowance, ReadWithin, no_file}
 use Rattle.tide_edge.proofs.ReadingLemmas.{read_none}
 use Rattle.tide_fault.specs.declared.fault.Fault.{Fault}
+use Rattle.tide_fault.specs.Faults.{wants_memory as fault_wants_memory}
 use Rattle.named_files.specs.declared.no_answer.NoAnswer.{NoAnswer}
+use Rattle.named_files.specs.declared.no_answer.NoAnswer.TheVariants.{Told}
 use Rattle.named_files.specs.NoAnswers.{source_of, told, wants_memory}
 use Rattle.named_files.specs.Readings.{Folders, files_allowed, files_in}
-use Rattle.named_files.proofs.ReadingLemmas.{meets_inside}
-use Rattle.tide_desk.specs.Answers.{AsksClock, HasFiles, NamesFile, allowed_by, answered_by, answered_over, asks_clock, minute_for, refused_from}
+use Rattle.named_files.proofs.ReadingLemmas.{meets_at, meets_inside, told_excuses}
+use Rattle.tide_desk.specs.Answers.{AsksClock, HasFiles, NamesFile, allowed_by, answer_from, answered_by, answered_over, asked_of, asks_clock, minute_for, refused_from}
 use Rattle.tide_desk.specs.Outcomes.{Sources, WentOn, sources}
 
 -- ---- What was read, and what was asked of the clock
@@ -92,16 +95,29 @@ at_zero false = refl
 pub minute_unasked : (command : Command) → pos 0 ≡ minute_for command (pos 0)
 minute_unasked command = at_zero (asks_clock command)
 
--- ---- A question that names a file, and one that names none
+-- ---- Words that ask nothing, that name a file, or that name none
 
-pub meets_named : (firm : Type 0) (folders : Folders) (minute : ℤ) (question : Question) (name : List ℕ) (result : Result Answer NoAnswer) → question.file ≡ Some name → Meets source_of firm (answered_over folders minute question name) result → Meets source_of firm (answered_by folders minute question question.file) result
-meets_named firm folders minute question name result is meets =
-    let P : Option (List ℕ) → Type 0 = λ file. Meets source_of firm (answered_by folders minute question file) result in subst P (sym is) meets
+pub meets_unasked : (firm : Type 0) (sheets : List SheetMeaning) (folders : Folders) (minute : ℤ) (words : List (List ℕ)) (fault : Fault) (result : Result Answer NoAnswer)
+    → IsErrAnd result (λ none. none ≡ Told fault) → Excused (fault_wants_memory fault) (asked_of sheets words) fault → Meets source_of firm (answer_from sheets folders minute words) result
+unfolding answer_from
+meets_unasked firm sheets folders minute words fault result is excused =
+    meets_at firm (told (asked_of sheets words)) _ result (Told fault) is (told_excuses firm (asked_of sheets words) fault excused)
 
-pub meets_alone : (firm : Type 0) (folders : Folders) (minute : ℤ) (question : Question) (result : Result Answer NoAnswer) → question.file ≡ None → Gives wants_memory (told (refused_from (answered_alone question))) result → Meets source_of firm (answered_by folders minute question question.file) result
-meets_alone firm folders minute question result is gives =
-    let P : Option (List ℕ) → Type 0 = λ file. Meets source_of firm (answered_by folders minute question file) result in
-    subst P (sym is) (meets_inside firm (told (refused_from (answered_alone question))) result gives)
+pub meets_named : (firm : Type 0) (sheets : List SheetMeaning) (folders : Folders) (minute : ℤ) (words : List (List ℕ)) (question : Question) (name : List ℕ) (result : Result Answer NoAnswer)
+    → asked_of sheets words ≡ Ok question → question.file ≡ Some name → Meets source_of firm (answered_over sheets folders minute question name) result
+    → Meets source_of firm (answer_from sheets folders minute words) result
+unfolding answer_from
+meets_named firm sheets folders minute words question name result is named meets =
+    let P : Option (List ℕ) → Type 0 = λ file. Meets source_of firm (answered_by sheets folders minute question file) result in
+    rw is (subst P (sym named) meets)
+
+pub meets_alone : (firm : Type 0) (sheets : List SheetMeaning) (folders : Folders) (minute : ℤ) (words : List (List ℕ)) (question : Question) (result : Result Answer NoAnswer)
+    → asked_of sheets words ≡ Ok question → question.file ≡ None → Gives wants_memory (told (refused_from (answered_alone question))) result
+    → Meets source_of firm (answer_from sheets folders minute words) result
+unfolding answer_from
+meets_alone firm sheets folders minute words question result is none gives =
+    let P : Option (List ℕ) → Type 0 = λ file. Meets source_of firm (answered_by sheets folders minute question file) result in
+    rw is (subst P (sym none) (meets_inside firm (told (refused_from (answered_alone question))) result gives))
 
 pub has_files : (folders : Folders) (asked : Result Question Fault) (question : Question) (name : List ℕ) → asked ≡ Ok question → question.file ≡ Some name → IsOk (files_in folders question name) → HasFiles folders asked
 has_files folders asked question name is named read =

@@ -1,12 +1,13 @@
 -- What is known of a question that words ask.
 use Rattle.std.proofs.Common.{◌≡◌, ℕ, ◌+◌, ℤ, ◌≤◌, Bool, true, false, cond, not, ◌&&◌, List, [], ◌∷◌, Option, Some, None, is_some, Result, Ok, Err, refl, subst, sym, ap, ◌∙◌}
-use Rattle.std.specs.Prelude.{option_and_then, unsigned_abs}
+use Rattle.std.specs.Prelude.{option_and_then, unsigned_abs, unwrap_or}
 use Rattle.std.specs.List.{find}
 use Rattle.std.specs.Option.{ForSome, ok_or}
 use Rattle.std.specs.Str.{bytes_eq}
 use Rattle.std.proofs.lemmas.Bool.{and_parts}
+use Rattle.std.proofs.lemmas.Slice.Eq.{bytes_eq-Decides}
+use Rattle.curve_law.proofs.CoverLemmas.{by_test}
 use Rattle.question.specs.declared.command.Command.{Command}
-use Rattle.question.specs.declared.command.Command.TheVariants.{Predict}
 use Rattle.question.specs.declared.fault.AskFault.{AskFault}
 use Rattle.question.specs.declared.fault.AskFault.TheVariants.{UnknownCommand, NotAPair, UnknownKey, RepeatedKey, BadValue}
 use Rattle.question.specs.declared.key.Key.{Key}
@@ -15,20 +16,23 @@ use Rattle.question.specs.declared.origin.Origin.TheVariants.{Line}
 use Rattle.question.specs.declared.pairs.Item.{Item}
 use Rattle.question.specs.declared.pairs.Pairs.{Pairs}
 use Rattle.question.specs.declared.question.Question.{Question}
-use Rattle.question.specs.Forms.{mark_of, some_text}
+use Rattle.question.specs.declared.question.ZoneWord.TheVariants.{Utc}
+use Rattle.question.specs.Forms.{mark_of, some_text, zone_of}
 use Rattle.question.specs.Keys.{all_keys, has_key, key_named, name_of}
 use Rattle.question.specs.Questions.{Said, nothing_said, also, refuse_if, has_form, command_of, with_item, with_items, missing_key, complete, asked, question_of}
 use Rattle.question.specs.Words.{pairs_of}
 use Rattle.question.proofs.FormLemmas.{moment_of-range, mark_of-range}
+use Rattle.report_sheets.specs.Pages.{missing_of}
+use Rattle.report_sheets.specs.Sheets.{SheetMeaning}
 use Rattle.zone_time.specs.Moments.{IsMoment, moment_of}
 use Rattle.station_span.specs.declared.asked.Asked.{Asked}
 use Rattle.tide_fault.specs.declared.refusal.Refusal.{Refusal}
 use Rattle.tide_answer.specs.declared.text.Answer.{Answer}
-use Rattle.tide_answer.specs.Answers.{asks_span, built, named_by}
+use Rattle.tide_answer.specs.Answers.{asks_span, named_by}
 use Rattle.tide_answer.specs.Asking.{asked_by}
 use Rattle.tide_answer.specs.Laws.{IsAskable}
 use Rattle.station_span.proofs.SiteLemmas.{then_ok}
-use Rattle.tide_desk.specs.Answers.{asked_of, ask_from, asks_to_serve, question_in, refused_from}
+use Rattle.tide_desk.specs.Answers.{asked_of, ask_from, asks_to_serve, known_in, question_in, wanted_by}
 
 -- ---- the question of pairs
 
@@ -55,12 +59,12 @@ unserved : (serves : Bool) (asked : Result Question AskFault) (question : Questi
 unserved true asked question ok = absurd cc
 unserved false asked question ok = ok
 
-words_ask : (words : List (List ℕ)) (question : Question) → asked_of words ≡ Ok question → WasAsked (pairs_of words) question
+words_ask : (sheets : List SheetMeaning) (words : List (List ℕ)) (question : Question) → asked_of sheets words ≡ Ok question → WasAsked (pairs_of words) question
 unfolding asked_of
-words_ask words question ok =
+words_ask sheets words question ok =
     let asked = then_ok (ask_from (question_in (pairs_of words))) _ question ok in
-    let is = then_ok (refused_from (built asked.0)) _ question asked.2 in
-    let same : asked.0 ≡ question = (let last = is.2 in cc) in
+    let known = then_ok (known_in (wanted_by asked.0) (missing_of sheets (wanted_by asked.0))) _ question asked.2 in
+    let same : asked.0 ≡ question = (let last = known.2 in cc) in
     pairs_ask (pairs_of words) question
     (unserved (asks_to_serve (pairs_of words)) (question_of (pairs_of words)) question
     (ask_ok (question_in (pairs_of words)) question (asked.1 ∙ ap (λ (q : Question). Ok q) same)))
@@ -76,16 +80,16 @@ value_in_range : {V : Type 0} (P : V → Type 0) (form : List ℕ → Option V) 
 value_in_range P form None range v is = absurd cc
 value_in_range P form (Some text) range v is = range text v is
 
-pub asked_in_range : (words : List (List ℕ)) (question : Question) → asked_of words ≡ Ok question → IsInRange question
-asked_in_range words question ok =
-    let was = words_ask words question ok in
+pub asked_in_range : (sheets : List SheetMeaning) (words : List (List ℕ)) (question : Question) → asked_of sheets words ≡ Ok question → IsInRange question
+asked_in_range sheets words question ok =
+    let was = words_ask sheets words question ok in
     subst IsInRange was.is (record {
       begin = value_in_range IsMoment moment_of (was.said key.Begin) moment_of-range;
       end = value_in_range IsMoment moment_of (was.said key.End) moment_of-range;
       mark = value_in_range (λ millionths. unsigned_abs millionths ≤ 10000000000) mark_of (was.said key.Mark) mark_of-range;
     })
 
--- ---- words that ask `predict` name no certificate
+-- ---- words name no key that their command hasn't
 
 found_passes : {X : Type 0} (test : X → Bool) (xs : List X) (x : X) → find test xs ≡ Some x → test x ≡ true
 found_passes test [] x is = absurd cc
@@ -99,49 +103,53 @@ got_ok : {A E : Type 0} (o : Option A) (fault : E) (x : A) → ok_or o fault ≡
 got_ok (Some y) fault x ok = cc
 got_ok None fault x ok = absurd cc
 
-abbrev Unsaid : Said → Type 0
-Unsaid said = said key.Certificate ≡ None
+-- the command has no key of that name
+abbrev pub Lacks : Command → Key → Type 0
+Lacks command k = key_named Line command (name_of k) ≡ None
 
-key_unsaid : (k : Key) (text : List ℕ) (said : Said) → has_key Line Predict k ≡ true → Unsaid said → Unsaid (also k text said)
-key_unsaid key.File text said has none = none
-key_unsaid key.Offsets text said has none = none
-key_unsaid key.Certificate text said has none = absurd cc
-key_unsaid key.Station text said has none = none
-key_unsaid key.Begin text said has none = none
-key_unsaid key.End text said has none = none
-key_unsaid key.Mark text said has none = none
-key_unsaid key.Step text said has none = none
-key_unsaid key.Zone text said has none = none
-key_unsaid key.Layout text said has none = none
-key_unsaid key.Seed text said has none = none
-key_unsaid key.Port text said has none = none
-key_unsaid key.Sheets text said has none = none
+key_unsaid : (command : Command) (k new : Key) (name text : List ℕ) (said : Said) → Lacks command k → key_named Line command name ≡ Some new → said k ≡ None → also new text said k ≡ None
+key_unsaid command k new name text said lacks found none = by_test (bytes_eq (name_of k) (name_of new))
+    (λ same.
+    let passes = found_passes (λ k. bytes_eq (name_of k) name && has_key Line command k) all_keys new found in
+    let first = (bytes_eq-Decides (name_of k) (name_of new)).0 same in
+    let second = (bytes_eq-Decides (name_of new) name).0 (and_parts _ _ passes).0 in
+    let never = sym lacks ∙ ap (key_named Line command) (first ∙ second) ∙ found in
+    absurd cc)
+    (λ other. rw other none)
 
-item_unsaid : (place : ℕ) (item : Item) (said more : Said) → with_item Line Predict place item said ≡ Ok more → Unsaid said → Unsaid more
+item_unsaid : (command : Command) (k : Key) (place : ℕ) (item : Item) (said more : Said) → Lacks command k → with_item Line command place item said ≡ Ok more → said k ≡ None → more k ≡ None
 unfolding with_item
-item_unsaid place item said more ok none =
+item_unsaid command k place item said more lacks ok none =
     let text = then_ok (ok_or item.value (NotAPair place)) _ more ok in
-    let k = then_ok (ok_or (key_named Line Predict item.key) (UnknownKey place)) _ more text.2 in
-    let new = then_ok (refuse_if (is_some (said k.0)) (RepeatedKey place)) _ more k.2 in
-    let good = then_ok (refuse_if (not (has_form Line k.0 text.0)) (BadValue place)) _ more new.2 in
-    let same : also k.0 text.0 said ≡ more = (let last = good.2 in cc) in
-    let found = got_ok (key_named Line Predict item.key) (UnknownKey place) k.0 k.1 in
-    let passes = found_passes (λ k. bytes_eq (name_of k) item.key && has_key Line Predict k) all_keys k.0 found in
-    subst Unsaid same (key_unsaid k.0 text.0 said (and_parts _ _ passes).1 none)
+    let new = then_ok (ok_or (key_named Line command item.key) (UnknownKey place)) _ more text.2 in
+    let once = then_ok (refuse_if (is_some (said new.0)) (RepeatedKey place)) _ more new.2 in
+    let good = then_ok (refuse_if (not (has_form Line new.0 text.0)) (BadValue place)) _ more once.2 in
+    let same : also new.0 text.0 said ≡ more = (let last = good.2 in cc) in
+    let found = got_ok (key_named Line command item.key) (UnknownKey place) new.0 new.1 in
+    subst (λ (s : Said). s k ≡ None) same (key_unsaid command k new.0 item.key text.0 said lacks found none)
 
-items_unsaid : (items : List Item) (place : ℕ) (said more : Said) → with_items Line Predict place items said ≡ Ok more → Unsaid said → Unsaid more
+items_unsaid : (command : Command) (k : Key) (items : List Item) (place : ℕ) (said more : Said) → Lacks command k → with_items Line command place items said ≡ Ok more → said k ≡ None → more k ≡ None
 unfolding with_items
-items_unsaid [] place said more ok none = let same : said ≡ more = cc in subst Unsaid same none
-items_unsaid (item ∷ items) place said more ok none =
-    let one = then_ok (with_item Line Predict place item said) _ more ok in
-    items_unsaid items (place + 1) one.0 more one.2 (item_unsaid place item said one.0 one.1 none)
+items_unsaid command k [] place said more lacks ok none = let same : said ≡ more = cc in subst (λ (s : Said). s k ≡ None) same none
+items_unsaid command k (item ∷ items) place said more lacks ok none =
+    let one = then_ok (with_item Line command place item said) _ more ok in
+    items_unsaid command k items (place + 1) one.0 more lacks one.2 (item_unsaid command k place item said one.0 lacks one.1 none)
 
-pub predict_names_none : (words : List (List ℕ)) (question : Question) → asked_of words ≡ Ok question → question.command ≡ Predict → question.certificate ≡ None
-predict_names_none words question ok is =
-    let was = words_ask words question ok in
-    let command : was.command ≡ Predict = ap (λ (q : Question). q.command) was.is ∙ is in
-    let none = items_unsaid (pairs_of words).items 1 nothing_said was.said (rw command at was.items) refl in
-    ap (λ (q : Question). q.certificate) (sym was.is) ∙ ap (option_and_then some_text) none
+words_unsaid : (sheets : List SheetMeaning) (words : List (List ℕ)) (question : Question) (command : Command) (k : Key) → asked_of sheets words ≡ Ok question → question.command ≡ command → Lacks command k → (said : Said) × (said k ≡ None) × (asked Line command said ≡ question)
+words_unsaid sheets words question command k ok is lacks =
+    let was = words_ask sheets words question ok in
+    let same : was.command ≡ command = ap (λ (q : Question). q.command) was.is ∙ is in
+    (was.said, items_unsaid command k (pairs_of words).items 1 nothing_said was.said lacks (rw same at was.items) refl, rw same at was.is)
+
+pub names_no_certificate : (sheets : List SheetMeaning) (words : List (List ℕ)) (question : Question) (command : Command) → Lacks command key.Certificate → asked_of sheets words ≡ Ok question → question.command ≡ command → question.certificate ≡ None
+names_no_certificate sheets words question command lacks ok is =
+    let was = words_unsaid sheets words question command key.Certificate ok is lacks in
+    ap (λ (q : Question). q.certificate) (sym was.2) ∙ ap (option_and_then some_text) was.1
+
+pub names_no_zone : (sheets : List SheetMeaning) (words : List (List ℕ)) (question : Question) (command : Command) → Lacks command key.Zone → asked_of sheets words ≡ Ok question → question.command ≡ command → question.zone ≡ Utc
+names_no_zone sheets words question command lacks ok is =
+    let was = words_unsaid sheets words question command key.Zone ok is lacks in
+    ap (λ (q : Question). q.zone) (sym was.2) ∙ ap (λ (text : Option (List ℕ)). unwrap_or (option_and_then (zone_of Line) text) Utc) was.1
 
 -- ---- what it names of a span
 

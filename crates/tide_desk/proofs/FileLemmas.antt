@@ -7,20 +7,21 @@ use Rattle.harmonics_text.specs.Books.{IsBook}
 use Rattle.harmonics_text.specs.Reading.{At, book_of}
 use Rattle.harmonics_text.proofs.Readers.{book_sound}
 use Rattle.question.specs.declared.question.Question.{Question}
+use Rattle.report_sheets.specs.Sheets.{SheetMeaning}
 use Rattle.station_table.specs.declared.fault.OffsetFault.{OffsetFault}
 use Rattle.station_table.specs.declared.offsets.Offsets.{Offsets as Row}
 use Rattle.station_table.specs.Offsets.{IsOffsets, IsTable}
 use Rattle.station_table.specs.Table.{table_of}
 use Rattle.tide_fault.specs.declared.refusal.Refusal.{Refusal}
-use Rattle.tide_fault.specs.declared.refusal.Refusal.TheVariants.{NotBuilt}
+use Rattle.tide_fault.specs.declared.refusal.Refusal.TheVariants.{NoStation}
 use Rattle.tide_fault.specs.declared.slot.Slot.{Slot}
 use Rattle.tide_fault.specs.declared.slot.Slot.TheVariants as slots
 use Rattle.tide_answer.specs.declared.text.Answer.{Answer}
-use Rattle.tide_answer.specs.Answers.{answered, answered_alone, built, text_by, text_from}
+use Rattle.tide_answer.specs.Answers.{answered, answered_alone, text_by, text_from}
 use Rattle.station_span.proofs.SiteLemmas.{then_ok}
 use Rattle.tide_edge.specs.declared.read_all_fault.ReadAllFault.TheVariants as reading
 use Rattle.named_files.specs.declared.materials.Materials.{Materials}
-use Rattle.tide_desk.specs.Answers.{answer_from, answer_of, answered_by, answered_over, asked_of, minute_for, given_with}
+use Rattle.tide_desk.specs.Answers.{answer_from, answer_of, answered_by, answered_over, answered_with, asked_of, given_with, is_report, minute_for}
 use Rattle.named_files.specs.NoAnswers.{refused_over}
 use Rattle.tide_desk.specs.Laws.{Holds}
 use Rattle.named_files.specs.Readings.{limit_of, bytes_from, bytes_of, book_from, book_named, table_from, table_named, zone_named, certificate_named, files_in}
@@ -119,39 +120,45 @@ unrefused : (table : List Row) (result : Result Answer Refusal) (answer : Answer
 unrefused table (Ok found) answer ok = cc
 unrefused table (Err refusal) answer ok = absurd cc
 
--- a command that reads files has no answer without them
-abbrev pub ReadsFiles : Question → Type 0
-ReadsFiles question = (seed : Option ℕ) → text_from question.command seed ≡ Err NotBuilt
+-- a command that reads files, and makes no report of them, has no answer without them
+pub record ReadsFiles (question : Question) : Type 0 where
+  pub alone : (seed : Option ℕ) → text_from question.command seed ≡ Err NoStation
+  pub plain : is_report question.command ≡ false
 
-over_file : (folder : Folder) (minute : ℤ) (question : Question) (name : List ℕ) (answer : Answer) → question.file ≡ Some name → answered_over (λ slot. folder) minute question name ≡ Ok answer → WasAnswered folder minute question answer
+over_file : (sheets : List SheetMeaning) (folder : Folder) (minute : ℤ) (question : Question) (name : List ℕ) (answer : Answer) → question.file ≡ Some name → ReadsFiles question → answered_over sheets (λ slot. folder) minute question name ≡ Ok answer → WasAnswered folder minute question answer
 unfolding answered_over answered
-over_file folder minute question name answer file ok =
+over_file sheets folder minute question name answer file reads ok =
     let read = then_ok (files_in (λ slot. folder) question name) _ answer ok in
     let given = given_with read.0 (minute_for question.command minute) in
-    let whole = unrefused read.0.table (answered read.0.book read.0.table question given) answer read.2 in
-    let is = then_ok (built question) _ answer whole in
-    record { name = name; file = file; read = read.0; files = files_read folder question name read.0 read.1; text = is.2 }
+    let P : Bool → Type 0 = λ report. refused_over read.0.table (answered_with report sheets read.0.book read.0.table question given) ≡ Ok answer in
+    record {
+      name = name;
+      file = file;
+      read = read.0;
+      files = files_read folder question name read.0 read.1;
+      text = unrefused read.0.table (answered read.0.book read.0.table question given) answer (subst P reads.plain read.2);
+    }
 
-by_file : (folder : Folder) (minute : ℤ) (question : Question) (file : Option (List ℕ)) (answer : Answer) → question.file ≡ file → ReadsFiles question → answered_by (λ slot. folder) minute question file ≡ Ok answer → WasAnswered folder minute question answer
+by_file : (sheets : List SheetMeaning) (folder : Folder) (minute : ℤ) (question : Question) (file : Option (List ℕ)) (answer : Answer) → question.file ≡ file → ReadsFiles question → answered_by sheets (λ slot. folder) minute question file ≡ Ok answer → WasAnswered folder minute question answer
 unfolding answered_alone
-by_file folder minute question (Some name) answer file reads ok = over_file folder minute question name answer file ok
-by_file folder minute question None answer file reads ok = absurd (let none = rw (reads question.seed) at ok in cc)
+by_file sheets folder minute question (Some name) answer file reads ok = over_file sheets folder minute question name answer file reads ok
+by_file sheets folder minute question None answer file reads ok = absurd (let none = rw (reads.alone question.seed) at ok in cc)
 
 -- words that ask a question are answered as it is
-pub words_answer : (folder : Folder) (minute : ℤ) (words : List (List ℕ)) (question : Question) → asked_of words ≡ Ok question → answer_of folder minute words ≡ answered_by (λ slot. folder) minute question question.file
+pub words_answer : (sheets : List SheetMeaning) (folder : Folder) (minute : ℤ) (words : List (List ℕ)) (question : Question) → asked_of sheets words ≡ Ok question → answer_of sheets folder minute words ≡ answered_by sheets (λ slot. folder) minute question question.file
 unfolding answer_from
-words_answer folder minute words question asked = rw asked refl
+words_answer sheets folder minute words question asked = rw asked refl
 
-pub was_answered : (folder : Folder) (minute : ℤ) (words : List (List ℕ)) (question : Question) (answer : Answer) → asked_of words ≡ Ok question → ReadsFiles question → answer_of folder minute words ≡ Ok answer → WasAnswered folder minute question answer
-was_answered folder minute words question answer asked reads ok =
-    by_file folder minute question question.file answer refl reads (sym (words_answer folder minute words question asked) ∙ ok)
+pub was_answered : (sheets : List SheetMeaning) (folder : Folder) (minute : ℤ) (words : List (List ℕ)) (question : Question) (answer : Answer) → asked_of sheets words ≡ Ok question → ReadsFiles question → answer_of sheets folder minute words ≡ Ok answer → WasAnswered folder minute question answer
+was_answered sheets folder minute words question answer asked reads ok =
+    by_file sheets folder minute question question.file answer refl reads (sym (words_answer sheets folder minute words question asked) ∙ ok)
 
 -- and what the files and the question come to is the answer
-is_over_file : (folder : Folder) (minute : ℤ) (question : Question) (answer : Answer) (was : WasAnswered folder minute question answer) → built question ≡ Ok tt → answered_over (λ slot. folder) minute question was.name ≡ Ok answer
+is_over_file : (sheets : List SheetMeaning) (folder : Folder) (minute : ℤ) (question : Question) (answer : Answer) (was : WasAnswered folder minute question answer) → is_report question.command ≡ false → answered_over sheets (λ slot. folder) minute question was.name ≡ Ok answer
 unfolding answered_over answered
-is_over_file folder minute question answer was is =
-    rw (read_whole folder question was.name was.read was.files, is, was.text) refl
+is_over_file sheets folder minute question answer was plain =
+    rw (read_whole folder question was.name was.read was.files, plain, was.text) refl
 
-pub is_answered : (folder : Folder) (minute : ℤ) (question : Question) (answer : Answer) → built question ≡ Ok tt → WasAnswered folder minute question answer → answered_by (λ slot. folder) minute question question.file ≡ Ok answer
-is_answered folder minute question answer is was =
-    ap (answered_by (λ slot. folder) minute question) was.file ∙ is_over_file folder minute question answer was is
+pub is_answered : (sheets : List SheetMeaning) (folder : Folder) (minute : ℤ) (question : Question) (answer : Answer) → is_report question.command ≡ false → WasAnswered folder minute question answer → answered_by sheets (λ slot. folder) minute question question.file ≡ Ok answer
+is_answered sheets folder minute question answer plain was =
+    ap (answered_by sheets (λ slot. folder) minute question) was.file ∙ is_over_file sheets folder minute question answer was plain

@@ -1,8 +1,11 @@
 pub mod AnsweringLemmas
 pub mod AskedLemmas
 pub mod CertificateLemmas
+pub mod CheckingLemmas
 pub mod FileLemmas
 pub mod MemoryLemmas
 pub mod OutcomeLemmas
+pub mod PeakCertificateLemmas
 pub mod ReplyLemmas
+pub mod SheetLemmas
 pub mod TableLemmas

@@ -22,6 +22,6 @@ taken_by expected status before after empty wrote whole =
     ]
 
 pub holds_answer : MemoryHoldsTheAnswer
-holds_answer words status before after empty promised not_read =
+holds_answer sheets words status before after empty promised not_read =
     let ends = promised refl (λ asks. refl) (inr not_read) in
-    (ends.says, taken_by (answer_in before words) status before.out after.out empty ends.output)
+    (ends.says, taken_by (answer_in sheets before words) status before.out after.out empty ends.output)

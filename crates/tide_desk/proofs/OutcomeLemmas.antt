@@ -4,7 +4,7 @@ use Rattle.decimal_text.specs.Expected.{Excused}
 use Rattle.question.specs.declared.fault.AskFault.TheVariants as ask
 use Rattle.harmonics_text.specs.declared.fault.BookFault.TheVariants as form
 use Rattle.station_table.specs.declared.fault.OffsetFault.TheVariants as table
-use Rattle.tide_fault.specs.declared.fault.Fault.TheVariants.{Ask, TooLong, Book, Offsets, BadZone, Refused}
+use Rattle.tide_fault.specs.declared.fault.Fault.TheVariants.{Ask, NoSheet, TooLong, Book, Offsets, BadZone, Refused}
 use Rattle.tide_fault.specs.declared.refusal.Refusal.TheVariants as refusals
 use Rattle.tide_fault.specs.declared.status.Status.{Status}
 use Rattle.tide_fault.specs.declared.status.Status.TheVariants.{Done, Rejected, ReadFault}
@@ -31,6 +31,7 @@ unfolding line_of_fault ask_line form_line table_line line_of_refusal
 fits expected Unread gives = rw gives (record { says = refl; line = refl; output = refl; unfailed = refl })
 fits expected (Told (Ask ask.NoMemory)) gives = record { says = tt; line = refl; output = refl; unfailed = refl }
 fits expected (Told (Ask _)) gives = rw gives (record { says = refl; line = refl; output = refl; unfailed = refl })
+fits expected (Told (NoSheet word)) gives = rw gives (record { says = refl; line = refl; output = refl; unfailed = refl })
 fits expected (Told (TooLong slot)) gives = rw gives (record { says = refl; line = refl; output = refl; unfailed = refl })
 fits expected (Told (Book form.NoMemory)) gives = record { says = tt; line = refl; output = refl; unfailed = refl }
 fits expected (Told (Book (form.At line why))) gives = rw gives (record { says = refl; line = refl; output = refl; unfailed = refl })

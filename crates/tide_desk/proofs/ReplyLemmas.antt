@@ -14,7 +14,7 @@ use Rattle.station_span.specs.declared.reach.Reach.TheVariants.{Events}
 use Rattle.tide_answer.specs.declared.ready.Ready.{Ready}
 use Rattle.tide_fault.specs.declared.refusal.Refusal.{Refusal}
 use Rattle.tide_answer.specs.declared.text.Answer.{Answer}
-use Rattle.tide_answer.specs.Answers.{answered, asks_span, built, certified, events_text, named_by, predicted, text_alone, text_by, text_of_events}
+use Rattle.tide_answer.specs.Answers.{answered, asks_span, certified, events_text, named_by, predicted, text_alone, text_by, text_of_events}
 use Rattle.tide_answer.specs.Asking.{asked_by}
 use Rattle.station_span.specs.Following.{events_of}
 use Rattle.station_span.specs.Sites.{site_in}
@@ -35,21 +35,20 @@ says_site : {S : Type 0} (site : Result S Refusal) (made : S → Answer) (stream
 says_site (Ok s) made streams quiet = says_stream (streams s) (made s) (quiet s)
 says_site (Err refusal) made streams quiet = refl
 
-says_steps : {S : Type 0} (built : Result (Unit {0}) Refusal) (name : Result (List ℕ) Refusal) (asked : Result Asked Refusal) (site : List ℕ → Asked → Result S Refusal) (made : List ℕ → Asked → S → Answer) (streams : S → Bool) → ((n : List ℕ) (a : Asked) (s : S) → (made n a s).rejected ≡ false) → Says (built >>= λ is. name >>= λ n. asked >>= λ a. site n a >>= λ s. Ok (made n a s)) ((built >>= λ is. name >>= λ n. asked >>= λ a. site n a >>= λ s. Ok (made n a s)) >>= λ answer. name >>= λ n. asked >>= λ a. site n a >>= λ s. Ok (record { stream = if streams s then Some answer else None }))
-says_steps (Err refusal) name asked site made streams quiet = refl
-says_steps (Ok is) (Err refusal) asked site made streams quiet = refl
-says_steps (Ok is) (Ok n) (Err refusal) site made streams quiet = refl
-says_steps (Ok is) (Ok n) (Ok a) site made streams quiet = says_site (site n a) (made n a) streams (quiet n a)
+says_steps : {S : Type 0} (name : Result (List ℕ) Refusal) (asked : Result Asked Refusal) (site : List ℕ → Asked → Result S Refusal) (made : List ℕ → Asked → S → Answer) (streams : S → Bool) → ((n : List ℕ) (a : Asked) (s : S) → (made n a s).rejected ≡ false) → Says (name >>= λ n. asked >>= λ a. site n a >>= λ s. Ok (made n a s)) ((name >>= λ n. asked >>= λ a. site n a >>= λ s. Ok (made n a s)) >>= λ answer. name >>= λ n. asked >>= λ a. site n a >>= λ s. Ok (record { stream = if streams s then Some answer else None }))
+says_steps (Err refusal) asked site made streams quiet = refl
+says_steps (Ok n) (Err refusal) site made streams quiet = refl
+says_steps (Ok n) (Ok a) site made streams quiet = says_site (site n a) (made n a) streams (quiet n a)
 
-by_command : (command : Command) (book : Book) (table : List Offsets) (question : Question) (given : Given) → IsTrue (can_stream command) → Says (built question >>= λ is. text_by command book table question given) ((built question >>= λ is. text_by command book table question given) >>= λ answer. named_by question.station >>= λ n. named_by (asked_by question) >>= λ a. site_in Events book table n a >>= λ s. Ok (record { stream = if streams_by s.basis question.layout given.zone then Some answer else None }))
+by_command : (command : Command) (book : Book) (table : List Offsets) (question : Question) (given : Given) → IsTrue (can_stream command) → Says (text_by command book table question given) (text_by command book table question given >>= λ answer. named_by question.station >>= λ n. named_by (asked_by question) >>= λ a. site_in Events book table n a >>= λ s. Ok (record { stream = if streams_by s.basis question.layout given.zone then Some answer else None }))
 unfolding asks_span predicted certified
 by_command Predict book table question given can =
-    says_steps (built question) (named_by question.station) (named_by (asked_by question)) (site_in Events book table)
+    says_steps (named_by question.station) (named_by (asked_by question)) (site_in Events book table)
     (λ n a s. text_of_events book s a (events_text question.layout n s.station.units (events_of book s a) given.zone))
     (λ s. streams_by s.basis question.layout given.zone)
     (λ n a s. refl)
 by_command Certify book table question given can =
-    says_steps (built question) (named_by question.station) (named_by (asked_by question)) (site_in Events book table)
+    says_steps (named_by question.station) (named_by (asked_by question)) (site_in Events book table)
     _
     (λ s. streams_by s.basis question.layout given.zone)
     (λ n a s. refl)

@@ -1,5 +1,5 @@
--- The answer to the words over files and a clock (this project).
-use Rattle.std.specs.Prelude.{ℕ, ℤ, pos, Bool, true, false, IsTrue, if◌then◌else◌, List, codes, Option, Some, None, Result, Ok, Err, IsOk, IsSome}
+-- The answer to the words over files and a clock, with the sheets of a report (this project).
+use Rattle.std.specs.Prelude.{ℕ, ℤ, pos, Bool, true, false, IsTrue, if◌then◌else◌, List, [], codes, Option, Some, None, Result, Ok, Err, IsOk, IsSome, slice_get, unwrap_or}
 use Rattle.std.specs.Option.{option_map_or, IsSomeAnd}
 use Rattle.std.specs.Result.{IsOkAnd}
 use Rattle.std.specs.Str.{bytes_eq}
@@ -11,16 +11,22 @@ use Rattle.question.specs.declared.question.Question.{Question}
 use Rattle.question.specs.Questions.{question_of}
 use Rattle.question.specs.Words.{pairs_of}
 use Rattle.tide_fault.specs.declared.fault.Fault.{Fault}
-use Rattle.tide_fault.specs.declared.fault.Fault.TheVariants.{Ask, Refused}
+use Rattle.tide_fault.specs.declared.fault.Fault.TheVariants.{Ask, NoSheet, Refused}
 use Rattle.tide_fault.specs.declared.refusal.Refusal.{Refusal}
+use Rattle.harmonics_text.specs.declared.book.Book.{Book}
+use Rattle.report_sheets.specs.declared.head.Head.{Head}
+use Rattle.report_sheets.specs.Pages.{missing_of, pages_of}
+use Rattle.report_sheets.specs.Sheets.{SheetMeaning}
+use Rattle.station_table.specs.declared.offsets.Offsets.{Offsets}
+use Rattle.tide_answer.specs.declared.listed.Listed.{Listed}
 use Rattle.tide_answer.specs.declared.text.Answer.{Answer}
-use Rattle.tide_answer.specs.Answers.{built, answered, answered_alone}
+use Rattle.tide_answer.specs.Answers.{answered, answered_alone, listed, text_alone}
 use Rattle.named_files.specs.declared.no_answer.NoAnswer.{NoAnswer}
 use Rattle.named_files.specs.NoAnswers.{told, refused_over}
 use Rattle.named_files.specs.declared.materials.Materials.{Materials}
 use Rattle.named_files.specs.Readings.{Folders, files_allowed, files_in}
 use Rattle.question.specs.declared.command.Command.{Command}
-use Rattle.question.specs.declared.command.Command.TheVariants.{Clock}
+use Rattle.question.specs.declared.command.Command.TheVariants.{Clock, Report}
 use Rattle.tide_answer.specs.declared.given.Given.{Given}
 use Rattle.tide_edge.specs.FileStates.{Folder}
 use Rattle.tide_edge.specs.Whole.{Allowance, no_file}
@@ -43,11 +49,24 @@ asks_to_serve pairs = option_map_or (λ word. bytes_eq word (codes "serve")) pai
 abbrev pub question_in : Pairs → Result Question AskFault
 question_in pairs = if asks_to_serve pairs then Err UnknownCommand else question_of pairs
 
--- what the words ask, where it is built
-unfoldable pub asked_of : List (List ℕ) → Result Question Fault
-asked_of words = do
+-- the sheets that a question wants: none, if it asks for no report
+abbrev pub wanted_by : Question → List (List ℕ)
+wanted_by question = unwrap_or question.sheets []
+
+-- the wanted word at a place
+abbrev pub word_at : List (List ℕ) → ℕ → List ℕ
+word_at wanted place = unwrap_or (slice_get wanted place) []
+
+-- each sheet that is wanted is one of those that are there
+abbrev pub known_in : List (List ℕ) → Option ℕ → Result (Unit {0}) Fault
+known_in wanted None = Ok tt
+known_in wanted (Some place) = Err (NoSheet (word_at wanted place))
+
+-- what the words ask of these sheets
+unfoldable pub asked_of : List SheetMeaning → List (List ℕ) → Result Question Fault
+asked_of sheets words = do
   question ← ask_from (question_in (pairs_of words))
-  is ← refused_from (built question)
+  known ← known_in (wanted_by question) (missing_of sheets (wanted_by question))
   Ok question
 
 -- the words ask a question that names a file
@@ -63,6 +82,7 @@ HasFiles folders asked = IsOkAnd asked (λ question. IsSomeAnd question.file (λ
 -- whether a command asks for the present minute
 abbrev pub asks_clock : Command → Bool
 asks_clock Clock = true
+asks_clock Report = true
 asks_clock _ = false
 
 abbrev pub minute_for : Command → ℤ → ℤ
@@ -87,22 +107,43 @@ allowed_by (Err fault) = no_file
 
 -- ---- The answer, or the first fault on the way to it
 
+-- whether a command asks for sheets
+abbrev pub is_report : Command → Bool
+is_report Report = true
+is_report _ = false
+
+-- the head of the sheets: the station, its unit and the present minute
+abbrev pub head_of : Listed → ℤ → Head
+head_of listed now = record { name = listed.name; units = listed.units; now = now }
+
+-- a report: the pages of the wanted sheets, of the station's events
+unfoldable pub reported : List SheetMeaning → Book → List Offsets → Question → ℤ → Result Answer Refusal
+reported sheets book table question now = do
+  events ← listed book table question
+  Ok (text_alone (pages_of sheets (wanted_by question) (head_of events now) events.events))
+
+-- what is asked of a book and a table
+abbrev pub answered_with : Bool → List SheetMeaning → Book → List Offsets → Question → Given → Result Answer Refusal
+answered_with true sheets book table question given = reported sheets book table question given.now
+answered_with false sheets book table question given = answered book table question given
+
 -- over the files, of which the first has this name
-unfoldable pub answered_over : Folders → ℤ → Question → List ℕ → Result Answer NoAnswer
-answered_over folders minute question name = do
+unfoldable pub answered_over : List SheetMeaning → Folders → ℤ → Question → List ℕ → Result Answer NoAnswer
+answered_over sheets folders minute question name = do
   read ← files_in folders question name
-  refused_over read.table (answered read.book read.table question (given_with read (minute_for question.command minute)))
+  refused_over read.table
+      (answered_with (is_report question.command) sheets read.book read.table question (given_with read (minute_for question.command minute)))
 
 -- a question that names no file is answered alone
-abbrev pub answered_by : Folders → ℤ → Question → Option (List ℕ) → Result Answer NoAnswer
-answered_by folders minute question None = told (refused_from (answered_alone question))
-answered_by folders minute question (Some name) = answered_over folders minute question name
+abbrev pub answered_by : List SheetMeaning → Folders → ℤ → Question → Option (List ℕ) → Result Answer NoAnswer
+answered_by sheets folders minute question None = told (refused_from (answered_alone question))
+answered_by sheets folders minute question (Some name) = answered_over sheets folders minute question name
 
-unfoldable pub answer_from : Folders → ℤ → List (List ℕ) → Result Answer NoAnswer
-answer_from folders minute words = do
-  question ← told (asked_of words)
-  answered_by folders minute question question.file
+unfoldable pub answer_from : List SheetMeaning → Folders → ℤ → List (List ℕ) → Result Answer NoAnswer
+answer_from sheets folders minute words = do
+  question ← told (asked_of sheets words)
+  answered_by sheets folders minute question question.file
 
 -- the answer to the words over a folder of files and the present minute
-abbrev pub answer_of : Folder → ℤ → List (List ℕ) → Result Answer NoAnswer
-answer_of folder = answer_from (λ slot. folder)
+abbrev pub answer_of : List SheetMeaning → Folder → ℤ → List (List ℕ) → Result Answer NoAnswer
+answer_of sheets folder = answer_from sheets (λ slot. folder)

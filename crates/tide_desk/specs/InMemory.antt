@@ -1,6 +1,7 @@
 -- What a run leaves of objects in memory (this project).
 use Rattle.std.specs.Prelude.{◌≡◌, ◌⊎◌, ℕ, List, [], IsTrue, Result}
 use Rattle.named_files.specs.declared.no_answer.NoAnswer.{NoAnswer}
+use Rattle.report_sheets.specs.Sheets.{SheetMeaning}
 use Rattle.tide_answer.specs.declared.text.Answer.{Answer}
 use Rattle.tide_edge.specs.Memory.{HeldClock, HeldFiles, HeldSink, clock_state, files_state, folder_of, sink_state}
 use Rattle.tide_fault.specs.declared.status.Status.{Status}
@@ -22,20 +23,21 @@ abbrev pub outputs_in : Held → Outputs
 outputs_in held = outputs (sink_state held.out) (sink_state held.err)
 
 -- the answer to the words over the files and the minute that are held
-abbrev pub answer_in : Held → List (List ℕ) → Result Answer NoAnswer
-answer_in held words = answer_of (folder_of held.files.files) held.clock.minute words
+abbrev pub answer_in : List SheetMeaning → Held → List (List ℕ) → Result Answer NoAnswer
+answer_in sheets held words = answer_of sheets (folder_of held.files.files) held.clock.minute words
 
 -- what a run promises over files that tell, of files in memory
-abbrev pub EndsAsPromised : List (List ℕ) → Status → Held → Held → Type 0
-EndsAsPromised words status before after =
-    IsTrue (files_state before.files).store.tells → (AsksClock (asked_of words) → IsTrue (clock_state before.clock).tells)
-    → IsFirm (AsksClock (asked_of words)) (sources_in before) (sources_in after) ⊎ (¬ (status ≡ ReadFault))
-    → EndsAs (answer_in before words) status (outputs_in before) (outputs_in after)
+abbrev pub EndsAsPromised : List SheetMeaning → List (List ℕ) → Status → Held → Held → Type 0
+EndsAsPromised sheets words status before after =
+    IsTrue (files_state before.files).store.tells
+    → (AsksClock (asked_of sheets words) → IsTrue (clock_state before.clock).tells)
+    → IsFirm (AsksClock (asked_of sheets words)) (sources_in before) (sources_in after) ⊎ (¬ (status ≡ ReadFault))
+    → EndsAs (answer_in sheets before words) status (outputs_in before) (outputs_in after)
 
 -- The premises are met there. Any status but that of a fault of reading says the answer; and where a run is done, or rejects a
 -- certificate, a sink that was empty has taken exactly the answer's text.
 abbrev pub MemoryHoldsTheAnswer : Type 0
-MemoryHoldsTheAnswer = (words : List (List ℕ)) (status : Status) (before after : Held) →
-    before.out.taken ≡ [] → EndsAsPromised words status before after → ¬ (status ≡ ReadFault) →
-    Says (answer_in before words) status
-    × ((status ≡ Done) ⊎ (status ≡ Rejected) → after.out.taken ≡ text_with (answer_in before words))
+MemoryHoldsTheAnswer = (sheets : List SheetMeaning) (words : List (List ℕ)) (status : Status) (before after : Held) →
+    before.out.taken ≡ [] → EndsAsPromised sheets words status before after → ¬ (status ≡ ReadFault) →
+    Says (answer_in sheets before words) status
+    × ((status ≡ Done) ⊎ (status ≡ Rejected) → after.out.taken ≡ text_with (answer_in sheets before words))

@@ -6,6 +6,7 @@ use Rattle.question.specs.declared.command.Command.{Command}
 use Rattle.question.specs.declared.command.Command.TheVariants.{Predict, Certify, Check}
 use Rattle.question.specs.declared.question.Layout.TheVariants.{Plain}
 use Rattle.question.specs.declared.question.Question.{Question}
+use Rattle.report_sheets.specs.Sheets.{SheetMeaning}
 use Rattle.station_table.specs.declared.offsets.Offsets.{Offsets}
 use Rattle.zone_time.specs.declared.zone.Zone.{Zone}
 use Rattle.tide_answer.specs.declared.text.Answer.{Answer}
@@ -17,9 +18,9 @@ use Rattle.tide_edge.specs.FileStates.{Folder}
 
 -- ---- what is asked
 
--- the words ask this question, which is one of the command
-pub record Asks (words : List (List ℕ)) (command : Command) (question : Question) : Type 0 where
-  pub asked : asked_of words ≡ Ok question
+-- with these sheets the words ask this question, which is one of the command
+pub record Asks (sheets : List SheetMeaning) (words : List (List ℕ)) (command : Command) (question : Question) : Type 0 where
+  pub asked : asked_of sheets words ≡ Ok question
   pub is : question.command ≡ command
 
 -- both name one file of constants, and one table or none
@@ -74,28 +75,33 @@ pub record HoldsCertificate (before after : Folder) (certify check : Question) (
 
 -- ---- what is answered
 
--- the word that accepts, and then the listing that `predict` answers over the same folder: to whatever words ask for it, at
--- whatever minute, and to such a question of no words, which names no certificate either
-pub record AcceptsWithListing (folder : Folder) (check : Question) (subject : Subject) (answer : Answer) : Type 0 where
-  pub listing : Answer
-  pub text : answer ≡ text_alone (codes "Accepted\n" ++ listing.text)
+-- the word that accepts, and then what is answered over the same folder to each question that asks for it: to whatever words ask
+-- it, at whatever minute, and to such a question of no words, which names no certificate either
+pub record AcceptsWith (sheets : List SheetMeaning) (folder : Folder) (asks : Question → Type 0) (answer : Answer) : Type 0 where
+  pub shown : Answer
+  pub text : answer ≡ text_alone (codes "Accepted\n" ++ shown.text)
   pub to_words : (minute : ℤ) (words : List (List ℕ)) (question : Question) →
-      asked_of words ≡ Ok question → AsksListing check subject question → answer_of folder minute words ≡ Ok listing
+      asked_of sheets words ≡ Ok question → asks question → answer_of sheets folder minute words ≡ Ok shown
   pub to_question : (minute : ℤ) (question : Question) →
-      AsksListing check subject question → question.certificate ≡ None → answered_by (λ slot. folder) minute question question.file ≡ Ok listing
+      asks question → question.certificate ≡ None → answered_by sheets (λ slot. folder) minute question question.file ≡ Ok shown
+
+-- with the listing that `predict` answers
+abbrev pub AcceptsWithListing : List SheetMeaning → Folder → Question → Subject → Answer → Type 0
+AcceptsWithListing sheets folder check subject = AcceptsWith sheets folder (AsksListing check subject)
 
 -- what `certify` answers is accepted, with the listing of its question, by each later check, in whatever folder, that has the same
 -- book and table and the answer's text as its certificate
 abbrev pub AcceptsWhatCertifyAnswers : Type 0
-AcceptsWhatCertifyAnswers = (before after : Folder) (minute later : ℤ) (words more : List (List ℕ)) (certify check : Question) (certificate : Answer) (zone : Zone) →
-    Asks words Certify certify → answer_of before minute words ≡ Ok certificate →
-    Asks more Check check → HoldsCertificate before after certify check certificate.text →
+AcceptsWhatCertifyAnswers = (sheets : List SheetMeaning) (before after : Folder) (minute later : ℤ) (words more : List (List ℕ)) (certify check : Question) (certificate : Answer) (zone : Zone) →
+    Asks sheets words Certify certify → answer_of sheets before minute words ≡ Ok certificate →
+    Asks sheets more Check check → HoldsCertificate before after certify check certificate.text →
     zone_named after check.zone ≡ Ok zone →
-    (answer : Answer) × (answer_of after later more ≡ Ok answer) × AcceptsWithListing after check (subject_of certify) answer
+    (answer : Answer) × (answer_of sheets after later more ≡ Ok answer)
+    × AcceptsWithListing sheets after check (subject_of certify) answer
 
 -- over the file, the table and the zone that the check names, the text under its certificate's name is a true certificate,
 -- and the answer has the listing of that certificate's own question
-pub record IsTrueAnswer (folder : Folder) (check : Question) (answer : Answer) : Type 0 where
+pub record IsTrueAnswer (sheets : List SheetMeaning) (folder : Folder) (check : Question) (answer : Answer) : Type 0 where
   pub book : Book
   pub table : List Offsets
   pub zone : Zone
@@ -105,9 +111,10 @@ pub record IsTrueAnswer (folder : Folder) (check : Question) (answer : Answer) :
   pub shown : zone_named folder check.zone ≡ Ok zone
   pub held : Holds folder check.certificate text
   pub is_true : IsTrueCertificate book table text zone answer
-  pub listing : AcceptsWithListing folder check (subject_in is_true.certificate) answer
+  pub listing : AcceptsWithListing sheets folder check (subject_in is_true.certificate) answer
 
 -- whatever `check` accepts, whoever wrote it, is true
 abbrev pub AcceptsOnlyTrueCertificates : Type 0
-AcceptsOnlyTrueCertificates = (folder : Folder) (minute : ℤ) (words : List (List ℕ)) (check : Question) (answer : Answer) →
-    Asks words Check check → answer_of folder minute words ≡ Ok answer → answer.rejected ≡ false → IsTrueAnswer folder check answer
+AcceptsOnlyTrueCertificates = (sheets : List SheetMeaning) (folder : Folder) (minute : ℤ) (words : List (List ℕ)) (check : Question) (answer : Answer) →
+    Asks sheets words Check check → answer_of sheets folder minute words ≡ Ok answer → answer.rejected ≡ false →
+    IsTrueAnswer sheets folder check answer

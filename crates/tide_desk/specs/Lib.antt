@@ -2,4 +2,5 @@ pub mod Answers
 pub mod InMemory
 pub mod Laws
 pub mod Outcomes
+pub mod PeakLaws
 pub mod Workings

@@ -1,52 +1,56 @@
 //! The answer to the words, or the first fault on the way to it.
 
-ghost use Rattle.std.specs.Prelude.{◌≡◌, ℤ, Bool, false, IsTrue, Option, IsOk, IfOk, IfErr, OnErr, if◌then◌else◌, is_err};
+ghost use Rattle.std.specs.Prelude.{◌≡◌, ℤ, Bool, false, IsTrue, Option, IsOk, IfOk, IfErr, OnErr, if◌then◌else◌, is_err, map};
 ghost use Rattle.decimal_text.specs.Expected.{Gives};
 ghost use Rattle.named_files.specs.NoAnswers.{IsTold, reading_failed, refused_over, source_of, told, wants_memory};
 ghost use Rattle.named_files.specs.Readings.{Folders, files_allowed, files_in};
 ghost use Rattle.named_files.specs.Workings.Materials.{AreMaterials};
-ghost use Rattle.tide_answer.specs.Answers.{answered, answered_alone};
-ghost use Rattle.tide_desk.specs.Answers.{AsksClock, HasFiles, NamesFile, allowed_by, answer_from, answer_of, answered_over, asked_of, asks_clock, given_with, minute_for, refused_from};
+ghost use Rattle.tide_answer.specs.Answers.{answered_alone};
+ghost use Rattle.tide_desk.specs.Answers.{AsksClock, HasFiles, NamesFile, allowed_by, answer_from, answer_of, answered_over, answered_with, asked_of, asks_clock, given_with, is_report, minute_for, refused_from};
 ghost use Rattle.tide_desk.specs.Outcomes.{IsFirm, WentOn, sources};
 ghost use Rattle.tide_edge.specs.Clocks.{IsClockMinute, clock_after, next_minute};
 ghost use Rattle.decimal_text.specs.Expected.{Meets};
 
 use crate::asking::read_words;
 use crate::reply::Reply;
-use crate::replying::reply_to;
+use crate::replying::reply_with;
 use decimal_text::{Text, Words};
 use harmonics_text::SoundBook;
 use named_files::{Materials, NoAnswer, read_files};
 use question::{Command, SoundQuestion};
+use report_sheets::Sheet;
 use std::alloc::Global;
 use tide_answer::{Given, answer_alone};
 use tide_edge::{Clock, Files};
 use tide_fault::Fault;
 
-/// What is written for the words, or the first fault in the order of refusals: the words, what
-/// isn't built, the files, the clock, and then those of what is asked of the files.
+/// What is written for the words, or the first fault in the order of refusals: the words, a sheet that
+/// isn't there, the files, the clock, and then those of what is asked of the files.
 pub fn answer_words<F: Files, K: Clock>(
     alloc: Global,
     words: &Words,
     files: &mut F,
     clock: &mut K,
+    sheets: Vec<Box<dyn Sheet>>,
 ) -> Result<Reply, NoAnswer>
-    ensures own { IsTrue (F.state files.old).store.tells → (AsksClock (asked_of words.now) → IsTrue (K.state clock.old).tells)
-        → Meets source_of (IsFirm (AsksClock (asked_of words.now)) (sources (F.state files.old) (K.state clock.old)) (sources (F.state files.new) (K.state clock.new)))
-        (answer_of (F.state files.old).store.folder (next_minute (K.state clock.old)) words.now) result }
-    ensures some { (folders : Folders) × (minute : ℤ) × Meets source_of (Unit {0}) (answer_from folders minute words.now) result }
+    ensures own { let meanings = map meaning sheets.items in let asked = asked_of meanings words.now in
+        IsTrue (F.state files.old).store.tells → (AsksClock asked → IsTrue (K.state clock.old).tells)
+        → Meets source_of (IsFirm (AsksClock asked) (sources (F.state files.old) (K.state clock.old)) (sources (F.state files.new) (K.state clock.new)))
+        (answer_of meanings (F.state files.old).store.folder (next_minute (K.state clock.old)) words.now) result }
+    ensures some { (folders : Folders) × (minute : ℤ) × Meets source_of (Unit {0}) (answer_from (map meaning sheets.items) folders minute words.now) result }
     ensures told { IfErr result IsTold }
-    ensures reads { WentOn (reading_failed result) (AsksClock (asked_of words.now)) (allowed_by (asked_of words.now))
+    ensures reads { let asked = asked_of (map meaning sheets.items) words.now in
+        WentOn (reading_failed result) (AsksClock asked) (allowed_by asked)
         (sources (F.state files.old) (K.state clock.old)) (sources (F.state files.new) (K.state clock.new)) }
-    ensures unopened { ¬ (NamesFile (asked_of words.now)) → files.new ≡ files.old }
-    ensures unasked { ¬ (AsksClock (asked_of words.now)) → clock.new ≡ clock.old }
+    ensures unopened { ¬ (NamesFile (asked_of (map meaning sheets.items) words.now)) → files.new ≡ files.old }
+    ensures unasked { ¬ (AsksClock (asked_of (map meaning sheets.items) words.now)) → clock.new ≡ clock.old }
     ensures asked_last { IsTrue (F.state files.old).store.tells
-        → ¬ (HasFiles (λ slot. (F.state files.old).store.folder) (asked_of words.now)) → clock.new ≡ clock.old }
+        → ¬ (HasFiles (λ slot. (F.state files.old).store.folder) (asked_of (map meaning sheets.items) words.now)) → clock.new ≡ clock.old }
 {
-    let question = read_words(alloc, words)?;
+    let question = read_words(alloc, words, &sheets)?;
     let sound = SoundQuestion::new(&question);
     match &question.file {
-        Some(name) => answer_over(alloc, &sound, name, files, clock),
+        Some(name) => answer_over(alloc, &sound, name, files, clock, sheets),
         None => answer_without(alloc, &sound),
     }
 }
@@ -70,11 +74,12 @@ fn answer_over<F: Files, K: Clock>(
     name: &Text,
     files: &mut F,
     clock: &mut K,
+    sheets: Vec<Box<dyn Sheet>>,
 ) -> Result<Reply, NoAnswer>
     ensures own { IsTrue (F.state files.old).store.tells → (IsTrue (asks_clock question.now.command) → IsTrue (K.state clock.old).tells)
         → Meets source_of (IsFirm (IsTrue (asks_clock question.now.command)) (sources (F.state files.old) (K.state clock.old)) (sources (F.state files.new) (K.state clock.new)))
-        (answered_over (λ slot. (F.state files.old).store.folder) (next_minute (K.state clock.old)) question.now name.now) result }
-    ensures some { (folders : Folders) × (minute : ℤ) × Meets source_of (Unit {0}) (answered_over folders minute question.now name.now) result }
+        (answered_over (map meaning sheets.items) (λ slot. (F.state files.old).store.folder) (next_minute (K.state clock.old)) question.now name.now) result }
+    ensures some { (folders : Folders) × (minute : ℤ) × Meets source_of (Unit {0}) (answered_over (map meaning sheets.items) folders minute question.now name.now) result }
     ensures told { IfErr result IsTold }
     ensures reads { WentOn (reading_failed result) (IsTrue (asks_clock question.now.command)) (files_allowed question.now)
         (sources (F.state files.old) (K.state clock.old)) (sources (F.state files.new) (K.state clock.new)) }
@@ -84,7 +89,7 @@ fn answer_over<F: Files, K: Clock>(
 {
     let read = read_files(alloc, files, question, name)?;
     let now = read_minute(clock, question)?;
-    answer_with(alloc, read, question, now)
+    answer_with(alloc, read, question, now, sheets)
 }
 
 // The present minute where the command asks for it, and else none.
@@ -110,7 +115,7 @@ fn read_minute<K: Clock>(clock: &mut K, question: &SoundQuestion<'_>) -> Result<
 fn asks_clock(command: Command) -> bool
     ensures { result ≡ asks_clock command }
 {
-    matches!(command, Command::Clock)
+    matches!(command, Command::Clock | Command::Report)
 }
 
 // The answer over what the files hold, at a minute.
@@ -119,10 +124,11 @@ fn answer_with(
     read: Materials,
     question: &SoundQuestion<'_>,
     now: i64,
+    sheets: Vec<Box<dyn Sheet>>,
 ) -> Result<Reply, NoAnswer>
     requires materials { AreMaterials read }
     requires now { IsClockMinute now }
-    ensures exact { Gives wants_memory (refused_over read.table (answered read.book read.table question.now (given_with read now))) result }
+    ensures exact { Gives wants_memory (refused_over read.table (answered_with (is_report question.now.command) (map meaning sheets.items) read.book read.table question.now (given_with read now))) result }
     ensures told { IfErr result IsTold }
     ensures read { reading_failed result ≡ false }
 {
@@ -137,7 +143,8 @@ fn answer_with(
         certificate,
         now,
     };
-    match reply_to(alloc, &SoundBook::new(&book), &table, question, &given) {
+    let book = SoundBook::new(&book);
+    match reply_with(alloc, &book, &table, question, &given, sheets) {
         Ok(reply) => Ok(reply),
         Err(refusal) => Err(NoAnswer::Refused(refusal, table)),
     }

@@ -1,28 +1,33 @@
 //! What the words ask.
 
-ghost use Rattle.std.specs.Prelude.{◌≡◌, [], IfOk, IfErr};
-ghost use Rattle.decimal_text.specs.Expected.{Gives};
+ghost use Rattle.std.specs.Prelude.{◌≡◌, ◌<◌, [], Some, length, map, unwrap_or, IfOk, IfErr};
+ghost use Rattle.decimal_text.specs.Expected.{Excused, Gives};
 ghost use Rattle.question.specs.Asked.{IsAsked};
 ghost use Rattle.question.specs.Questions.{wants_memory as ask_wants_memory};
 ghost use Rattle.question.specs.Words.{pairs_of};
+ghost use Rattle.report_sheets.specs.Pages.{missing_of};
 ghost use Rattle.tide_fault.specs.Faults.{wants_memory, IsTold};
-ghost use Rattle.tide_desk.specs.Answers.{asked_of, asks_to_serve, question_in};
+ghost use Rattle.tide_desk.specs.Answers.{asked_of, asks_to_serve, known_in, question_in};
 
 use decimal_text::Words;
 use question::{AskFault, Pairs, Question, pairs_of_words, read_question};
+use report_sheets::{Sheet, missing};
 use std::alloc::Global;
-use tide_answer::check_built;
-use tide_fault::Fault;
+use tide_fault::{Fault, Refusal};
 
-/// The question that the words ask, where it is built.
+/// The question that the words ask, where each sheet that it wants is one of these.
 #[tactic(auto, unfolding(crate::specs::Answers::asked_of))]
-pub fn read_words(alloc: Global, words: &Words) -> Result<Question, Fault>
-    ensures exact { Gives wants_memory (asked_of words.now) result }
+pub fn read_words(
+    alloc: Global,
+    words: &Words,
+    sheets: &Vec<Box<dyn Sheet>>,
+) -> Result<Question, Fault>
+    ensures exact { Gives wants_memory (asked_of (map meaning sheets.now.items) words.now) result }
     ensures asked { IfOk result IsAsked }
     ensures told { IfErr result (IsTold []) }
 {
     let question = question_in_words(alloc, words)?;
-    check_built(&question)?;
+    check_known(&question.sheets, sheets)?;
     Ok(question)
 }
 
@@ -43,5 +48,32 @@ fn asks_to_serve(pairs: &Pairs) -> bool
     match &pairs.command {
         Some(word) => word.as_str() == "serve",
         None => false,
+    }
+}
+
+// Whether each sheet that is wanted is one of these, or the first word that none of them has.
+fn check_known(wanted: &Option<Words>, sheets: &Vec<Box<dyn Sheet>>) -> Result<(), Fault>
+    ensures exact { let wanted = unwrap_or wanted.now [] in
+        Gives wants_memory (known_in wanted (missing_of (map meaning sheets.now.items) wanted)) result }
+    ensures told { IfErr result (IsTold []) }
+{
+    match wanted {
+        Some(wanted) => match missing(sheets, wanted) {
+            Some(place) => Err(unknown(wanted, place as usize)),
+            None => Ok(()),
+        },
+        None => Ok(()),
+    }
+}
+
+// The fault of a wanted word that no sheet has.
+fn unknown(wanted: &Words, place: usize) -> Fault
+    requires { place < length wanted.now }
+    ensures exact { Excused (wants_memory result) (known_in wanted.now (Some place)) result }
+    ensures told { IsTold [] result }
+{
+    match wanted.as_slice()[place].copy() {
+        Ok(word) => Fault::NoSheet { word },
+        Err(_) => Fault::Refused(Refusal::NoMemory),
     }
 }

@@ -1,6 +1,6 @@
 //! One run, from the words to the status.
 
-ghost use Rattle.std.specs.Prelude.{◌≡◌, ◌⊎◌, ℤ, Bool, IsTrue, if◌then◌else◌};
+ghost use Rattle.std.specs.Prelude.{◌≡◌, ◌⊎◌, ℤ, Bool, IsTrue, if◌then◌else◌, map};
 ghost use Rattle.named_files.specs.NoAnswers.{is_read_fault};
 ghost use Rattle.named_files.specs.Readings.{Folders};
 ghost use Rattle.tide_desk.specs.Answers.{AsksClock, HasFiles, NamesFile, allowed_by, answer_from, answer_of, asked_of};
@@ -11,6 +11,7 @@ ghost use Rattle.tide_fault.specs.declared.status.Status.{Status};
 use crate::answering::answer_words;
 use decimal_text::Words;
 use named_files::{refuse, tell};
+use report_sheets::Sheet;
 use std::alloc::Global;
 use tide_edge::{Clock, Files, Sink};
 use tide_fault::Status;
@@ -19,7 +20,10 @@ use tide_fault::Status;
 /// there is none to `err`. A failure to write to `err` changes nothing of the status. Nothing is
 /// tried again after a failure. No more files are opened than the words name, of each the end is found
 /// once, and together no more bytes are read than their limits and a piece of 65,536 bytes for each.
-/// The clock is asked once, for the command `clock` alone, after all files were read.
+/// The clock is asked once, for the commands `clock` and `report` alone, after all files were read.
+///
+/// A report has the pages of those of the sheets whose words are wanted, in the order in which they
+/// are handed in. A wanted word that no sheet has is refused before any file is opened.
 pub fn run<F: Files, O: Sink, E: Sink, K: Clock>(
     alloc: Global,
     words: &Words,
@@ -27,24 +31,27 @@ pub fn run<F: Files, O: Sink, E: Sink, K: Clock>(
     out: &mut O,
     err: &mut E,
     clock: &mut K,
+    sheets: Vec<Box<dyn Sheet>>,
 ) -> Status
-    ensures own_files { IsTrue (F.state files.old).store.tells → (AsksClock (asked_of words.now) → IsTrue (K.state clock.old).tells)
-        → IsFirm (AsksClock (asked_of words.now)) (sources (F.state files.old) (K.state clock.old)) (sources (F.state files.new) (K.state clock.new))
+    ensures own_files { let meanings = map meaning sheets.items in let asked = asked_of meanings words.now in
+        IsTrue (F.state files.old).store.tells → (AsksClock asked → IsTrue (K.state clock.old).tells)
+        → IsFirm (AsksClock asked) (sources (F.state files.old) (K.state clock.old)) (sources (F.state files.new) (K.state clock.new))
         ⊎ (¬ (result ≡ Status.ReadFault))
-        → EndsAs (answer_of (F.state files.old).store.folder (next_minute (K.state clock.old)) words.now) result
+        → EndsAs (answer_of meanings (F.state files.old).store.folder (next_minute (K.state clock.old)) words.now) result
         (outputs (O.state out.old) (E.state err.old)) (outputs (O.state out.new) (E.state err.new)) }
-    ensures some_files { (folders : Folders) × (minute : ℤ) × EndsAs (answer_from folders minute words.now) result
+    ensures some_files { (folders : Folders) × (minute : ℤ) × EndsAs (answer_from (map meaning sheets.items) folders minute words.now) result
         (outputs (O.state out.old) (E.state err.old)) (outputs (O.state out.new) (E.state err.new)) }
-    ensures reads { WentOn (is_read_fault result) (AsksClock (asked_of words.now)) (allowed_by (asked_of words.now))
+    ensures reads { let asked = asked_of (map meaning sheets.items) words.now in
+        WentOn (is_read_fault result) (AsksClock asked) (allowed_by asked)
         (sources (F.state files.old) (K.state clock.old)) (sources (F.state files.new) (K.state clock.new)) }
     ensures unwritten { IsUntouched result out.old out.new }
     ensures untold { IsSilent result err.old err.new }
-    ensures unopened { ¬ (NamesFile (asked_of words.now)) → files.new ≡ files.old }
-    ensures unasked { ¬ (AsksClock (asked_of words.now)) → clock.new ≡ clock.old }
+    ensures unopened { ¬ (NamesFile (asked_of (map meaning sheets.items) words.now)) → files.new ≡ files.old }
+    ensures unasked { ¬ (AsksClock (asked_of (map meaning sheets.items) words.now)) → clock.new ≡ clock.old }
     ensures asked_last { IsTrue (F.state files.old).store.tells
-        → ¬ (HasFiles (λ slot. (F.state files.old).store.folder) (asked_of words.now)) → clock.new ≡ clock.old }
+        → ¬ (HasFiles (λ slot. (F.state files.old).store.folder) (asked_of (map meaning sheets.items) words.now)) → clock.new ≡ clock.old }
 {
-    match answer_words(alloc, words, files, clock) {
+    match answer_words(alloc, words, files, clock, sheets) {
         Ok(reply) => match reply.write(out) {
             Ok(rejected) => judged(rejected),
             Err(_) => refuse(err, Status::WriteFault, b"write fault\n"),

@@ -11,11 +11,14 @@ mod body;
 mod certificate_laws;
 mod desk;
 mod laws;
+mod peak_laws;
 mod reply;
 mod replying;
+mod reporting;
 mod worked;
 
 pub use certificate_laws::{what_certify_answers_is_accepted, what_check_accepts_is_true};
 pub use desk::run;
 pub use laws::memory_holds_the_answer;
-pub use worked::worked_minutes;
+pub use peak_laws::{what_peak_answers_is_accepted, what_peakcheck_accepts_is_true};
+pub use worked::{worked_minutes, worked_sheets};

@@ -1,24 +1,53 @@
 //! The way in which a question's answer is written.
 
-ghost use Rattle.std.specs.Prelude.{◌≡◌, ◌&&◌, not, IfErr};
+ghost use Rattle.std.specs.Prelude.{◌≡◌, ◌&&◌, not, IfErr, map};
 ghost use Rattle.decimal_text.specs.Expected.{Gives};
 ghost use Rattle.tide_answer.specs.Answers.{answered};
 ghost use Rattle.tide_fault.specs.Faults.{wants_memory_of_refusal, IsToldRefusal};
 ghost use Rattle.tide_answer.specs.Givens.{IsGiven};
 ghost use Rattle.tide_answer.specs.Streams.{can_stream, is_plain_layout, is_zone_file};
+ghost use Rattle.tide_desk.specs.Answers.{answered_with, is_report};
 
 use crate::reply::Reply;
+use crate::reporting::report;
 use harmonics_text::SoundBook;
-use question::{Layout, Question, SoundQuestion};
+use question::{Command, Layout, Question, SoundQuestion};
+use report_sheets::Sheet;
 use station_table::OffsetTable;
 use std::alloc::Global;
 use tide_answer::{Given, answer, can_stream, prepare};
 use tide_fault::Refusal;
 use zone_time::Zone;
 
-/// The answer to a question over a book and a table, or the first refusal, as
-/// [`answer`](tide_answer::answer) has it. The text is made only where it doesn't stream.
-pub fn reply_to(
+/// The answer to a question over a book and a table, or the first refusal: a report of the sheets that
+/// it wants, and else as [`answer`](tide_answer::answer) has it.
+pub fn reply_with(
+    alloc: Global,
+    book: &SoundBook<'_>,
+    table: &OffsetTable,
+    question: &SoundQuestion<'_>,
+    given: &Given,
+    sheets: Vec<Box<dyn Sheet>>,
+) -> Result<Reply, Refusal>
+    requires given { IsGiven given.now }
+    ensures exact { Gives wants_memory_of_refusal (answered_with (is_report question.now.command) (map meaning sheets.items) book.now table.now question.now given.entry.now) result }
+    ensures told { IfErr result (IsToldRefusal table.now) }
+{
+    if is_report(question.get().command) {
+        let answer = report(alloc, book, table, question, given, sheets)?;
+        return Ok(Reply::made(answer));
+    }
+    reply_to(alloc, book, table, question, given)
+}
+
+fn is_report(command: Command) -> bool
+    ensures { result ≡ is_report command }
+{
+    matches!(command, Command::Report)
+}
+
+// The answer to a question that asks for no report. The text is made only where it doesn't stream.
+fn reply_to(
     alloc: Global,
     book: &SoundBook<'_>,
     table: &OffsetTable,

@@ -22,9 +22,9 @@ use Rattle.station_curve.specs.declared.fault.CurveFault.{CurveFault}
 use Rattle.station_curve.specs.declared.fault.CurveFault.TheVariants as curve
 use Rattle.zone_time.specs.Moments.{IsMoment, moment_text}
 use Rattle.tide_fault.specs.declared.fault.Fault.{Fault}
-use Rattle.tide_fault.specs.declared.fault.Fault.TheVariants.{Ask, TooLong, Book, Offsets, BadZone, Refused}
+use Rattle.tide_fault.specs.declared.fault.Fault.TheVariants.{Ask, NoSheet, TooLong, Book, Offsets, BadZone, Refused}
 use Rattle.tide_fault.specs.declared.refusal.Refusal.{Refusal}
-use Rattle.tide_fault.specs.declared.refusal.Refusal.TheVariants.{NoMemory, NotBuilt, NotACertificate, BadSample, NoStation, NoReference, Hydraulic, BackwardSpan, EmptySpan, OutOfYears, TooLarge, TooSteep, SpanTooLong, MarkNotHere, LevelNotHere, TooManyRows}
+use Rattle.tide_fault.specs.declared.refusal.Refusal.TheVariants.{NoMemory, NotACertificate, BadSample, NoStation, NoReference, Hydraulic, BackwardSpan, EmptySpan, OutOfYears, TooLarge, TooSteep, SpanTooLong, MarkNotHere, LevelNotHere, TooManyRows}
 use Rattle.tide_fault.specs.declared.slot.Slot.{Slot}
 use Rattle.tide_fault.specs.declared.slot.Slot.TheVariants as slots
 use Rattle.tide_fault.specs.declared.status.Status.{Status}
@@ -46,7 +46,6 @@ status_of_table (table.At row why) = status.FileRefused
 
 abbrev pub status_of_refusal : Refusal → Status
 status_of_refusal NoMemory = status.NoMemory
-status_of_refusal NotBuilt = status.Refused
 status_of_refusal (NotACertificate line) = status.FileRefused
 status_of_refusal (BadSample line why) = status.FileRefused
 status_of_refusal NoStation = status.Refused
@@ -64,6 +63,7 @@ status_of_refusal (TooManyRows rows) = status.Limit
 
 abbrev pub status_of : Fault → Status
 status_of (Ask fault) = status_of_ask fault
+status_of (NoSheet word) = status.Refused
 status_of (TooLong slot) = status.FileRefused
 status_of (Book fault) = status_of_form fault
 status_of (Offsets fault) = status_of_table fault
@@ -114,8 +114,9 @@ table_line (table.At row why) = row_line row why
 abbrev pub reference_at : List Row → ℕ → List ℕ
 reference_at rows place = option_map_or (λ row. row.reference) (slice_get rows place) []
 
-abbrev pub reference_line : List ℕ → List ℕ
-reference_line name = codes "refused: no reference " ++ name ++ codes "\n"
+-- a line that ends with a name
+abbrev pub naming_line : List ℕ → List ℕ → List ℕ
+naming_line what name = what ++ name ++ codes "\n"
 
 abbrev pub years_line : ℤ → ℤ → List ℕ
 years_line first last =
@@ -123,11 +124,10 @@ years_line first last =
 
 unfoldable pub refusal_line : List Row → Refusal → List ℕ
 refusal_line rows NoMemory = codes "no memory\n"
-refusal_line rows NotBuilt = codes "refused: not built\n"
 refusal_line rows (NotACertificate line) = codes "certificate: line " ++ decimal line ++ codes "\n"
 refusal_line rows (BadSample line why) = file_line line why
 refusal_line rows NoStation = codes "refused: no station\n"
-refusal_line rows (NoReference place) = reference_line (reference_at rows place)
+refusal_line rows (NoReference place) = naming_line (codes "refused: no reference ") (reference_at rows place)
 refusal_line rows Hydraulic = codes "refused: hydraulic\n"
 refusal_line rows BackwardSpan = codes "refused: backward span\n"
 refusal_line rows EmptySpan = codes "refused: empty span\n"
@@ -141,6 +141,7 @@ refusal_line rows (TooManyRows count) = codes "limit: " ++ signed_decimal count 
 
 unfoldable pub line_of : List Row → Fault → List ℕ
 line_of rows (Ask fault) = ask_line fault
+line_of rows (NoSheet word) = naming_line (codes "refused: no sheet ") word
 line_of rows (TooLong slot) = slot_name slot ++ codes ": too long\n"
 line_of rows (Book fault) = form_line fault
 line_of rows (Offsets fault) = table_line fault

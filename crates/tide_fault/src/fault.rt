@@ -6,15 +6,18 @@ ghost use Rattle.tide_fault.specs.Faults.{status_of, status_of_ask, status_of_fo
 use crate::refusal::Refusal;
 use crate::slot::Slot;
 use crate::status::Status;
+use decimal_text::Text;
 use harmonics_text::BookFault;
 use question::AskFault;
 use station_table::OffsetFault;
 
 /// Why there is no answer, in the order in which it is found.
-#[derive(Clone, Copy, Debug)]
+#[derive(Debug, Drop)]
 pub enum Fault {
     /// The words, or a query, ask nothing.
     Ask(AskFault),
+    /// No sheet of a report has this word.
+    NoSheet { word: Text },
     /// A file has too many bytes.
     TooLong(Slot),
     /// The file of harmonic constants has no reading.
@@ -33,6 +36,7 @@ pub fn fault_status(fault: &Fault) -> Status
 {
     match fault {
         Fault::Ask(ask) => ask_status(*ask),
+        Fault::NoSheet { .. } => Status::Refused,
         Fault::TooLong(_) => Status::FileRefused,
         Fault::Book(form) => form_status(*form),
         Fault::Offsets(table) => table_status(*table),
@@ -74,8 +78,7 @@ fn refusal_status(refusal: Refusal) -> Status
     match refusal {
         Refusal::NoMemory => Status::NoMemory,
         Refusal::NotACertificate { .. } | Refusal::BadSample { .. } => Status::FileRefused,
-        Refusal::NotBuilt
-        | Refusal::NoStation
+        Refusal::NoStation
         | Refusal::NoReference { .. }
         | Refusal::Hydraulic
         | Refusal::BackwardSpan

@@ -1,7 +1,7 @@
 //! The line that tells of a fault. Every such line is made here.
 
 ghost use Rattle.std.specs.Prelude.{◌≡◌, ◌++◌, ◌<◌, codes, length, IfOk, string_bytes};
-ghost use Rattle.tide_fault.specs.Faults.{line_of, slot_name, ask_line, form_line, file_line, table_line, row_line, reference_at, reference_line, refusal_line, years_line, IsTold, IsToldRefusal};
+ghost use Rattle.tide_fault.specs.Faults.{line_of, slot_name, ask_line, form_line, file_line, table_line, row_line, naming_line, reference_at, refusal_line, years_line, IsTold, IsToldRefusal};
 ghost use Rattle.zone_time.specs.Moments.{IsMoment};
 
 use crate::fault::Fault;
@@ -31,13 +31,14 @@ fn fault_text(alloc: Global, fault: &Fault, table: &OffsetTable) -> Result<Strin
     requires { IsTold table.now fault.now }
     ensures { IfOk result (λ text. string_bytes text ≡ line_of table.now fault.now) }
 {
-    match *fault {
-        Fault::Ask(ask) => ask_text(alloc, ask),
-        Fault::TooLong(slot) => long_text(alloc, slot),
-        Fault::Book(form) => form_text(alloc, form),
-        Fault::Offsets(fault) => table_text(alloc, fault),
+    match fault {
+        Fault::Ask(ask) => ask_text(alloc, *ask),
+        Fault::NoSheet { word } => named_text(alloc, "refused: no sheet ", word.as_str()),
+        Fault::TooLong(slot) => long_text(alloc, *slot),
+        Fault::Book(form) => form_text(alloc, *form),
+        Fault::Offsets(fault) => table_text(alloc, *fault),
         Fault::BadZone => String::from_str(alloc, "zone: bad zone file\n"),
-        Fault::Refused(refusal) => refusal_text(alloc, refusal, table),
+        Fault::Refused(refusal) => refusal_text(alloc, *refusal, table),
     }
 }
 
@@ -124,11 +125,12 @@ fn refusal_text(alloc: Global, refusal: Refusal, table: &OffsetTable) -> Result<
 {
     match refusal {
         Refusal::NoMemory => String::from_str(alloc, "no memory\n"),
-        Refusal::NotBuilt => String::from_str(alloc, "refused: not built\n"),
         Refusal::NotACertificate { line } => format!(in alloc; "certificate: line {line}\n"),
         Refusal::BadSample { line, why } => file_text(alloc, line, why),
         Refusal::NoStation => String::from_str(alloc, "refused: no station\n"),
-        Refusal::NoReference { row } => reference_text(alloc, reference_at(table, row)),
+        Refusal::NoReference { row } => {
+            named_text(alloc, "refused: no reference ", reference_at(table, row))
+        }
         Refusal::Hydraulic => String::from_str(alloc, "refused: hydraulic\n"),
         Refusal::BackwardSpan => String::from_str(alloc, "refused: backward span\n"),
         Refusal::EmptySpan => String::from_str(alloc, "refused: empty span\n"),
@@ -151,10 +153,10 @@ fn reference_at(table: &OffsetTable, row: u32) -> &str
     table.as_slice()[row as usize].reference.as_str()
 }
 
-fn reference_text(alloc: Global, name: &str) -> Result<String, AllocError>
-    ensures { IfOk result (λ text. string_bytes text ≡ reference_line name.now) }
+fn named_text(alloc: Global, what: &str, name: &str) -> Result<String, AllocError>
+    ensures { IfOk result (λ text. string_bytes text ≡ naming_line what.now name.now) }
 {
-    let mut text = String::from_str(alloc, "refused: no reference ")?;
+    let mut text = String::from_str(alloc, what)?;
     text.push_str(name)?;
     text.push_str("\n")?;
     Ok(text)

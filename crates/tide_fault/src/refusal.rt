@@ -10,8 +10,6 @@ use std::alloc::AllocError;
 #[derive(Clone, Copy, Debug)]
 pub enum Refusal {
     NoMemory,
-    /// What is asked isn't built as yet.
-    NotBuilt,
     /// What is given as a certificate is none: its first line with which no certificate goes on.
     NotACertificate { line: u32 },
     /// The file made from a seed isn't of the form: its first line that breaks a rule.

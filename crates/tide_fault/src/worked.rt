@@ -15,8 +15,8 @@ pub fn worked_lines()
     ensures no_command { line_of [] (Fault.Ask AskFault.NoCommand) ≡ codes "words: no command\n" }
     ensures missing { line_of [] (Fault.Ask (AskFault.MissingKey Key.Station)) ≡ codes "words: station is missing\n" }
     ensures long { line_of [] (Fault.TooLong Slot.Certificate) ≡ codes "certificate: too long\n" }
-    ensures not_built { line_of [] (Fault.Refused Refusal.NotBuilt) ≡ codes "refused: not built\n" }
     ensures empty { line_of [] (Fault.Refused Refusal.EmptySpan) ≡ codes "refused: empty span\n" }
+    ensures no_sheet { line_of [] (Fault.NoSheet (codes "graph")) ≡ codes "refused: no sheet graph\n" }
     ensures words { status_of (Fault.Ask (AskFault.RepeatedKey 2)) ≡ Status.Words }
     ensures file { status_of (Fault.TooLong Slot.Offsets) ≡ Status.FileRefused }
     ensures memory { status_of (Fault.Refused Refusal.NoMemory) ≡ Status.NoMemory }

@@ -3,7 +3,7 @@
 use harmonics_text::{BookFault, Why};
 use question::{AskFault, Key};
 use station_table::{OffsetFault, OffsetWhy};
-use tide_answer::{Fault, Refusal, Slot};
+use tide_answer::Refusal;
 
 // The words of a line, parted by '|', and the answer's text or the line of its refusal.
 pub const ANSWERS: &[(&str, &str)] = &[
@@ -154,85 +154,62 @@ pub const VERDICTS: &[(&str, &str)] = &[
     ),
 ];
 
-// A fault, its status and its line.
-pub const FAULTS: &[(Fault, u8, &str)] = &[
+// What is wrong with words, its status and its line.
+pub const ASK_FAULTS: &[(AskFault, u8, &str)] = &[
+    (AskFault::UnknownCommand, 2, "words: unknown command\n"),
+    (AskFault::NotAPair(1), 2, "words: pair 1 is not key=value\n"),
     (
-        Fault::Ask(AskFault::UnknownCommand),
-        2,
-        "words: unknown command\n",
-    ),
-    (
-        Fault::Ask(AskFault::NotAPair(1)),
-        2,
-        "words: pair 1 is not key=value\n",
-    ),
-    (
-        Fault::Ask(AskFault::UnknownKey(12)),
+        AskFault::UnknownKey(12),
         2,
         "words: pair 12 has an unknown key\n",
     ),
+    (AskFault::RepeatedKey(3), 2, "words: pair 3 repeats a key\n"),
+    (AskFault::BadValue(4), 2, "words: pair 4 has a bad value\n"),
     (
-        Fault::Ask(AskFault::RepeatedKey(3)),
-        2,
-        "words: pair 3 repeats a key\n",
-    ),
-    (
-        Fault::Ask(AskFault::BadValue(4)),
-        2,
-        "words: pair 4 has a bad value\n",
-    ),
-    (
-        Fault::Ask(AskFault::MissingKey(Key::Sheets)),
+        AskFault::MissingKey(Key::Sheets),
         2,
         "words: sheets is missing\n",
     ),
-    (Fault::TooLong(Slot::Zone), 3, "zone: too long\n"),
+];
+
+// What is wrong with files.
+pub const CUT_SHORT: BookFault = BookFault::At {
+    line: 16,
+    why: Why::CutShort,
+};
+
+pub const HALF_SLACK: OffsetFault = OffsetFault::At {
+    row: 2,
+    why: OffsetWhy::HalfSlack,
+};
+
+// A refusal, its status and its line.
+pub const REFUSALS: &[(Refusal, u8, &str)] = &[
+    (Refusal::Hydraulic, 4, "refused: hydraulic\n"),
     (
-        Fault::Book(BookFault::At {
-            line: 16,
-            why: Why::CutShort,
-        }),
-        3,
-        "file: line 16: cut short (11)\n",
-    ),
-    (
-        Fault::Offsets(OffsetFault::At {
-            row: 2,
-            why: OffsetWhy::HalfSlack,
-        }),
-        3,
-        "offsets: row 2: half slack (8)\n",
-    ),
-    (
-        Fault::Refused(Refusal::Hydraulic),
-        4,
-        "refused: hydraulic\n",
-    ),
-    (
-        Fault::Refused(Refusal::SpanTooLong { minutes: 5_270_401 }),
+        Refusal::SpanTooLong { minutes: 5_270_401 },
         5,
         "limit: span of 5270401 minutes\n",
     ),
     (
-        Fault::Refused(Refusal::TooSteep { year: 1999 }),
+        Refusal::TooSteep { year: 1999 },
         5,
         "limit: too steep in 1999\n",
     ),
-    (Fault::BadZone, 3, "zone: bad zone file\n"),
     (
-        Fault::Refused(Refusal::NotACertificate { line: 9 }),
+        Refusal::NotACertificate { line: 9 },
         3,
         "certificate: line 9\n",
     ),
     (
-        Fault::Refused(Refusal::BadSample {
+        Refusal::BadSample {
             line: 3,
             why: Why::BadNumber,
-        }),
+        },
         3,
         "file: line 3: bad number (3)\n",
     ),
-    (Fault::Refused(Refusal::NoMemory), 8, "no memory\n"),
+    (Refusal::NoMemory, 8, "no memory\n"),
 ];
 
 // The words of a line whose answer is longer than a page of 4096 bytes; how many bytes a call takes at

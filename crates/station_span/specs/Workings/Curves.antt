@@ -16,7 +16,7 @@ use Rattle.station_curve.specs.Waves.{Tide}
 use Rattle.year_blend.specs.Places.{AreYears, InDomain}
 use Rattle.zone_time.specs.Zones.{InZoneYears}
 use Rattle.station_span.specs.declared.asked.Asked.{Asked}
-use Rattle.station_span.specs.declared.following.Listed.{Listed}
+use Rattle.station_span.specs.declared.following.FoundEvents.{FoundEvents}
 use Rattle.tide_fault.specs.declared.refusal.Refusal.{Refusal}
 use Rattle.station_span.specs.declared.station.Found.{Found}
 use Rattle.tide_fault.specs.Faults.{wants_memory_of_refusal}
@@ -67,15 +67,16 @@ pub record HasMinutes (tide : Tide) (span : Span) : Type 0 where
   pub ends : InTide tide span.end
 
 -- the events of a tide over a span, and the cells of its curves
-pub record IsTideList (found : Found) (asked : Asked) (listed : Listed) : Type 0 where
+pub record IsTideList (found : Found) (asked : Asked) (listed : FoundEvents) : Type 0 where
   pub units : listed.units ≡ found.units
   pub events : listed.events ≡ tide_events found asked
   pub cells : listed.cells ≡ tide_cells found asked
   pub lines : All (IsListed listed.units) listed.events
 
 -- those of a site, whose span has a local time by every clock
-pub record IsSiteList (book : Book) (asked : Asked) (site : Site) (listed : Listed) : Type 0 where
+pub record IsSiteList (book : Book) (asked : Asked) (site : Site) (listed : FoundEvents) : Type 0 where
   pub units : listed.units ≡ site.station.units
+  pub levels : HasLevels listed.units
   pub events : listed.events ≡ events_of book site asked
   pub cells : listed.cells ≡ cells_of book site asked
   pub lines : All (IsListed listed.units) listed.events
@@ -84,7 +85,7 @@ pub record IsSiteList (book : Book) (asked : Asked) (site : Site) (listed : List
   pub ends : InZoneYears asked.end
 
 -- the expected site's events were listed, or the expected refusal given
-abbrev pub Lists : Book → Asked → Result Site Refusal → Result Listed Refusal → Type 0
+abbrev pub Lists : Book → Asked → Result Site Refusal → Result FoundEvents Refusal → Type 0
 Lists book asked expected (Ok listed) = (site : Site) × (expected ≡ Ok site) × IsSiteList book asked site listed
 Lists book asked expected (Err refusal) = Excused (wants_memory_of_refusal refusal) expected refusal
 

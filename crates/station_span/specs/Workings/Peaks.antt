@@ -10,6 +10,7 @@ use Rattle.highest_water.specs.Verdicts.{peak_verdict}
 use Rattle.rate_bound.specs.declared.version.Version.TheVariants.{Second}
 use Rattle.rate_bound.specs.Meanings.{mark_meaning}
 use Rattle.station_curve.specs.Curves.{Predicts}
+use Rattle.station_curve.specs.Limits.{IsGentle}
 use Rattle.tide_fault.specs.declared.refusal.Refusal.{Refusal}
 use Rattle.tide_fault.specs.Faults.{wants_memory_of_refusal}
 use Rattle.station_span.specs.declared.asked.Asked.{Asked}
@@ -43,6 +44,7 @@ pub record IsHighestFound (book : Book) (asked : Asked) (site : Site) (found : F
   pub basis : found.basis ≡ site.basis
   pub units : found.units ≡ site.station.units
   pub predicts : Predicts book site.station found.curve
+  pub gentle : IsGentle found.curve
   pub highest : HasHighest found asked
   pub peak : tide_peak found asked ≡ highest_of book site asked
   pub verdict : (peak : Peak) → tide_verdict found asked peak ≡ highest_verdict book site asked peak

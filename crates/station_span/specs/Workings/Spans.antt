@@ -1,5 +1,5 @@
 -- What the steps of an answer hand on to each other.
-use Rattle.std.specs.Prelude.{◌≡◌, ℤ, negsuc, pos, ◌-ℤ◌, ◌≤ℤ◌, ◌≤◌, unsigned_abs, length, false, IsTrue, Result, Ok, Err}
+use Rattle.std.specs.Prelude.{◌≡◌, ℤ, negsuc, pos, ◌-ℤ◌, ◌≤ℤ◌, ◌≤◌, unsigned_abs, length, false, IsTrue, Some, Result, Ok, Err, slice_get}
 use Rattle.std.specs.Option.{ForSome}
 use Rattle.decimal_text.specs.Expected.{Excused}
 use Rattle.event_list.specs.declared.span.Span.{Span}
@@ -84,6 +84,7 @@ FindsIn reach book asked expected (Err refusal) = Excused (wants_memory_of_refus
 pub record IsKnown (book : Book) (site : Site) (found : Found) : Type 0 where
   pub basis : found.basis ≡ site.basis
   pub sound : IsBasis (length book.stations) found.basis
+  pub station : slice_get book.stations found.basis.station ≡ Some site.station
   pub units : found.units ≡ site.station.units
   pub levels : HasLevels found.units
   pub predicts : Predicts book site.station found.curve

@@ -1,5 +1,5 @@
 -- The certificate that is written of tracks, and what is said of the tracks of one that is read.
-use Rattle.std.specs.Prelude.{ℕ, List, ◌++◌, codes, true, false, Option, Result, Ok}
+use Rattle.std.specs.Prelude.{ℕ, List, Option, Result, Ok}
 use Rattle.cert_text.specs.declared.certificate.Certificate.{Certificate}
 use Rattle.curve_law.specs.declared.event.Event.{Event}
 use Rattle.curve_law.specs.declared.tracks.Tracks.{Tracks}
@@ -16,7 +16,7 @@ use Rattle.tide_fault.specs.declared.refusal.Refusal.{Refusal}
 use Rattle.station_cells.specs.declared.rejection.Rejection.{Rejection}
 use Rattle.station_span.specs.declared.station.Found.{Found}
 use Rattle.tide_answer.specs.declared.text.Answer.{Answer}
-use Rattle.tide_answer.specs.Answers.{judged, version_of}
+use Rattle.tide_answer.specs.Answers.{judged, text_accepted, text_rejected, version_of}
 use Rattle.tide_answer.specs.Asking.{asked_in}
 use Rattle.station_span.specs.Following.{followed_by}
 use Rattle.station_cells.specs.Rejections.{rejection_of, rejection_line}
@@ -40,11 +40,10 @@ tide_rejection found cert =
 
 -- the answers where nothing is wrong, and where something is
 abbrev pub accepted : List ℕ → Units → List Event → Zone → Answer
-accepted name units events zone =
-    record { text = codes "Accepted\n" ++ plain_events_of name units events zone; rejected = false; cells = 0 }
+accepted name units events zone = text_accepted (plain_events_of name units events zone)
 
 abbrev pub rejected : Rejection → Answer
-rejected rejection = record { text = rejection_line rejection; rejected = true; cells = 0 }
+rejected rejection = text_rejected (rejection_line rejection)
 
 -- the answer to a certificate that was read
 unfoldable pub judged_in : Book → List Offsets → Certificate → Zone → Result Answer Refusal

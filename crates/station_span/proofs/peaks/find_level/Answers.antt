@@ -12,6 +12,7 @@ returns-clause-exact c =
         basis = site.2.basis;
         units = site.2.units;
         predicts = site.2.predicts;
+        gentle = site.2.gentle;
         highest = highest;
         peak = peak_alike c.args.book.now c.args.asked.now site.0 c.in_ok-found.found site.2 highest;
         verdict = λ peak. verdict_alike c.args.book.now c.args.asked.now site.0 c.in_ok-found.found peak site.2 highest;

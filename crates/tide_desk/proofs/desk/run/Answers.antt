@@ -1,6 +1,5 @@
 use Rattle.std.proofs.Common.{inl, sym}
-use Rattle.tide_desk.specs.Answers.{AsksClock, asked_of}
-use Rattle.tide_desk.specs.Outcomes.{IsFirm, outputs, sources}
+use Rattle.tide_desk.specs.Outcomes.{outputs}
 use Rattle.tide_edge.proofs.WritingLemmas.{put_none}
 use Rattle.tide_desk.proofs.OutcomeLemmas.{ends_told, ends_own, ends_whole, own_excused}
 use Rattle.tide_desk.proofs.desk.run.Goals as goal
@@ -36,8 +35,7 @@ returns-in-Ok-clause-some_files g c =
 
 pub returns-clause-own_files : goal.returns-clause-own_files
 returns-clause-own_files g c =
-    λ t k either. let firm = IsFirm (AsksClock (asked_of c.args.words.now)) (sources (g.F.Files.state c.args.files.now) (g.K.Clock.state c.args.clock.now)) (sources (g.F.Files.state c.answer_words.new.files) (g.K.Clock.state c.answer_words.new.clock)) in
-    ends_own firm _ c.in-Err.none c.tell.result (outputs (g.O.Sink.state c.args.out.now) (g.E.Sink.state c.args.err.now)) (outputs (g.O.Sink.state c.args.out.now) (g.E.Sink.state c.tell.new.err)) (c.in-Err.ensures.own t k) either
+    λ t k either. ends_own _ _ c.in-Err.none c.tell.result (outputs (g.O.Sink.state c.args.out.now) (g.E.Sink.state c.args.err.now)) (outputs (g.O.Sink.state c.args.out.now) (g.E.Sink.state c.tell.new.err)) (c.in-Err.ensures.own t k) either
     (sym (put_none (g.O.Sink.state c.args.out.now))) c.tell.ensures.told
 
 pub returns-clause-some_files : goal.returns-clause-some_files

@@ -1,0 +1,233 @@
+-- What certificates of a highest water come to: what is accepted is true, and what is certified is accepted and short.
+use Rattle.std.proofs.Common.{◌≡◌, ◌<◌, ◌≤◌, ℕ, ℤ, pos, ◌+ℤ◌, ◌-ℤ◌, ◌*ℤ◌, ◌≤ℤ◌, ◌<ℤ◌, false, List, length, None, Result, Ok, Err, refl, sym, subst, ap, ◌∙◌, arith}
+use Rattle.std.proofs.lemmas.Int.{ints}
+use Rattle.harmonics_text.specs.declared.book.Book.{Book}
+use Rattle.harmonics_text.specs.Books.{IsBook}
+use Rattle.highest_water.specs.declared.certificate.PeakCertificate.{PeakCertificate}
+use Rattle.highest_water.specs.declared.fault.CertFault.{CertFault}
+use Rattle.highest_water.specs.declared.peak.Peak.{Peak}
+use Rattle.highest_water.specs.declared.verdict.PeakVerdict.{PeakVerdict}
+use Rattle.highest_water.specs.declared.verdict.PeakVerdict.TheVariants.{WrongLength, Outside, NotUnder, WrongValue, Above, Accepted}
+use Rattle.highest_water.specs.Covers.{all_minutes}
+use Rattle.highest_water.specs.PeakTexts.{IsPeakCertificate, peak_text}
+use Rattle.highest_water.specs.PeakReadings.{peak_of}
+use Rattle.highest_water.specs.PeakSpelling.{IsPeakTextOf, ReadsPeak}
+use Rattle.highest_water.proofs.HighestLemmas.{highest-one}
+use Rattle.highest_water.proofs.VerdictLemmas.{verdict-cells}
+use Rattle.rate_bound.specs.Meanings.{over_mark}
+use Rattle.station_curve.specs.Schureman.{predicted_level}
+use Rattle.station_table.specs.declared.offsets.Offsets.{Offsets}
+use Rattle.station_table.specs.Offsets.{IsOffset, IsTable}
+use Rattle.zone_time.specs.declared.zone.Zone.TheVariants.{Utc}
+use Rattle.station_span.specs.declared.asked.Asked.{Asked}
+use Rattle.station_span.specs.declared.reach.Reach.TheVariants.{Highest}
+use Rattle.station_span.specs.Peaks.{first_source, highest_of, highest_site, highest_verdict, level_curve, minute_count}
+use Rattle.station_span.specs.Sites.{Site}
+use Rattle.station_span.specs.Workings.Peaks.{HasHighest}
+use Rattle.station_span.proofs.LevelLemmas.{level_order}
+use Rattle.station_span.proofs.NameLemmas.{site_name}
+use Rattle.station_span.proofs.PeakLemmas.{IsHighestAt, accepted_certificate, accepted_highest, has_highest, highest_found, highest_minutes, highest_of_accepted, highest_parts, highest_unmarked, verdict_alike}
+use Rattle.station_span.proofs.SiteLemmas.{found_at, found_of_site, site_basis, then_ok}
+use Rattle.tide_answer.specs.declared.text.Answer.{Answer}
+use Rattle.tide_answer.specs.Answers.{text_alone, highest, highest_text_at, peak_certificate_by, peak_certified, peak_checked, peak_from, peak_judged, text_accepted}
+use Rattle.tide_answer.specs.Asking.{asked_of_peak}
+use Rattle.tide_answer.specs.Laws.{IsAskable, AcceptsListing}
+use Rattle.tide_answer.specs.PeakLaws.{IsMovedInto, IsHighestWater, TellsTheHighest, AcceptsWhatPeakCertifies, PeakCertifiesInShort, AcceptsOnlyTruePeaks}
+use Rattle.tide_answer.proofs.LawLemmas.{near_asked}
+use Rattle.tide_answer.proofs.PeakLemmas.{peak_near}
+
+-- ---- the highest water, by the reference's level
+
+-- against no mark
+level_alone : (level : ℤ) → over_mark (pos 1000000) (pos 0) (pos 0) level ≡ pos 1000000 *ℤ level
+level_alone level = omega (arith, ints)
+
+level_value : (book : Book) (site : Site) (m : ℤ) → (level_curve book site).track.value m ≡ pos 1000000 *ℤ predicted_level book site.station m
+level_value book site m = level_alone (predicted_level book site.station m)
+
+highest_value : (book : Book) (site : Site) (asked : Asked) (at value : ℤ) → IsHighestAt book site asked at value → value ≡ pos 1000000 *ℤ predicted_level book site.station at
+highest_value book site asked at value peak = sym peak.has ∙ level_value book site at
+
+no_more : (value other k l : ℤ) → value ≡ pos 1000000 *ℤ k → other ≡ pos 1000000 *ℤ l → value ≤ℤ other → k ≤ℤ l
+no_more value other k l is also most = omega (arith, ints)
+
+less : (value other k l : ℤ) → value ≡ pos 1000000 *ℤ k → other ≡ pos 1000000 *ℤ l → value <ℤ other → k <ℤ l
+less value other k l is also most = omega (arith, ints)
+
+highest_water : (book : Book) (site : Site) (asked : Asked) (at value : ℤ) → IsOffset site.basis.high → asked.begin <ℤ asked.end → IsHighestAt book site asked at value → IsHighestWater book site asked at
+highest_water book site asked at value offset some peak =
+    let from = peak.from in
+    let before = peak.before in
+    let add = site.basis.high.add in
+    let is = highest_value book site asked at value peak in
+    let greatest : (m : ℤ) → IsMovedInto site asked m → predicted_level book site.station m ≤ℤ predicted_level book site.station at = λ m moved.
+    let begins = moved.from in
+    let ends = moved.before in
+    no_more _ _ _ _ (level_value book site m) is (peak.greatest m (omega (arith, ints)) (omega (arith, ints))) in
+    let here : (at +ℤ add) -ℤ add ≡ at = omega (arith, ints) in
+    record {
+      inside = record { from = omega (arith, ints); before = omega (arith, ints) };
+      greatest = greatest;
+      first = λ m moved earlier.
+          let begins = moved.from in
+          less _ _ _ _ (level_value book site m) is (peak.first m (omega (arith, ints)) earlier);
+      level = λ minute begins ends.
+          level_order book site minute (at +ℤ add) offset
+          (rw here (greatest (minute -ℤ add) (record { from = omega (arith, ints); before = omega (arith, ints) })));
+    }
+
+-- ---- what a question is told
+
+highest_offset : (book : Book) (table : List Offsets) (name : List ℕ) (asked : Asked) (site : Site) → IsTable table → highest_site book table name asked ≡ Ok site → IsOffset site.basis.high
+highest_offset book table name asked site rows is =
+    (site_basis Highest book table name asked site rows (highest_parts book table name asked site is).0).high
+
+pub told_highest : TellsTheHighest
+unfolding highest
+told_highest book table name asked zone answer rows ok =
+    let site = then_ok (highest_site book table name asked) _ answer ok in
+    let some = highest_minutes book table name asked site.0 site.1 in
+    record {
+      site = site.0;
+      at = (highest_of book site.0 asked).at;
+      found = site.1;
+      water = highest_water book site.0 asked _ _ (highest_offset book table name asked site.0 rows site.1) some (highest_found book site.0 asked some);
+      told = (let last = site.2 in cc);
+    }
+
+-- a span has one highest water
+lists : (book : Book) (table : List Offsets) (name : List ℕ) (asked : Asked) (site : Site) (at value : ℤ) → highest_site book table name asked ≡ Ok site → IsHighestAt book site asked at value → AcceptsListing (highest book table name asked Utc) (text_accepted (highest_text_at book site name at Utc))
+unfolding highest
+lists book table name asked site at value is peak =
+    let found = highest_found book site asked (highest_minutes book table name asked site is) in
+    let one = highest-one (level_curve book site) (first_source site asked) (first_source site asked +ℤ pos (minute_count asked)) at value _ _ peak found in
+    (text_alone (highest_text_at book site name at Utc), rw (is, ← one.0) refl, refl)
+
+-- ---- what is accepted is true
+
+read_ok : (result : Result PeakCertificate CertFault) (cert : PeakCertificate) → peak_from result ≡ Ok cert → result ≡ Ok cert
+read_ok (Ok found) cert ok = cc
+read_ok (Err fault) cert ok = absurd cc
+
+unrejected : (book : Book) (site : Site) (cert : PeakCertificate) (verdict : PeakVerdict) (answer : Answer) → peak_judged book site cert verdict ≡ answer → answer.rejected ≡ false → verdict ≡ Accepted
+unrejected book site cert Accepted answer is accepted = refl
+unrejected book site cert (WrongLength covered wanted) answer is accepted = absurd (let rejected = ap (λ (a : Answer). a.rejected) is in cc)
+unrejected book site cert Outside answer is accepted = absurd (let rejected = ap (λ (a : Answer). a.rejected) is in cc)
+unrejected book site cert (NotUnder cell) answer is accepted = absurd (let rejected = ap (λ (a : Answer). a.rejected) is in cc)
+unrejected book site cert (WrongValue written computed) answer is accepted = absurd (let rejected = ap (λ (a : Answer). a.rejected) is in cc)
+unrejected book site cert (Above cell) answer is accepted = absurd (let rejected = ap (λ (a : Answer). a.rejected) is in cc)
+
+record WasJudged (book : Book) (table : List Offsets) (bytes : List ℕ) (answer : Answer) : Type 0 where
+  pub certificate : PeakCertificate
+  pub site : Site
+  pub read : peak_of bytes ≡ Ok certificate
+  pub found : highest_site book table certificate.station (asked_of_peak certificate) ≡ Ok site
+  pub judged : peak_judged book site certificate (highest_verdict book site (asked_of_peak certificate) certificate.peak) ≡ answer
+
+was_judged : (book : Book) (table : List Offsets) (bytes : List ℕ) (answer : Answer) → peak_checked book table bytes ≡ Ok answer → WasJudged book table bytes answer
+unfolding peak_checked
+was_judged book table bytes answer ok =
+    let cert = then_ok (peak_from (peak_of bytes)) _ answer ok in
+    let site = then_ok (highest_site book table cert.0.station (asked_of_peak cert.0)) _ answer cert.2 in
+    record {
+      certificate = cert.0;
+      site = site.0;
+      read = read_ok _ cert.0 cert.1;
+      found = site.1;
+      judged = (let last = site.2 in cc);
+    }
+
+pub peak_true : ((bytes : List ℕ) → ReadsPeak bytes (peak_of bytes)) → ((c : PeakCertificate) (bytes : List ℕ) → IsPeakTextOf c bytes → IsPeakCertificate c) → AcceptsOnlyTruePeaks
+peak_true reads only book table bytes answer is rows ok accepted =
+    let was = was_judged book table bytes answer ok in
+    let cert = was.certificate in
+    let asked = asked_of_peak cert in
+    let site = was.site in
+    let written : IsPeakTextOf cert bytes = rw was.read at (reads bytes) in
+    let near = peak_near cert (only cert bytes written) in
+    let parts = highest_parts book table cert.station asked site was.found in
+    let found = found_of_site Highest book table cert.station asked site is rows near parts.0 in
+    let right = unrejected book site cert _ answer was.judged accepted in
+    let peak = accepted_highest book asked site cert.peak found parts.1 right in
+    let some = highest_minutes book table cert.station asked site was.found in
+    let answered : peak_judged book site cert Accepted ≡ answer = ap (peak_judged book site cert) (sym right) ∙ was.judged in
+    record {
+      certificate = cert;
+      site = site;
+      written = written;
+      asked = was.found;
+      water = highest_water book site asked cert.peak.at cert.peak.value found.sound.high some peak;
+      value = highest_value book site asked cert.peak.at cert.peak.value peak;
+      listing = subst (AcceptsListing (highest book table cert.station asked Utc)) answered
+          (lists book table cert.station asked site cert.peak.at cert.peak.value was.found peak);
+    }
+
+-- ---- what is certified is accepted
+
+-- what was certified is the text of a certificate
+record WasCertified (book : Book) (table : List Offsets) (name : List ℕ) (asked : Asked) (certificate : Answer) : Type 0 where
+  pub site : Site
+  pub expected : highest_site book table name asked ≡ Ok site
+  pub text : certificate.text ≡ peak_text (peak_certificate_by book site name asked)
+  pub highest : HasHighest (found_at book site) asked
+  pub sound : IsPeakCertificate (peak_certificate_by book site name asked)
+
+site_certified : (book : Book) (table : List Offsets) (name : List ℕ) (asked : Asked) (certificate : Answer) → peak_certified book table name asked ≡ Ok certificate → (site : Site) × (highest_site book table name asked ≡ Ok site) × (certificate.text ≡ peak_text (peak_certificate_by book site name asked))
+unfolding peak_certified
+site_certified book table name asked certificate ok =
+    let site = then_ok (highest_site book table name asked) _ certificate ok in
+    (site.0, site.1, (let last = site.2 in cc))
+
+was_certified : (book : Book) (table : List Offsets) (name : List ℕ) (asked : Asked) (certificate : Answer) → IsBook book → IsTable table → IsAskable asked → peak_certified book table name asked ≡ Ok certificate → WasCertified book table name asked certificate
+was_certified book table name asked certificate is rows askable ok =
+    let was = site_certified book table name asked certificate ok in
+    let site = was.0 in
+    let parts = highest_parts book table name asked site was.1 in
+    let found = found_of_site Highest book table name asked site is rows (near_asked asked askable) parts.0 in
+    let has = has_highest book asked site (found_at book site) found parts.1 in
+    let peak = highest_of book site asked in
+    let right = verdict_alike book asked site (found_at book site) peak found has ∙ highest_of_accepted book site asked has.some in
+    record {
+      site = site;
+      expected = was.1;
+      text = was.2;
+      highest = has;
+      sound = accepted_certificate name asked (found_at book site) peak (site_name Highest book table name asked site is rows parts.0)
+          (record { begin = askable.begin; end = askable.end }) found.gentle has right;
+    }
+
+checked_by : (book : Book) (table : List Offsets) (bytes : List ℕ) (cert : PeakCertificate) (site : Site) → peak_of bytes ≡ Ok cert → highest_site book table cert.station (asked_of_peak cert) ≡ Ok site → highest_verdict book site (asked_of_peak cert) cert.peak ≡ Accepted → peak_checked book table bytes ≡ Ok (peak_judged book site cert Accepted)
+unfolding peak_checked
+checked_by book table bytes cert site read found right = rw (read, found, right) refl
+
+verdict_unmarked : (book : Book) (site : Site) (asked : Asked) (peak : Peak) → highest_verdict book site (record asked { mark = None }) peak ≡ highest_verdict book site asked peak
+unfolding highest_verdict
+verdict_unmarked book site asked peak = refl
+
+pub peak_accepted : ((c : PeakCertificate) → IsPeakCertificate c → peak_of (peak_text c) ≡ Ok c) → AcceptsWhatPeakCertifies
+peak_accepted again book table name asked certificate is rows askable ok =
+    let was = was_certified book table name asked certificate is rows askable ok in
+    let site = was.site in
+    let cert = peak_certificate_by book site name asked in
+    let some = was.highest.some in
+    let found = highest_unmarked book table name asked site was.expected in
+    let right = verdict_unmarked book site asked (highest_of book site asked) ∙ highest_of_accepted book site asked some in (
+      peak_judged book site cert Accepted,
+      ap (peak_checked book table) was.text ∙ checked_by book table (peak_text cert) cert site (again cert was.sound) found right,
+      lists book table name asked site _ _ was.expected (highest_found book site asked some),
+    )
+
+-- ---- what is certified is short
+
+-- its cells have the minutes of the span
+whole_cells : (book : Book) (site : Site) (asked : Asked) (peak : Peak) → highest_verdict book site asked peak ≡ Accepted → all_minutes peak.cells ≡ minute_count asked
+unfolding highest_verdict
+whole_cells book site asked peak right = (verdict-cells (level_curve book site) (first_source site asked) (minute_count asked) peak right).0
+
+pub peak_short : ((c : PeakCertificate) → IsPeakCertificate c → all_minutes c.peak.cells ≤ 5270400 → length (peak_text c) < 10542000) → PeakCertifiesInShort
+peak_short fits book table name asked certificate is rows askable ok =
+    let was = was_certified book table name asked certificate is rows askable ok in
+    let some = was.highest.some in
+    let few = was.highest.few in
+    let whole = whole_cells book was.site asked (highest_of book was.site asked) (highest_of_accepted book was.site asked some) in
+    rw was.text (fits (peak_certificate_by book was.site name asked) was.sound (omega (arith, ints)))

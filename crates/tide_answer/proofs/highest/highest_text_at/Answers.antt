@@ -1,0 +1,12 @@
+use Rattle.std.proofs.Common.{FitsSigned, w64, rules}
+use Rattle.std.proofs.lemmas.Int.{to_z-of_z}
+use Rattle.station_span.proofs.LevelLemmas.{zone_minute}
+use Rattle.tide_answer.proofs.highest.highest_text_at.Goals as goal
+
+pub highest_text-requires-clause-minute : goal.highest_text-requires-clause-minute
+highest_text-requires-clause-minute c =
+    let minute : FitsSigned w64 c.moved_minute-minute.result = search rules in
+    simp to_z-of_z (zone_minute c.args.found.now _ c.moved_minute-minute.ensures.level)
+
+pub returns : goal.returns
+returns c = ?

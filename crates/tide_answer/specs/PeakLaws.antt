@@ -1,0 +1,75 @@
+-- What certificates of a highest water come to: what is certified is accepted and short, and what is accepted is the highest water of its own question (this project).
+use Rattle.std.specs.Prelude.{◌≡◌, ◌<◌, ℕ, ℤ, pos, ◌+ℤ◌, ◌*ℤ◌, ◌≤ℤ◌, ◌<ℤ◌, false, List, length, Ok}
+use Rattle.harmonics_text.specs.declared.book.Book.{Book}
+use Rattle.harmonics_text.specs.Books.{IsBook}
+use Rattle.highest_water.specs.declared.certificate.PeakCertificate.{PeakCertificate}
+use Rattle.highest_water.specs.PeakSpelling.{IsPeakTextOf}
+use Rattle.station_curve.specs.Schureman.{predicted_level}
+use Rattle.station_table.specs.declared.offsets.Offsets.{Offsets}
+use Rattle.station_table.specs.Offsets.{IsTable}
+use Rattle.zone_time.specs.declared.zone.Zone.{Zone}
+use Rattle.zone_time.specs.declared.zone.Zone.TheVariants.{Utc}
+use Rattle.station_span.specs.declared.asked.Asked.{Asked}
+use Rattle.station_span.specs.Levels.{level_at}
+use Rattle.station_span.specs.Peaks.{highest_site}
+use Rattle.station_span.specs.Sites.{Site}
+use Rattle.tide_answer.specs.declared.text.Answer.{Answer}
+use Rattle.tide_answer.specs.Answers.{text_alone, highest, highest_text_at, peak_certified, peak_checked}
+use Rattle.tide_answer.specs.Asking.{asked_of_peak}
+use Rattle.tide_answer.specs.Laws.{IsAskable, AcceptsListing}
+
+-- ---- the highest water
+
+-- a minute of the reference that is moved into the span
+pub record IsMovedInto (site : Site) (asked : Asked) (m : ℤ) : Type 0 where
+  pub from : asked.begin ≤ℤ (m +ℤ site.basis.high.add)
+  pub before : (m +ℤ site.basis.high.add) <ℤ asked.end
+
+-- the first of these minutes that has their greatest level; and nowhere in the span is the station's own level higher than where
+-- it is moved to
+pub record IsHighestWater (book : Book) (site : Site) (asked : Asked) (at : ℤ) : Type 0 where
+  pub inside : IsMovedInto site asked at
+  pub greatest : (m : ℤ) → IsMovedInto site asked m → predicted_level book site.station m ≤ℤ predicted_level book site.station at
+  pub first : (m : ℤ) → IsMovedInto site asked m → m <ℤ at → predicted_level book site.station m <ℤ predicted_level book site.station at
+  pub level : (minute : ℤ) → asked.begin ≤ℤ minute → minute <ℤ asked.end → level_at book site minute ≤ℤ level_at book site (at +ℤ site.basis.high.add)
+
+-- the answer tells the highest water of the station's span
+pub record IsToldHighest (book : Book) (table : List Offsets) (name : List ℕ) (asked : Asked) (zone : Zone) (answer : Answer) : Type 0 where
+  pub site : Site
+  pub at : ℤ
+  pub found : highest_site book table name asked ≡ Ok site
+  pub water : IsHighestWater book site asked at
+  pub told : answer ≡ text_alone (highest_text_at book site name at zone)
+
+abbrev pub TellsTheHighest : Type 0
+TellsTheHighest = (book : Book) (table : List Offsets) (name : List ℕ) (asked : Asked) (zone : Zone) (answer : Answer) →
+    IsTable table → highest book table name asked zone ≡ Ok answer → IsToldHighest book table name asked zone answer
+
+-- ---- its certificates
+
+-- the text of a certificate that was made of a question is accepted, with the highest water that the question is told in universal time
+abbrev pub AcceptsWhatPeakCertifies : Type 0
+AcceptsWhatPeakCertifies = (book : Book) (table : List Offsets) (name : List ℕ) (asked : Asked) (certificate : Answer) →
+    IsBook book → IsTable table → IsAskable asked → peak_certified book table name asked ≡ Ok certificate →
+    (answer : Answer) × (peak_checked book table certificate.text ≡ Ok answer) × AcceptsListing (highest book table name asked Utc) answer
+
+-- the text that was made has fewer than 10,542,000 bytes
+abbrev pub PeakCertifiesInShort : Type 0
+PeakCertifiesInShort = (book : Book) (table : List Offsets) (name : List ℕ) (asked : Asked) (certificate : Answer) →
+    IsBook book → IsTable table → IsAskable asked → peak_certified book table name asked ≡ Ok certificate → length certificate.text < 10542000
+
+-- the bytes are the text of a certificate whose minute has the highest water of its own question, and whose value is a million
+-- times the reference's level there; and the answer tells what that question is told
+pub record IsTruePeak (book : Book) (table : List Offsets) (bytes : List ℕ) (answer : Answer) : Type 0 where
+  pub certificate : PeakCertificate
+  pub site : Site
+  pub written : IsPeakTextOf certificate bytes
+  pub asked : highest_site book table certificate.station (asked_of_peak certificate) ≡ Ok site
+  pub water : IsHighestWater book site (asked_of_peak certificate) certificate.peak.at
+  pub value : certificate.peak.value ≡ pos 1000000 *ℤ predicted_level book site.station certificate.peak.at
+  pub listing : AcceptsListing (highest book table certificate.station (asked_of_peak certificate) Utc) answer
+
+-- whatever is accepted, whoever wrote it, is true
+abbrev pub AcceptsOnlyTruePeaks : Type 0
+AcceptsOnlyTruePeaks = (book : Book) (table : List Offsets) (bytes : List ℕ) (answer : Answer) →
+    IsBook book → IsTable table → peak_checked book table bytes ≡ Ok answer → answer.rejected ≡ false → IsTruePeak book table bytes answer

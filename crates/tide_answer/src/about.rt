@@ -1,0 +1,44 @@
+//! What is known of a station.
+
+ghost use Rattle.std.specs.Prelude.{◌≡◌, IfErr};
+ghost use Rattle.decimal_text.specs.Expected.{Gives};
+ghost use Rattle.tide_answer.specs.Answers.{constituent_count, known};
+ghost use Rattle.tide_fault.specs.Faults.{wants_memory_of_refusal, IsToldRefusal};
+
+use crate::text::{Answer, text_alone};
+use decimal_text::Text;
+use harmonics_text::{SoundBook, Station};
+use listing::about_text;
+use slope_agreement::{agreement, predicted_agreements};
+use station_span::{find_known, station_at};
+use station_table::OffsetTable;
+use std::alloc::Global;
+use tide_fault::Refusal;
+
+/// A station's reference, its unit, how many constituents its levels are made of, and how far the
+/// slope is at most from the levels' steps; or the first refusal: the station, its unit, the limits.
+#[tactic(auto, unfolding(crate::specs::Answers::known))]
+pub fn tell_about(
+    alloc: Global,
+    book: &SoundBook<'_>,
+    table: &OffsetTable,
+    name: &Text,
+) -> Result<Answer, Refusal>
+    ensures exact { Gives wants_memory_of_refusal (known book.now table.now name.now) result }
+    ensures told { IfErr result (IsToldRefusal table.now) }
+{
+    let found = find_known(alloc, book, table, name)?;
+    let station = station_at(book.get(), found.basis.station);
+    let count = constituent_count(station);
+    predicted_agreements();
+    let agreement = agreement(&found.curve);
+    let text = about_text(alloc, name, &station.name, found.units, count, agreement)?;
+    Ok(text_alone(text))
+}
+
+fn constituent_count(station: &Station) -> u64
+    ensures { result ≡ constituent_count station.now }
+{
+    let amplitudes = station.amplitude.as_slice();
+    amplitudes.iter().filter(|amplitude| **amplitude != 0).count() as u64
+}

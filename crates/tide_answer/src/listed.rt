@@ -1,0 +1,67 @@
+//! The events of a station, for whoever lays them out.
+
+ghost use Rattle.std.specs.Prelude.{◌≡◌, ◌≢◌, ◌≤◌, All, IfErr, IfOk};
+ghost use Rattle.decimal_text.specs.Expected.{Gives};
+ghost use Rattle.event_text.specs.Lines.{IsListed};
+ghost use Rattle.harmonics_text.specs.declared.book.Units.{Units};
+ghost use Rattle.harmonics_text.specs.Books.{IsBook};
+ghost use Rattle.question.specs.Asked.{IsAsked};
+ghost use Rattle.tide_answer.specs.Answers.{listed};
+ghost use Rattle.tide_answer.specs.Givens.{IsGiven};
+ghost use Rattle.tide_fault.specs.Faults.{wants_memory_of_refusal, IsToldRefusal};
+
+use crate::asking::{span_named, station_named};
+use crate::given::Given;
+use curve_law::Events;
+use decimal_text::Text;
+use harmonics_text::{Book, SoundBook, Units};
+use question::{Question, SoundQuestion};
+use station_span::list_station;
+use station_table::OffsetTable;
+use std::alloc::Global;
+use tide_fault::Refusal;
+
+/// The events of a station over a span.
+#[derive(Debug, Drop)]
+pub struct Listed {
+    /// The name that was asked for.
+    pub name: Text,
+    /// The unit of the levels.
+    pub units: Units,
+    pub events: Events,
+}
+
+/// The events that a question asks of a book and a table, or the first refusal, as `predict` has it.
+/// Each event has a word in the unit and a minute that any zone's clock shows, and the name has no
+/// control characters.
+///
+/// # Errors
+/// Each [`Refusal`] exactly where `specs/Answers.antt` has it; [`Refusal::NoMemory`] says nothing
+/// of the question.
+pub fn station_events(
+    alloc: Global,
+    book: &Book,
+    table: &OffsetTable,
+    question: &Question,
+    given: &Given,
+) -> Result<Listed, Refusal>
+    requires book { IsBook book.now }
+    requires asked { IsAsked question.now }
+    requires given { IsGiven given.now }
+    ensures exact { Gives wants_memory_of_refusal (listed book.now table.now question.now) result }
+    ensures told { IfErr result (IsToldRefusal table.now) }
+    ensures lines { IfOk result (λ found. All (IsListed found.units) found.events) }
+    ensures levels { IfOk result (λ found. found.units ≢ Units.KnotsSquared) }
+    ensures printed { IfOk result (λ found. All (λ b. (32 ≤ b) × (b ≢ 127)) found.name) }
+{
+    table.known();
+    let question = SoundQuestion::new(question);
+    let name = station_named(&question)?;
+    let asked = span_named(&question)?;
+    let found = list_station(alloc, &SoundBook::new(book), table, name, &asked)?;
+    Ok(Listed {
+        name: name.copy()?,
+        units: found.units,
+        events: found.events,
+    })
+}

@@ -1,0 +1,94 @@
+//! The check of a certificate of a highest water.
+
+ghost use Rattle.std.specs.Prelude.{◌≡◌, ◌<◌, ◌≤◌, ◌^◌, length, [], IfErr, IfOk};
+ghost use Rattle.decimal_text.specs.Expected.{Gives};
+ghost use Rattle.decimal_text.specs.declared.limits.TheConstants.{MOST_BYTES};
+ghost use Rattle.highest_water.specs.PeakReadings.{peak_of};
+ghost use Rattle.highest_water.specs.PeakTexts.{IsPeakCertificate};
+ghost use Rattle.tide_answer.specs.Answers.{peak_checked, peak_from};
+ghost use Rattle.tide_answer.specs.Workings.Peaks.{peak_judged_in, peak_accepted};
+ghost use Rattle.tide_fault.specs.Faults.{wants_memory_of_refusal, IsToldRefusal};
+ghost use Rattle.station_span.specs.Workings.Peaks.{HasHighest, IsSourceIn};
+
+use crate::asking::asked_of_peak;
+use crate::highest::highest_text_at;
+use crate::text::{Answer, accepted, rejected};
+use decimal_text::Bytes;
+use harmonics_text::SoundBook;
+use highest_water::{
+    CertFault, PeakCertificate, PeakVerdict, peak_certificates_have_one_text, read_peak,
+    verdict_line,
+};
+use station_span::{Asked, Found, find_level, judge_highest};
+use station_table::OffsetTable;
+use std::alloc::{AllocError, Global};
+use tide_fault::Refusal;
+use zone_time::Zone;
+
+/// Whether a certificate of a highest water is right: `Accepted` and the highest water of its own
+/// question in universal time, or the line of the first thing that is wrong. Or the first refusal: the
+/// bytes, and then those of its question, as for a highest water.
+#[tactic(auto, unfolding(crate::specs::Answers::peak_checked))]
+pub fn check_peak_text(
+    alloc: Global,
+    book: &SoundBook<'_>,
+    table: &OffsetTable,
+    bytes: &Bytes,
+) -> Result<Answer, Refusal>
+    requires few { length bytes.now ≤ MOST_BYTES }
+    ensures exact { Gives wants_memory_of_refusal (peak_checked book.now table.now bytes.now) result }
+    ensures told { IfErr result (IsToldRefusal table.now) }
+{
+    let cert = peak_in(alloc, bytes.as_slice())?;
+    judge_peak(alloc, book, table, &cert)
+}
+
+fn peak_in(alloc: Global, bytes: &[u8]) -> Result<PeakCertificate, Refusal>
+    requires { length bytes.now ≤ MOST_BYTES }
+    ensures exact { Gives wants_memory_of_refusal (peak_from (peak_of bytes.now)) result }
+    ensures sound { IfOk result IsPeakCertificate }
+    ensures few { IfOk result (λ cert. length cert.peak.cells < 2 ^ 32) }
+    ensures told { IfErr result (IsToldRefusal []) }
+{
+    peak_certificates_have_one_text();
+    match read_peak(alloc, bytes) {
+        Ok(cert) => Ok(cert),
+        Err(CertFault::NoMemory) => Err(Refusal::NoMemory),
+        Err(CertFault::NotACertificate { line }) => Err(Refusal::NotACertificate { line }),
+    }
+}
+
+#[tactic(auto, unfolding(crate::specs::Workings::Peaks::peak_judged_in))]
+fn judge_peak(
+    alloc: Global,
+    book: &SoundBook<'_>,
+    table: &OffsetTable,
+    cert: &PeakCertificate,
+) -> Result<Answer, Refusal>
+    requires cert { IsPeakCertificate cert.now }
+    requires few { length cert.now.peak.cells < 2 ^ 32 }
+    ensures exact { Gives wants_memory_of_refusal (peak_judged_in book.now table.now cert.now) result }
+    ensures told { IfErr result (IsToldRefusal table.now) }
+{
+    let asked = asked_of_peak(cert);
+    let found = find_level(alloc, book, table, &cert.station, &asked)?;
+    match judge_highest(&found, &asked, &cert.peak) {
+        PeakVerdict::Accepted => Ok(accept_peak(alloc, &found, &asked, cert)?),
+        verdict => Ok(rejected(verdict_line(alloc, verdict)?)),
+    }
+}
+
+fn accept_peak(
+    alloc: Global,
+    found: &Found,
+    asked: &Asked,
+    cert: &PeakCertificate,
+) -> Result<Answer, AllocError>
+    requires highest { HasHighest found.now asked.now }
+    requires inside { IsSourceIn found.now asked.now cert.now.peak.at }
+    ensures { IfOk result (λ answer. answer ≡ peak_accepted found.now cert.now) }
+{
+    let zone = Zone::Utc;
+    let told = highest_text_at(alloc, found, asked, &cert.station, cert.peak.at, &zone.clock())?;
+    accepted(alloc, &told)
+}

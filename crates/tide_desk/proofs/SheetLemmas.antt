@@ -1,0 +1,19 @@
+-- The place of a wanted word that no sheet has.
+use Rattle.std.proofs.Common.{◌≡◌, ℕ, ◌<◌, Bool, true, false, cond, List, length, nat_lt, Some, None, refl, sym, subst}
+use Rattle.std.specs.Prelude.{not}
+use Rattle.std.specs.List.{position_or_len}
+use Rattle.std.proofs.lemmas.Bool.{ltb-true}
+use Rattle.report_sheets.specs.Pages.{has_sheet, missing_of}
+use Rattle.report_sheets.specs.Sheets.{SheetMeaning}
+
+some_place : (within : Bool) (other place : ℕ) → cond within (Some other) None ≡ Some place → (within ≡ true) × (other ≡ place)
+some_place true other place is = (refl, cc)
+some_place false other place is = absurd cc
+
+-- it is one of the wanted words
+pub missing_within : (sheets : List SheetMeaning) (wanted : List (List ℕ)) (place : ℕ) → missing_of sheets wanted ≡ Some place → place < length wanted
+unfolding missing_of
+missing_within sheets wanted place is =
+    let first = position_or_len (λ word. not (has_sheet sheets word)) wanted in
+    let found = some_place (nat_lt first (length wanted)) first place is in
+    subst (λ (n : ℕ). n < length wanted) found.1 (ltb-true first (length wanted) found.0)

@@ -1,0 +1,66 @@
+-- What certificates of a highest water come to over files and words: what `peak` answers `peakcheck` accepts, and what `peakcheck` accepts is true (this project).
+use Rattle.std.specs.Prelude.{◌≡◌, ℕ, ℤ, false, List, Some, None, IsSomeAnd, Ok}
+use Rattle.harmonics_text.specs.declared.book.Book.{Book}
+use Rattle.highest_water.specs.declared.certificate.PeakCertificate.{PeakCertificate}
+use Rattle.question.specs.declared.command.Command.TheVariants.{Highest, Peak, PeakCheck}
+use Rattle.question.specs.declared.question.Question.{Question}
+use Rattle.question.specs.declared.question.ZoneWord.TheVariants.{Utc}
+use Rattle.report_sheets.specs.Sheets.{SheetMeaning}
+use Rattle.station_table.specs.declared.offsets.Offsets.{Offsets}
+use Rattle.tide_answer.specs.declared.text.Answer.{Answer}
+use Rattle.tide_answer.specs.PeakLaws.{IsTruePeak}
+use Rattle.named_files.specs.Readings.{book_named, table_named}
+use Rattle.tide_edge.specs.FileStates.{Folder}
+use Rattle.tide_desk.specs.Answers.{answer_of}
+use Rattle.tide_desk.specs.Laws.{Asks, NameSameFiles, Subject, subject_of, Holds, HoldsCertificate, AcceptsWith}
+
+-- ---- what is asked
+
+-- the station and the span of a certificate
+abbrev pub subject_of_peak : PeakCertificate → Subject
+subject_of_peak certificate = record {
+  station = Some certificate.station;
+  begin = Some certificate.begin;
+  end = Some certificate.end;
+  mark = None;
+}
+
+-- asks `highest` for a subject, of the files of a check and in universal time
+pub record AsksHighest (check : Question) (subject : Subject) (question : Question) : Type 0 where
+  pub command : question.command ≡ Highest
+  pub files : NameSameFiles question check
+  pub about : subject_of question ≡ subject
+  pub zone : question.zone ≡ Utc
+
+-- ---- what is answered
+
+-- with what `highest` answers
+abbrev pub AcceptsWithHighest : List SheetMeaning → Folder → Question → Subject → Answer → Type 0
+AcceptsWithHighest sheets folder check subject = AcceptsWith sheets folder (AsksHighest check subject)
+
+-- what `peak` answers is accepted, with the highest water of its question, by each later check, in whatever folder, that has the
+-- same book and table and the answer's text as its certificate
+abbrev pub AcceptsWhatPeakAnswers : Type 0
+AcceptsWhatPeakAnswers = (sheets : List SheetMeaning) (before after : Folder) (minute later : ℤ) (words more : List (List ℕ)) (peak check : Question) (certificate : Answer) →
+    Asks sheets words Peak peak → answer_of sheets before minute words ≡ Ok certificate →
+    Asks sheets more PeakCheck check → HoldsCertificate before after peak check certificate.text →
+    (answer : Answer) × (answer_of sheets after later more ≡ Ok answer)
+    × AcceptsWithHighest sheets after check (subject_of peak) answer
+
+-- over the file and the table that the check names, the text under its certificate's name is a true certificate, and the answer
+-- tells the highest water of that certificate's own question
+pub record IsTruePeakAnswer (sheets : List SheetMeaning) (folder : Folder) (check : Question) (answer : Answer) : Type 0 where
+  pub book : Book
+  pub table : List Offsets
+  pub text : List ℕ
+  pub file : IsSomeAnd check.file (λ name. book_named folder name ≡ Ok book)
+  pub offsets : table_named folder check.offsets ≡ Ok table
+  pub held : Holds folder check.certificate text
+  pub is_true : IsTruePeak book table text answer
+  pub told : AcceptsWithHighest sheets folder check (subject_of_peak is_true.certificate) answer
+
+-- whatever `peakcheck` accepts, whoever wrote it, is true
+abbrev pub AcceptsOnlyTruePeaks : Type 0
+AcceptsOnlyTruePeaks = (sheets : List SheetMeaning) (folder : Folder) (minute : ℤ) (words : List (List ℕ)) (check : Question) (answer : Answer) →
+    Asks sheets words PeakCheck check → answer_of sheets folder minute words ≡ Ok answer → answer.rejected ≡ false →
+    IsTruePeakAnswer sheets folder check answer

@@ -1,0 +1,75 @@
+//! The report of a station's events.
+
+ghost use Rattle.std.specs.Prelude.{◌≡◌, ◌≢◌, ◌≤◌, [], All, IfErr, IfOk, map, unwrap_or};
+ghost use Rattle.decimal_text.specs.Expected.{Gives};
+ghost use Rattle.event_text.specs.Lines.{IsListed};
+ghost use Rattle.harmonics_text.specs.declared.book.Units.{Units};
+ghost use Rattle.report_sheets.specs.Pages.{pages_of};
+ghost use Rattle.tide_answer.specs.Givens.{IsGiven};
+ghost use Rattle.tide_desk.specs.Answers.{head_of, reported};
+ghost use Rattle.tide_fault.specs.Faults.{wants_memory_of_refusal, IsToldRefusal};
+
+use decimal_text::{Bytes, Words};
+use harmonics_text::SoundBook;
+use question::SoundQuestion;
+use report_sheets::{Head, Sheet, fill};
+use station_table::OffsetTable;
+use std::alloc::{AllocError, Global};
+use tide_answer::{Answer, Given, Listed, station_events};
+use tide_fault::Refusal;
+
+/// The pages of the sheets that a question wants, of the events that it asks of a book and a table,
+/// or the first refusal, as `predict` has it. They are headed with the present minute.
+#[tactic(auto, unfolding(crate::specs::Answers::reported))]
+pub fn report(
+    alloc: Global,
+    book: &SoundBook<'_>,
+    table: &OffsetTable,
+    question: &SoundQuestion<'_>,
+    given: &Given,
+    sheets: Vec<Box<dyn Sheet>>,
+) -> Result<Answer, Refusal>
+    requires given { IsGiven given.now }
+    ensures exact { Gives wants_memory_of_refusal (reported (map meaning sheets.items) book.now table.now question.now given.entry.now.now) result }
+    ensures told { IfErr result (IsToldRefusal table.now) }
+{
+    let book = book.get();
+    let question = question.get();
+    let listed = station_events(alloc, book, table, question, given)?;
+    let text = pages(alloc, listed, given.now, &question.sheets, sheets)?;
+    Ok(Answer {
+        text,
+        rejected: false,
+        cells: 0,
+    })
+}
+
+// The pages of the wanted sheets: none, where no sheet is named.
+fn pages(
+    alloc: Global,
+    listed: Listed,
+    now: i64,
+    wanted: &Option<Words>,
+    sheets: Vec<Box<dyn Sheet>>,
+) -> Result<Bytes, AllocError>
+    requires name { All (λ b. (32 ≤ b) × (b ≢ 127)) listed.name }
+    requires units { listed.units ≢ Units.KnotsSquared }
+    requires events { All (IsListed listed.units) listed.events }
+    ensures { IfOk result (λ text. text ≡ pages_of (map meaning sheets.items) (unwrap_or wanted.now []) (head_of listed now) listed.events) }
+{
+    let head = Head {
+        name: listed.name,
+        units: listed.units,
+        now,
+    };
+    match wanted {
+        Some(wanted) => fill(alloc, sheets, wanted, &head, &listed.events),
+        None => fill(
+            alloc,
+            sheets,
+            &Words::from_vec(Vec::new(alloc)),
+            &head,
+            &listed.events,
+        ),
+    }
+}
