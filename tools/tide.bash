@@ -9,6 +9,11 @@ _tide_keys() {
     calendar) echo "file station begin end mark offsets zone" ;;
     clock) echo "file station offsets zone" ;;
     stations) echo "file offsets" ;;
+    report) echo "file station begin end sheets mark offsets" ;;
+    highest) echo "file station begin end offsets zone" ;;
+    peak) echo "file station begin end offsets" ;;
+    peakcheck) echo "file certificate offsets" ;;
+    about) echo "file station offsets" ;;
     serve) echo "file offsets port" ;;
     sample | trial) echo "seed" ;;
   esac
@@ -16,10 +21,16 @@ _tide_keys() {
 
 # The values that a key may have, as far as they can be told, which begin with the text $2.
 _tide_values() {
-  local hour name
+  local hour name word
   case "$1" in
     file | offsets | certificate) compgen -f -- "$2" ;;
     layout) compgen -W "plain csv" -- "$2" ;;
+    sheets)
+      name="${2%"${2##*,}"}"
+      for word in tally range first ical; do
+        [[ ",$name" == *",$word,"* ]] || compgen -W "$name$word" -- "$2"
+      done
+      ;;
     zone)
       case "$2" in
         @?*) compgen -f -- "${2#@}" | while read -r name; do if [[ -d "$name" ]]; then echo "@$name/"; else echo "@$name"; fi; done ;;
@@ -35,7 +46,7 @@ _tide() {
   word="${line##*[[:space:]]}"
   COMPREPLY=()
   if [[ "$COMP_CWORD" -eq 1 ]]; then
-    mapfile -t COMPREPLY < <(compgen -W "predict certify check heights calendar clock stations serve sample trial --help --version" -- "$word")
+    mapfile -t COMPREPLY < <(compgen -W "predict certify check heights calendar clock stations report highest peak peakcheck about serve sample trial --help --version" -- "$word")
   elif [[ "$word" == *=* ]]; then
     key="${word%%=*}" value="${word#*=}"
     [[ " $(_tide_keys "${COMP_WORDS[1]}") " == *" $key "* ]] || return

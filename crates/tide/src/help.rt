@@ -19,6 +19,11 @@ Usage: tide COMMAND file=F [KEY=VALUE..]
   calendar  the events day by day
   clock     the level now, and the events of the day to come
   stations  the stations of a file
+  report    sheets of one list: a tally, the range, the first lines, a calendar
+  highest   the highest water of a span
+  peak      a certificate of it
+  peakcheck whether such a certificate holds, whoever wrote it
+  about     what is known of a station
   sample    a file of made-up constants by a seed; it needs no file
   trial     the counts of a trial of the program on such a file
   serve     a web server of these answers, at 127.0.0.1; it ends by a signal
@@ -31,6 +36,7 @@ Usage: tide COMMAND file=F [KEY=VALUE..]
   mark         a level whose passing is listed, in the station's unit
   zone         UTC, an offset as -05:00, or @F for a time zone's file
   layout       plain or csv
+  sheets       those of a report, as tally,range,first,ical
   step         minutes between heights, 60 if not given
   certificate  the file to check
   seed         a whole number
@@ -38,7 +44,7 @@ Usage: tide COMMAND file=F [KEY=VALUE..]
 
 The pairs may stand in any order. An event is listed at the last minute before it,
 with the level at that minute. Of XTide's 3,387 subordinate stations 37 have one
-offset for highs and lows: they alone take mark, heights and clock.
+offset for highs and lows: they alone take mark, heights, clock, highest and peak.
 
 Example:
   ./tide predict file=examples/harbours.txt \\
