@@ -13,15 +13,18 @@ use crate::texts::words_of;
 use decimal_text::{Bytes, Text};
 use harmonics_text::{Book, BookFault, read_book};
 use question::{AskFault, Command, Question, SoundQuestion, pairs_of_words, read_question};
-use rows::{ANSWERS, ASK_FAULTS, CUT_SHORT, HALF_SLACK, REFUSALS, STREAMS, VERDICTS};
+use rows::{
+    ANSWERS, ASK_FAULTS, CUT_SHORT, HALF_SLACK, PEAK_VERDICTS, REFUSALS, STREAMS, VERDICTS,
+};
 use station_span::{worked_levels, worked_spans};
 use station_table::{OffsetFault, OffsetTable, read_offsets};
 use std::alloc::{AllocError, Global};
 use std::process::Abort;
 use std::test::Fail;
 use tide_answer::{
-    Fault, Given, Slot, accepted_is_true, answer, answer_alone, answer_into, certified_is_accepted,
-    fault_line, fault_status, prepare, worked_rows,
+    Fault, Given, Slot, accepted_is_true, accepted_peak_is_true, answer, answer_alone, answer_into,
+    certified_is_accepted, fault_line, fault_status, highest_is_told, peak_certified_is_accepted,
+    peak_certified_is_short, prepare, station_events, worked_rows,
 };
 use tide_edge::MemorySink;
 use tide_fault::worked_lines;
@@ -92,6 +95,22 @@ fn questions_have_their_answers(rt: HostRuntime) -> Result<(), Fail> {
     Ok(())
 }
 
+#[test]
+fn a_report_has_the_events_of_a_question(rt: HostRuntime) -> Result<(), Fail> {
+    let alloc = rt.alloc();
+    let book = pier(alloc)?;
+    let table = table(alloc)?;
+    let line = "report|file=f|station=Outer|begin=2000-01-10T00:00Z|end=2000-01-10T12:00Z|sheets=a";
+    let question = asked(alloc, line)?;
+    let given = given(alloc, "")?;
+    let Ok(listed) = station_events(alloc, &book, &table, &question, &given) else {
+        return Err(Fail::from(AllocError));
+    };
+    assert_eq!(rt; listed.name.as_str(), "Outer");
+    assert_eq!(rt; listed.events.as_slice().len(), 2);
+    Ok(())
+}
+
 // What a sink took of an answer that is written as it is found, and how much where a write failed.
 fn streamed(
     alloc: Global,
@@ -139,9 +158,14 @@ fn answers_are_written_as_they_are_found(rt: HostRuntime) -> Result<(), Fail> {
 
 #[test]
 fn certificates_are_judged(rt: HostRuntime) -> Result<(), Fail> {
-    for &(certificate, expected) in VERDICTS {
-        let text = told(rt.alloc(), "check|file=f|certificate=c", certificate)?;
-        assert_eq!(rt; text.as_slice(), expected.as_bytes());
+    for (line, verdicts) in [
+        ("check|file=f|certificate=c", VERDICTS),
+        ("peakcheck|file=f|certificate=c", PEAK_VERDICTS),
+    ] {
+        for &(certificate, expected) in verdicts {
+            let text = told(rt.alloc(), line, certificate)?;
+            assert_eq!(rt; text.as_slice(), expected.as_bytes());
+        }
     }
     Ok(())
 }
@@ -215,4 +239,8 @@ fn laws_and_rows_stand(_rt: HostRuntime) {
     worked_levels();
     certified_is_accepted();
     accepted_is_true();
+    highest_is_told();
+    peak_certified_is_accepted();
+    peak_certified_is_short();
+    accepted_peak_is_true();
 }

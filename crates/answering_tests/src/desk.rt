@@ -2,11 +2,13 @@
 
 mod failing;
 mod files;
+mod reports;
 mod rows;
 
 use crate::texts::{DAY, PIER, words_of};
 use decimal_text::{Bytes, Text};
 use files::*;
+use report_sheets::Sheet;
 use rows::*;
 use std::alloc::{AllocError, Global};
 use std::process::Abort;
@@ -76,7 +78,7 @@ fn run_over(
     run_over_all(alloc, held, line, most, fails)
 }
 
-// Runs over files, with a clock at 2000-01-10T03:00Z.
+// Runs over files without any sheet.
 fn run_over_all(
     alloc: Global,
     held: Vec<NamedFile>,
@@ -84,19 +86,25 @@ fn run_over_all(
     most: u64,
     fails: Fails,
 ) -> Result<Outcome, AllocError> {
+    run_with(alloc, held, line, most, fails, Vec::new(alloc))
+}
+
+// Runs over files, with a clock at 2000-01-10T03:00Z and these sheets.
+fn run_with(
+    alloc: Global,
+    held: Vec<NamedFile>,
+    line: &str,
+    most: u64,
+    fails: Fails,
+    sheets: Vec<Box<dyn Sheet>>,
+) -> Result<Outcome, AllocError> {
     let words = words_of(alloc, line)?;
     let mut files = MemoryFiles::new(held, only(alloc, fails.files)?);
     let mut out = MemorySink::new(alloc, most.max(1), 1_000_000, only(alloc, fails.out)?)?;
     let mut err = MemorySink::new(alloc, most.max(1), 4096, only(alloc, fails.err)?)?;
     let mut clock = FixedClock::new(15_791_220, only(alloc, fails.clock)?);
     let status = run(
-        alloc,
-        &words,
-        &mut files,
-        &mut out,
-        &mut err,
-        &mut clock,
-        Vec::new(alloc),
+        alloc, &words, &mut files, &mut out, &mut err, &mut clock, sheets,
     );
     Ok(Outcome {
         status,

@@ -11,4 +11,6 @@ mod desk;
 #[cfg(test)]
 mod server;
 #[cfg(test)]
+mod stamp;
+#[cfg(test)]
 mod texts;

@@ -100,6 +100,42 @@ pub const ANSWERS: &[(&str, &str)] = &[
         "certify|file=f|station=Dock|begin=1999-01-01T00:00Z|end=1999-01-01T00:10Z",
         "refused: out of years: file has 1999-01-01T00:00Z to 2002-01-01T00:00Z\n",
     ),
+    (
+        "highest|file=f|station=Pier|begin=2000-01-10T00:00Z|end=2000-01-11T00:00Z",
+        "Pier\nHighest 2000-01-10 00:00 UTC       1.00 feet\n",
+    ),
+    (
+        "highest|file=f|station=Outer|begin=2000-01-10T00:00Z|end=2000-01-11T00:00Z",
+        "Outer\nHighest 2000-01-10 00:30 UTC       2.50 feet\n",
+    ),
+    (
+        "highest|file=f|station=Flow|begin=2000-01-10T03:00Z|end=2000-01-10T09:00Z",
+        "Flow\nHighest 2000-01-10 03:00 UTC       0.00 knots\n",
+    ),
+    (
+        "highest|file=f|station=Dock|begin=2000-01-10T00:00Z|end=2000-01-11T00:00Z",
+        "refused: level not here\n",
+    ),
+    (
+        "highest|file=f|station=Flow|begin=2000-01-10T03:00Z|end=2000-01-10T03:00Z",
+        "refused: empty span\n",
+    ),
+    (
+        "highest|file=f|station=Flow|begin=2000-01-10T04:00Z|end=2000-01-10T03:00Z",
+        "refused: backward span\n",
+    ),
+    (
+        "peak|file=f|station=Outer|begin=2000-01-10T00:29Z|end=2000-01-10T00:31Z",
+        "peak certificate 1\nstation Outer\nbegin 2000-01-10T00:29Z\nend 2000-01-10T00:31Z\nat 2000-01-10T00:00Z\nvalue 4147200000000000000000000000000\nm\nm\ndone\n",
+    ),
+    (
+        "about|file=f|station=Dock",
+        "Dock\nreference Pier\nunits feet\nconstituents 1\nagreement 10982486704628157235200000000000\n",
+    ),
+    (
+        "about|file=f|station=Lost",
+        "refused: no reference Nowhere\n",
+    ),
 ];
 
 // A certificate, and what is said of it.
@@ -152,6 +188,55 @@ pub const VERDICTS: &[(&str, &str)] = &[
         "tide certificate 2\nstation Dock\nbegin 2000-01-10T00:00Z\nend 2000-01-10T00:40Z\nmark 0\ntrack turn\ntrack mark\ndone\n",
         "refused: mark not here\n",
     ),
+];
+
+// Certificates of highest waters, and what a check of them tells.
+pub const PEAK_VERDICTS: &[(&str, &str)] = &[
+    (
+        "peak certificate 1\nstation Pier\nbegin 2000-01-10T00:00Z\nend 2000-01-10T00:24Z\nat 2000-01-10T00:00Z\nvalue 4147200000000000000000000000000\nm\nm\nm\nm\nm\nm\nm\nm\nm\nm\nm\nm\nm\nm\nm\nm\nu 2\nu 3\nu 3\ndone\n",
+        "Accepted\nPier\nHighest 2000-01-10 00:00 UTC       1.00 feet\n",
+    ),
+    (
+        "peak certificate 1\nstation Pier\nbegin 2000-01-10T00:00Z\nend 2000-01-10T00:04Z\nat 2000-01-10T00:00Z\nvalue 4147200000000000000000000000000\nm\nm\nm\nm\ndone\n",
+        "Accepted\nPier\nHighest 2000-01-10 00:00 UTC       1.00 feet\n",
+    ),
+    (
+        "peak certificate 1\nstation Outer\nbegin 2000-01-10T00:30Z\nend 2000-01-10T00:34Z\nat 2000-01-10T00:00Z\nvalue 4147200000000000000000000000000\nm\nm\nm\nm\ndone\n",
+        "Accepted\nOuter\nHighest 2000-01-10 00:30 UTC       2.50 feet\n",
+    ),
+    (
+        "peak certificate 1\nstation Pier\nbegin 2000-01-10T00:00Z\nend 2000-01-10T00:04Z\nat 2000-01-10T00:00Z\nvalue 4147200000000000000000000000000\nu 1024\nu 1024\ndone\n",
+        "Rejected: cells cover 2048 of 4 minutes\n",
+    ),
+    (
+        "peak certificate 1\nstation Pier\nbegin 2000-01-10T00:00Z\nend 2000-01-10T00:04Z\nat 2000-01-10T00:04Z\nvalue 4147200000000000000000000000000\nm\nm\nm\nm\ndone\n",
+        "Rejected: at outside the span\n",
+    ),
+    (
+        "peak certificate 1\nstation Pier\nbegin 2000-01-10T00:00Z\nend 2000-01-10T00:04Z\nat 2000-01-10T00:00Z\nvalue 4147200000000000000000000000000\nm\nm\nu 2\ndone\n",
+        "Rejected: cell 3 is not under\n",
+    ),
+    (
+        "peak certificate 1\nstation Pier\nbegin 2000-01-10T00:00Z\nend 2000-01-10T00:04Z\nat 2000-01-10T00:01Z\nvalue 4147042074624000000000000000000\nm\nm\nm\nm\ndone\n",
+        "Rejected: cell 1 is above\n",
+    ),
+    (
+        "peak certificate 1\nstation Pier\nbegin 2000-01-10T00:00Z\nend 2000-01-10T00:04Z\nat 2000-01-10T00:00Z\nvalue -9999999999999999999999999999999999999\nm\nm\nm\nm\ndone\n",
+        "Rejected: value -9999999999999999999999999999999999999, computed 4147200000000000000000000000000\n",
+    ),
+    (
+        "peak certificate 1\nstation Pier\nbegin 2000-01-10T00:00Z\nend 2000-01-10T00:04Z\nat 2000-01-10T00:00Z\nvalue 10000000000000000000000000000000000000\nm\nm\nm\nm\ndone\n",
+        "certificate: line 6\n",
+    ),
+    (
+        "peak certificate 1\nstation Pier\nbegin 2000-01-10T00:00Z\nend 2000-01-10T00:00Z\nat 2000-01-10T00:00Z\nvalue 4147200000000000000000000000000\nm\nm\nm\nm\ndone\n",
+        "refused: empty span\n",
+    ),
+    (
+        "peak certificate 1\nstation Dock\nbegin 2000-01-10T00:00Z\nend 2000-01-10T00:04Z\nat 2000-01-10T00:00Z\nvalue 4147200000000000000000000000000\nm\nm\nm\nm\ndone\n",
+        "refused: level not here\n",
+    ),
+    ("tide certificate 2\n", "certificate: line 1\n"),
 ];
 
 // What is wrong with words, its status and its line.
