@@ -57,12 +57,12 @@ wanted_by question = unwrap_or question.sheets []
 abbrev pub word_at : List (List ℕ) → ℕ → List ℕ
 word_at wanted place = unwrap_or (slice_get wanted place) []
 
--- each sheet that is wanted is one of those that are there
+-- each wanted word is one of a sheet, or the first that is of none is told
 abbrev pub known_in : List (List ℕ) → Option ℕ → Result (Unit {0}) Fault
 known_in wanted None = Ok tt
 known_in wanted (Some place) = Err (NoSheet (word_at wanted place))
 
--- what the words ask of these sheets
+-- what the words ask, where a report can have these sheets
 unfoldable pub asked_of : List SheetMeaning → List (List ℕ) → Result Question Fault
 asked_of sheets words = do
   question ← ask_from (question_in (pairs_of words))

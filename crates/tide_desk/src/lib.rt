@@ -1,4 +1,4 @@
-//! The top call: words, files and a clock in, text and a status out.
+//! The top call: words, files, a clock and the sheets of a report in, text and a status out.
 //!
 //! [`run`] does all that the program does but serving. It reads what the words ask for, reads the files
 //! that they name, and writes either the whole answer to `out` or one line to `err`. It reaches the

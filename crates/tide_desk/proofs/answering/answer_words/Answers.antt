@@ -24,8 +24,9 @@ returns-in_err-question-clause-reads g c =
 
 pub returns-in-Some-clause-own : goal.returns-in-Some-clause-own
 returns-in-Some-clause-own g c =
-    λ t k. meets_named _ _ _ _ c.args.words.now c.in_ok-question.question c.in-Some.name c.answer_over.result c.in_ok-question.ensures.exact c.in-Some.is
-    ((rw c.new-sound.ensures at c.answer_over.ensures.own) t (rw c.in_ok-question.ensures.exact at k))
+    λ t k. rw c.in_ok-question.ensures.exact
+    (meets_named _ _ _ _ c.args.words.now c.in_ok-question.question c.in-Some.name c.answer_over.result c.in_ok-question.ensures.exact c.in-Some.is
+    ((rw c.new-sound.ensures at c.answer_over.ensures.own) t (rw c.in_ok-question.ensures.exact at k)))
 
 pub returns-in-Some-clause-some : goal.returns-in-Some-clause-some
 returns-in-Some-clause-some g c =
@@ -40,8 +41,8 @@ returns-in-Some-clause-reads g c =
     went_by_words (reading_failed c.answer_over.result) _ c.in_ok-question.question c.in-Some.name (sources (g.F.Files.state c.args.files.now) (g.K.Clock.state c.args.clock.now)) (sources (g.F.Files.state c.answer_over.new.files) (g.K.Clock.state c.answer_over.new.clock))
     c.in_ok-question.ensures.exact c.in-Some.is (rw c.new-sound.ensures at c.answer_over.ensures.reads)
 
-pub returns-clause-reads : goal.returns-clause-reads
-returns-clause-reads g c =
+pub returns-in-None-clause-reads : goal.returns-in-None-clause-reads
+returns-in-None-clause-reads g c =
     rw c.answer_without.ensures.read
     (went_nowhere _ _ (g.F.Files.state c.args.files.now) (g.K.Clock.state c.args.clock.now))
 
@@ -57,13 +58,13 @@ returns-in-Some-clause-asked_last g c =
     λ t unread. (rw c.new-sound.ensures at c.answer_over.ensures.asked_last) t
     (λ read. unread (has_files (λ slot. (g.F.Files.state c.args.files.now).store.folder) _ c.in_ok-question.question c.in-Some.name c.in_ok-question.ensures.exact c.in-Some.is read))
 
-pub returns-clause-own : goal.returns-clause-own
-returns-clause-own g c =
+pub returns-in-None-clause-own : goal.returns-in-None-clause-own
+returns-in-None-clause-own g c =
     λ t k. meets_alone _ _ _ _ c.args.words.now c.in_ok-question.question c.answer_without.result c.in_ok-question.ensures.exact c.in-None.is
     (rw c.new-sound.ensures at c.answer_without.ensures.exact)
 
-pub returns-clause-some : goal.returns-clause-some
-returns-clause-some g c = (
+pub returns-in-None-clause-some : goal.returns-in-None-clause-some
+returns-in-None-clause-some g c = (
   λ slot name. None,
   pos 0,
   meets_alone (Unit {0}) _ _ _ c.args.words.now c.in_ok-question.question c.answer_without.result c.in_ok-question.ensures.exact c.in-None.is
