@@ -23,8 +23,8 @@ use tide_fault::Status;
 use tide_server::serve;
 
 /// Writes the page that the words ask for, or serves where they ask for that, or else answers them, over
-/// the objects that it is handed and no others. The sheets are those of a report. A page takes neither files nor door nor clock; an answer
-/// leaves the door as it is, and serving leaves `out`.
+/// the objects that it is handed and no others. The sheets are those of a report. A page takes neither
+/// files nor door nor clock; an answer leaves the door as it is, and serving leaves `out`.
 pub fn respond<F: Files, D: Door, O: Sink, E: Sink, K: Clock>(
     alloc: Global,
     words: &Words,
