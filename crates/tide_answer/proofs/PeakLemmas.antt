@@ -1,5 +1,5 @@
 -- What the answers of a highest water come to: its text, the certificate that is written, and one that is read.
-use Rattle.std.proofs.Common.{◌≡◌, ◌≢◌, ℕ, suc, ◌+◌, ◌<◌, ◌≤◌, ◌^◌, ℤ, pos, ◌+ℤ◌, ◌-ℤ◌, ◌≤ℤ◌, ◌<ℤ◌, unsigned_abs, Bool, true, false, if◌then◌else◌, List, [], ◌∷◌, ◌++◌, map, length, length-append, Ok, All, refl, sym, ap, ◌∙◌, arith}
+use Rattle.std.proofs.Common.{◌≡◌, ℕ, suc, ◌+◌, ◌<◌, ◌≤◌, ◌^◌, ℤ, pos, ◌+ℤ◌, ◌-ℤ◌, ◌≤ℤ◌, ◌<ℤ◌, unsigned_abs, Bool, true, false, if◌then◌else◌, List, [], ◌∷◌, map, length, length-append, Ok, All, refl, sym, ap, ◌∙◌, arith}
 use Rattle.std.proofs.lemmas.Int.{ints}
 use Rattle.std.proofs.lemmas.List.{length-map}
 use Rattle.std.proofs.lemmas.List.Elements.{All-nil, All-cons}
@@ -18,7 +18,6 @@ use Rattle.highest_water.specs.declared.verdict.PeakVerdict.TheVariants.{WrongLe
 use Rattle.highest_water.specs.Covers.{is_under, minutes_of, peak_of}
 use Rattle.highest_water.specs.Peaks.{highest_minute}
 use Rattle.highest_water.specs.PeakTexts.{IsPeakValue, IsPeakCell, IsPeakCertificate, cell_lines_of, peak_cell_line_of, peak_head_lines_of, peak_lines_of, peak_text}
-use Rattle.highest_water.specs.Telling.{verdict_line}
 use Rattle.highest_water.specs.Verdicts.{cell_verdict, cells_verdict, or_next, peak_verdict}
 use Rattle.highest_water.proofs.AcceptedLemmas.{peak_of-accepted}
 use Rattle.highest_water.proofs.FindingLemmas.{highest-small}
@@ -37,15 +36,13 @@ use Rattle.station_span.specs.Peaks.{highest_of, highest_site}
 use Rattle.station_span.specs.Sites.{Site}
 use Rattle.station_span.specs.Workings.Levels.{source_of}
 use Rattle.station_span.specs.Workings.Peaks.{HasHighest, IsHighestFound, IsSourceIn, source_count, tide_levels, tide_peak, tide_verdict}
-use Rattle.station_span.specs.Workings.Spans.{AreMoments, IsNear}
+use Rattle.station_span.specs.Workings.Spans.{AreMoments}
 use Rattle.station_span.proofs.LevelLemmas.{site_level}
 use Rattle.station_span.proofs.PeakLemmas.{source_minute}
 use Rattle.station_span.proofs.SpanLemmas.{file_minute}
-use Rattle.tide_answer.specs.declared.text.Answer.{Answer}
-use Rattle.tide_answer.specs.Answers.{highest, highest_text_at, peak_certified, peak_judged, text_accepted, text_alone, text_rejected}
+use Rattle.tide_answer.specs.Answers.{highest, highest_text_at, peak_certified, peak_judged, text_accepted, text_alone}
 use Rattle.tide_answer.specs.Asking.{asked_of_peak}
 use Rattle.tide_answer.specs.Workings.Peaks.{peak_accepted, peak_certificate_in, peak_judged_in, tide_highest_text}
-use Rattle.tide_answer.proofs.AnswerLemmas.{moment_near}
 use Rattle.tide_answer.proofs.CheckLemmas.{lines_long}
 
 -- ---- its text
@@ -162,13 +159,6 @@ certificate_sound name asked found peak named moments has gentle same inside = r
 
 -- ---- a certificate that is read
 
-pub peak_near : (cert : PeakCertificate) → IsPeakCertificate cert → IsNear (asked_of_peak cert)
-peak_near cert sound = record {
-  begin = moment_near cert.begin sound.begin;
-  end = moment_near cert.end sound.end;
-  mark = λ level is. absurd cc;
-}
-
 -- a text has a line for each cell
 pub few_cells : (cert : PeakCertificate) (bytes : List ℕ) → peak_text cert ≡ bytes → length bytes ≤ MOST_BYTES → length cert.peak.cells < 2 ^ 32
 unfolding peak_text
@@ -191,16 +181,3 @@ peak_is_accepted book table cert site found expected is accepted inside =
     judged_by book table cert site found expected is
     ∙ ap (λ verdict. Ok (peak_judged book site cert verdict)) accepted
     ∙ ap (λ (text : List ℕ). Ok (text_accepted text)) (sym (text_alike book (asked_of_peak cert) site found cert.station cert.peak.at _ is inside))
-
-rejected_by : (book : Book) (site : Site) (cert : PeakCertificate) (verdict : PeakVerdict) → verdict ≢ Accepted → peak_judged book site cert verdict ≡ text_rejected (verdict_line verdict)
-rejected_by book site cert (WrongLength covered wanted) wrong = refl
-rejected_by book site cert Outside wrong = refl
-rejected_by book site cert (NotUnder cell) wrong = refl
-rejected_by book site cert (WrongValue written computed) wrong = refl
-rejected_by book site cert (Above cell) wrong = refl
-rejected_by book site cert Accepted wrong = absurd (wrong refl)
-
-pub peak_is_rejected : (book : Book) (table : List Offsets) (cert : PeakCertificate) (site : Site) (found : Found) → highest_site book table cert.station (asked_of_peak cert) ≡ Ok site → IsHighestFound book (asked_of_peak cert) site found → tide_verdict found (asked_of_peak cert) cert.peak ≢ Accepted → peak_judged_in book table cert ≡ Ok (text_rejected (verdict_line (tide_verdict found (asked_of_peak cert) cert.peak)))
-peak_is_rejected book table cert site found expected is wrong =
-    judged_by book table cert site found expected is
-    ∙ ap (λ (answer : Answer). Ok answer) (rejected_by book site cert _ wrong)
