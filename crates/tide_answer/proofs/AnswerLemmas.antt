@@ -1,12 +1,10 @@
 -- What the answer to a question comes to by its steps.
-use Rattle.std.proofs.Common.{◌≡◌, ◌≢◌, ℕ, ℤ, Bool, true, false, List, Some, Result, Ok, Err, ◌≤◌, unsigned_abs, slice_get, refl, arith}
+use Rattle.std.proofs.Common.{◌≡◌, ℕ, ℤ, Bool, false, List, Some, Ok, ◌≤◌, unsigned_abs, slice_get, refl, arith}
 use Rattle.std.proofs.lemmas.Int.{ints}
-use Rattle.decimal_text.specs.Expected.{Excused, Gives}
+use Rattle.decimal_text.specs.Expected.{Excused}
 use Rattle.calendar_sheet.specs.Calendars.{calendar_text_of}
 use Rattle.harmonics_text.specs.declared.book.Book.{Book}
 use Rattle.harmonics_text.specs.declared.book.Station.{Station}
-use Rattle.harmonics_text.specs.declared.book.Units.{Units}
-use Rattle.harmonics_text.specs.declared.book.Units.TheVariants.{Feet, Meters, Knots, KnotsSquared}
 use Rattle.listing.specs.Abouts.{about_text_of}
 use Rattle.question.specs.declared.question.Layout.{Layout}
 use Rattle.question.specs.declared.question.Question.{Question}
@@ -20,13 +18,11 @@ use Rattle.station_span.specs.declared.following.FoundEvents.{FoundEvents}
 use Rattle.station_span.specs.declared.reach.Reach.TheVariants.{Events}
 use Rattle.station_span.specs.declared.station.Found.{Found}
 use Rattle.tide_fault.specs.declared.refusal.Refusal.{Refusal}
-use Rattle.tide_answer.specs.declared.text.Answer.{Answer}
-use Rattle.tide_answer.specs.Answers.{asks_name, asks_span, constituent_count, events_text, known, listed, named_by, predicted, on_calendar, text_alone}
+use Rattle.tide_answer.specs.Answers.{constituent_count, events_text, known, listed, named_by, predicted, on_calendar, text_alone}
 use Rattle.tide_answer.specs.Asking.{asked_by}
-use Rattle.tide_fault.specs.Faults.{wants_memory_of_refusal}
 use Rattle.station_span.specs.Sites.{Site, site_in, station_in}
 use Rattle.station_span.specs.Workings.Curves.{IsSiteList}
-use Rattle.station_span.specs.Workings.Spans.{HasLevels, IsKnown, IsNear}
+use Rattle.station_span.specs.Workings.Spans.{IsKnown, IsNear}
 use Rattle.station_span.proofs.FoundLemmas.{excused_then}
 
 -- ---- events
@@ -56,12 +52,6 @@ unfolding listed
 listed_whole book table question name asked site found named spans expected list =
     rw (named, spans, expected, list.units, list.events) refl
 
-pub has_word : (units : Units) → HasLevels units → units ≢ KnotsSquared
-has_word Feet levels = λ e. absurd (cc)
-has_word Meters levels = λ e. absurd (cc)
-has_word Knots levels = λ e. absurd (cc)
-has_word KnotsSquared levels = absurd levels
-
 -- ---- what is known of a station
 
 pub known_whole : (book : Book) (table : List Offsets) (name : List ℕ) (site : Site) (found : Found) (station : Station) → station_in book table name ≡ Ok site → IsKnown book site found → slice_get book.stations found.basis.station ≡ Some station → agreement_of found.curve ≡ predicted_agreement book site.station → known book table name ≡ Ok (text_alone (about_text_of name station.name found.units (constituent_count station) (agreement_of found.curve)))
@@ -70,36 +60,6 @@ known_whole book table name site found station expected is at agrees =
     let here = is.station in
     let same : station ≡ site.station = cc in
     rw (expected, same, is.units, agrees) refl
-
--- ---- what a question names
-
-pub asks_whole : (question : Question) (next : List ℕ → Asked → Result Answer Refusal) (name : List ℕ) (asked : Asked) → named_by question.station ≡ Ok name → named_by (asked_by question) ≡ Ok asked → asks_span question next ≡ next name asked
-unfolding asks_span
-asks_whole question next name asked named spans = rw (named, spans) refl
-
-pub excused_by : {A : Type 0} (memory : Bool) (expected : Result A Refusal) (refusal : Refusal) → expected ≡ Err refusal → Excused memory expected refusal
-excused_by true expected refusal e = tt
-excused_by false expected refusal e = e
-
-pub asks_no_name : (memory : Bool) (question : Question) (next : List ℕ → Asked → Result Answer Refusal) (refusal : Refusal) → named_by question.station ≡ Err refusal → Excused memory (asks_span question next) refusal
-unfolding asks_span
-asks_no_name memory question next refusal none = excused_by memory _ refusal (rw none refl)
-
-pub asks_no_span : (memory : Bool) (question : Question) (next : List ℕ → Asked → Result Answer Refusal) (name : List ℕ) (refusal : Refusal) → named_by question.station ≡ Ok name → named_by (asked_by question) ≡ Err refusal → Excused memory (asks_span question next) refusal
-unfolding asks_span
-asks_no_span memory question next name refusal named none = excused_by memory _ refusal (rw (named, none) refl)
-
--- the answer to what a question names is the question's
-pub gives_asked : (question : Question) (next : List ℕ → Asked → Result Answer Refusal) (name : List ℕ) (asked : Asked) (result : Result Answer Refusal) → named_by question.station ≡ Ok name → named_by (asked_by question) ≡ Ok asked → Gives wants_memory_of_refusal (next name asked) result → Gives wants_memory_of_refusal (asks_span question next) result
-gives_asked question next name asked result named spans gives = rw (asks_whole question next name asked named spans) gives
-
-pub gives_named : (question : Question) (next : List ℕ → Result Answer Refusal) (name : List ℕ) (result : Result Answer Refusal) → named_by question.station ≡ Ok name → Gives wants_memory_of_refusal (next name) result → Gives wants_memory_of_refusal (asks_name question next) result
-unfolding asks_name
-gives_named question next name result named gives = rw named gives
-
-pub names_none : (memory : Bool) (question : Question) (next : List ℕ → Result Answer Refusal) (refusal : Refusal) → named_by question.station ≡ Err refusal → Excused memory (asks_name question next) refusal
-unfolding asks_name
-names_none memory question next refusal none = excused_by memory _ refusal (rw none refl)
 
 -- ---- what a question asks is near
 

@@ -3,7 +3,6 @@ pub mod CertificateLemmas
 pub mod CheckLemmas
 pub mod LawLemmas
 pub mod LevelSteps
-pub mod ListedLemmas
 pub mod PeakLawLemmas
 pub mod PeakLemmas
 pub mod ReadyLemmas

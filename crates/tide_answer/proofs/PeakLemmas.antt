@@ -1,5 +1,5 @@
 -- What the answers of a highest water come to: its text, the certificate that is written, and one that is read.
-use Rattle.std.proofs.Common.{◌≡◌, ◌≢◌, ℕ, ◌+◌, ◌<◌, ◌≤◌, ◌^◌, ℤ, ◌+ℤ◌, List, [], ◌∷◌, map, length, length-append, Ok, refl, sym, ap, ◌∙◌, arith}
+use Rattle.std.proofs.Common.{◌≡◌, ℕ, ◌+◌, ◌<◌, ◌≤◌, ◌^◌, ℤ, ◌+ℤ◌, List, [], ◌∷◌, map, length, length-append, Ok, refl, sym, ap, ◌∙◌, arith}
 use Rattle.std.proofs.lemmas.List.{length-map}
 use Rattle.cert_text.specs.Certificates.{IsStationName}
 use Rattle.cert_text.specs.Lines.{last_line}
@@ -8,10 +8,8 @@ use Rattle.decimal_text.specs.declared.limits.TheConstants.{MOST_BYTES}
 use Rattle.harmonics_text.specs.declared.book.Book.{Book}
 use Rattle.highest_water.specs.declared.certificate.PeakCertificate.{PeakCertificate}
 use Rattle.highest_water.specs.declared.peak.Peak.{Peak}
-use Rattle.highest_water.specs.declared.verdict.PeakVerdict.{PeakVerdict}
-use Rattle.highest_water.specs.declared.verdict.PeakVerdict.TheVariants.{WrongLength, Outside, NotUnder, WrongValue, Above, Accepted}
+use Rattle.highest_water.specs.declared.verdict.PeakVerdict.TheVariants.{Accepted}
 use Rattle.highest_water.specs.PeakTexts.{IsPeakCertificate, cell_lines_of, peak_cell_line_of, peak_head_lines_of, peak_lines_of, peak_text}
-use Rattle.highest_water.specs.Telling.{verdict_line}
 use Rattle.station_curve.specs.Limits.{IsGentle}
 use Rattle.station_table.specs.declared.offsets.Offsets.{Offsets}
 use Rattle.zone_time.specs.declared.zone.Zone.{Zone}
@@ -23,8 +21,7 @@ use Rattle.station_span.specs.Workings.Peaks.{HasHighest, IsHighestFound, IsSour
 use Rattle.station_span.specs.Workings.Spans.{AreMoments, IsNear}
 use Rattle.station_span.proofs.LevelLemmas.{site_level}
 use Rattle.station_span.proofs.PeakLemmas.{accepted_certificate, source_minute, tide_peak_accepted}
-use Rattle.tide_answer.specs.declared.text.Answer.{Answer}
-use Rattle.tide_answer.specs.Answers.{highest, highest_text_at, peak_certified, peak_judged, text_accepted, text_alone, text_rejected}
+use Rattle.tide_answer.specs.Answers.{highest, highest_text_at, peak_certified, peak_judged, text_accepted, text_alone}
 use Rattle.tide_answer.specs.Asking.{asked_of_peak}
 use Rattle.tide_answer.specs.Workings.Peaks.{peak_accepted, peak_certificate_in, peak_judged_in, tide_highest_text}
 use Rattle.tide_answer.proofs.AnswerLemmas.{moment_near}
@@ -86,16 +83,3 @@ peak_is_accepted book table cert site found expected is accepted inside =
     judged_by book table cert site found expected is
     ∙ ap (λ verdict. Ok (peak_judged book site cert verdict)) accepted
     ∙ ap (λ (text : List ℕ). Ok (text_accepted text)) (sym (text_alike book (asked_of_peak cert) site found cert.station cert.peak.at _ is inside))
-
-rejected_by : (book : Book) (site : Site) (cert : PeakCertificate) (verdict : PeakVerdict) → verdict ≢ Accepted → peak_judged book site cert verdict ≡ text_rejected (verdict_line verdict)
-rejected_by book site cert (WrongLength covered wanted) wrong = refl
-rejected_by book site cert Outside wrong = refl
-rejected_by book site cert (NotUnder cell) wrong = refl
-rejected_by book site cert (WrongValue written computed) wrong = refl
-rejected_by book site cert (Above cell) wrong = refl
-rejected_by book site cert Accepted wrong = absurd (wrong refl)
-
-pub peak_is_rejected : (book : Book) (table : List Offsets) (cert : PeakCertificate) (site : Site) (found : Found) → highest_site book table cert.station (asked_of_peak cert) ≡ Ok site → IsHighestFound book (asked_of_peak cert) site found → tide_verdict found (asked_of_peak cert) cert.peak ≢ Accepted → peak_judged_in book table cert ≡ Ok (text_rejected (verdict_line (tide_verdict found (asked_of_peak cert) cert.peak)))
-peak_is_rejected book table cert site found expected is wrong =
-    judged_by book table cert site found expected is
-    ∙ ap (λ (answer : Answer). Ok answer) (rejected_by book site cert _ wrong)

@@ -40,5 +40,8 @@ fn constituent_count(station: &Station) -> u64
     ensures { result ≡ constituent_count station.now }
 {
     let amplitudes = station.amplitude.as_slice();
-    amplitudes.iter().filter(|amplitude| **amplitude != 0).count() as u64
+    amplitudes
+        .iter()
+        .filter(|amplitude| **amplitude != 0)
+        .count() as u64
 }

@@ -2,8 +2,9 @@
 //!
 //! [`answer`] answers a [`Question`](question::Question) over a book of harmonic constants and a table
 //! of offsets: with a text, or with the first [`Refusal`] in a fixed order. [`answer_alone`] answers
-//! one that names no file. [`prepare`] and [`answer_into`] write a listing or a certificate as it is
-//! found, without memory. The top call brings these their files and words, and carries the text away.
+//! one that names no file, and [`station_events`] gives the events for whoever lays them out.
+//! [`prepare`] and [`answer_into`] write a listing or a certificate as it is found, without memory. The
+//! top call brings these their files and words, and carries the text away.
 #![tactic(auto)]
 
 mod about;

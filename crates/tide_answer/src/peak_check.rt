@@ -89,6 +89,13 @@ fn accept_peak(
     ensures { IfOk result (λ answer. answer ≡ peak_accepted found.now cert.now) }
 {
     let zone = Zone::Utc;
-    let told = highest_text_at(alloc, found, asked, &cert.station, cert.peak.at, &zone.clock())?;
+    let told = highest_text_at(
+        alloc,
+        found,
+        asked,
+        &cert.station,
+        cert.peak.at,
+        &zone.clock(),
+    )?;
     accepted(alloc, &told)
 }

@@ -16,3 +16,8 @@ pub returns-in-Calendar-clause-exact : goal.returns-in-Calendar-clause-exact
 unfolding asks_span asked_by
 returns-in-Calendar-clause-exact c =
     let is = rw c.get.ensures.exact at c.in-Calendar.is in rw is (rw c.clock.ensures at c.answer_calendar.ensures.exact)
+
+pub returns-in-Highest-clause-exact : goal.returns-in-Highest-clause-exact
+unfolding asks_span asked_by
+returns-in-Highest-clause-exact c =
+    let is = rw c.get.ensures.exact at c.in-Highest.is in rw is (rw c.clock.ensures at c.answer_highest.ensures.exact)

@@ -18,5 +18,5 @@ returns-in-None-clause-exact c =
 pub returns-clause-exact : goal.returns-clause-exact
 returns-clause-exact c =
     let exact = rw c.asked_in-asked.ensures at c.in_ok-found.ensures.exact in
-    judged_rejected c.args.book.now c.args.table.now c.args.cert.now c.args.zone.now exact.0 c.in_ok-found.found c.in-Some.rejection exact.1 exact.2 (sym c.find_rejection.ensures ∙ c.in-Some.is)
-    ∙ ap (λ (a : Answer). Ok a) (sym c.in_ok-reject-in-Some.ensures)
+    rw (c.rejected.ensures, c.in_ok-rejection_line-in-Some.ensures)
+    (judged_rejected c.args.book.now c.args.table.now c.args.cert.now c.args.zone.now exact.0 c.in_ok-found.found c.in-Some.rejection exact.1 exact.2 (sym c.find_rejection.ensures ∙ c.in-Some.is))

@@ -28,5 +28,5 @@ returns-clause-exact c =
     let few = simp to_z-of_z at c.in_ok-check_rows.ensures.exact in
     let rows = simp to_z-of_z at c.in_ok-rows.ensures.exact in
     let text = c.in_ok-text.ensures in
-    rw text
+    rw (c.text_alone.ensures, text)
     (whole_list c.args.book.now c.args.table.now c.args.name.now c.args.asked.now c.args.step c.args.layout c.args.zone.now site.0 c.in_ok-found.found c.in_ok-rows.rows has levels c.requires.step (sym few) rows)

@@ -9,4 +9,10 @@ highest_text-requires-clause-minute c =
     simp to_z-of_z (zone_minute c.args.found.now _ c.moved_minute-minute.ensures.level)
 
 pub returns : goal.returns
-returns c = ?
+returns c =
+    let at : FitsSigned w64 c.args.at = search rules in
+    let here : FitsSigned w64 c.moved_minute-minute.result = search rules in
+    let shown : FitsSigned w64 c.level_at-level.result = search rules in
+    let minute = simp to_z-of_z at c.moved_minute-minute.ensures.exact in
+    let level = simp to_z-of_z at c.level_at-level.ensures in
+    rw (c.zone.ensures.exact, level, minute) at (simp to_z-of_z at c.highest_text.ensures)
