@@ -38,6 +38,7 @@ pub struct Listed {
 /// # Errors
 /// Each [`Refusal`] exactly where `specs/Answers.antt` has it; [`Refusal::NoMemory`] says nothing
 /// of the question.
+#[tactic(auto, unfolding(crate::specs::Answers::listed))]
 pub fn station_events(
     alloc: Global,
     book: &Book,
@@ -54,7 +55,6 @@ pub fn station_events(
     ensures levels { IfOk result (λ found. found.units ≢ Units.KnotsSquared) }
     ensures printed { IfOk result (λ found. All (λ b. (32 ≤ b) × (b ≢ 127)) found.name) }
 {
-    table.known();
     let question = SoundQuestion::new(question);
     let name = station_named(&question)?;
     let asked = span_named(&question)?;
