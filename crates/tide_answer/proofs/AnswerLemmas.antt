@@ -1,7 +1,6 @@
 -- What the answer to a question comes to by its steps.
-use Rattle.std.proofs.Common.{◌≡◌, ℕ, ℤ, Bool, false, List, Some, Ok, ◌≤◌, unsigned_abs, slice_get, refl, arith}
+use Rattle.std.proofs.Common.{◌≡◌, ℕ, ℤ, false, List, Some, Ok, ◌≤◌, unsigned_abs, slice_get, refl, arith}
 use Rattle.std.proofs.lemmas.Int.{ints}
-use Rattle.decimal_text.specs.Expected.{Excused}
 use Rattle.calendar_sheet.specs.Calendars.{calendar_text_of}
 use Rattle.harmonics_text.specs.declared.book.Book.{Book}
 use Rattle.harmonics_text.specs.declared.book.Station.{Station}
@@ -17,13 +16,11 @@ use Rattle.station_span.specs.declared.asked.Asked.{Asked}
 use Rattle.station_span.specs.declared.following.FoundEvents.{FoundEvents}
 use Rattle.station_span.specs.declared.reach.Reach.TheVariants.{Events}
 use Rattle.station_span.specs.declared.station.Found.{Found}
-use Rattle.tide_fault.specs.declared.refusal.Refusal.{Refusal}
 use Rattle.tide_answer.specs.Answers.{constituent_count, events_text, known, listed, named_by, predicted, on_calendar, text_alone}
 use Rattle.tide_answer.specs.Asking.{asked_by}
 use Rattle.station_span.specs.Sites.{Site, site_in, station_in}
 use Rattle.station_span.specs.Workings.Curves.{IsSiteList}
 use Rattle.station_span.specs.Workings.Spans.{IsKnown, IsNear}
-use Rattle.station_span.proofs.FoundLemmas.{excused_then}
 
 -- ---- events
 
@@ -32,20 +29,10 @@ unfolding predicted
 predicted_whole book table name asked layout zone site listed text found list is =
     rw (found, is, list.units, list.events, list.cells) refl
 
-pub predicted_refused : (memory : Bool) (book : Book) (table : List Offsets) (name : List ℕ) (asked : Asked) (layout : Layout) (zone : Zone) (refusal : Refusal) → Excused memory (site_in Events book table name asked) refusal → Excused memory (predicted book table name asked layout zone) refusal
-unfolding predicted
-predicted_refused memory book table name asked layout zone refusal excused =
-    excused_then memory (site_in Events book table name asked) _ refusal excused
-
 pub calendar_whole : (book : Book) (table : List Offsets) (name : List ℕ) (asked : Asked) (zone : Zone) (site : Site) (listed : FoundEvents) (text : List ℕ) → site_in Events book table name asked ≡ Ok site → IsSiteList book asked site listed → text ≡ calendar_text_of name listed.units listed.events zone asked.begin asked.end → on_calendar book table name asked zone ≡ Ok (record { text = text; rejected = false; cells = listed.cells })
 unfolding on_calendar
 calendar_whole book table name asked zone site listed text found list is =
     rw (found, is, list.units, list.events, list.cells) refl
-
-pub calendar_refused : (memory : Bool) (book : Book) (table : List Offsets) (name : List ℕ) (asked : Asked) (zone : Zone) (refusal : Refusal) → Excused memory (site_in Events book table name asked) refusal → Excused memory (on_calendar book table name asked zone) refusal
-unfolding on_calendar
-calendar_refused memory book table name asked zone refusal excused =
-    excused_then memory (site_in Events book table name asked) _ refusal excused
 
 pub listed_whole : (book : Book) (table : List Offsets) (question : Question) (name : List ℕ) (asked : Asked) (site : Site) (found : FoundEvents) → named_by question.station ≡ Ok name → named_by (asked_by question) ≡ Ok asked → site_in Events book table name asked ≡ Ok site → IsSiteList book asked site found → listed book table question ≡ Ok (record { name = name; units = found.units; events = found.events })
 unfolding listed

@@ -17,6 +17,7 @@ use tide_fault::Refusal;
 use zone_time::ZoneClock;
 
 /// The calendar of a station's events in a span, or the first refusal, as for a prediction.
+#[tactic(auto, unfolding(crate::specs::Answers::on_calendar))]
 pub fn list_days(
     alloc: Global,
     book: &SoundBook<'_>,

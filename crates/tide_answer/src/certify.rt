@@ -1,8 +1,6 @@
 //! The certificate of a station's events.
 
-ghost use Rattle.std.specs.Prelude.{◌≡◌, ◌<◌, ◌^◌, IfOk, IfErr};
-ghost use Rattle.cert_text.specs.Certificates.{IsStationName};
-ghost use Rattle.cert_text.specs.Lines.{certificate_text};
+ghost use Rattle.std.specs.Prelude.{◌≡◌, IfErr};
 ghost use Rattle.decimal_text.specs.Expected.{Gives};
 ghost use Rattle.tide_answer.specs.Answers.{certified};
 ghost use Rattle.tide_fault.specs.Faults.{wants_memory_of_refusal, IsToldRefusal};
@@ -14,16 +12,17 @@ use crate::text::Answer;
 use crate::tracks::find_tracks;
 use cert_text::{Certificate, write_certificate};
 use curve_law::Tracks;
-use decimal_text::{Bytes, Text};
+use decimal_text::Text;
 use harmonics_text::SoundBook;
 use station_cells::cell_count;
 use station_span::{Asked, Reach, find_station};
 use station_table::OffsetTable;
-use std::alloc::{AllocError, Global};
+use std::alloc::Global;
 use tide_fault::Refusal;
 
 /// The certificate of a station's events in a span, with the rates of version 2, or the first refusal:
 /// the station, its unit, the span, the limits, the mark.
+#[tactic(auto, unfolding(crate::specs::Answers::certified))]
 pub fn certify(
     alloc: Global,
     book: &SoundBook<'_>,

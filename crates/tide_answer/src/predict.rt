@@ -20,6 +20,7 @@ use zone_time::ZoneClock;
 
 /// The listing of a station's events in a span, or the first refusal: the station, its unit, the
 /// span, the limits, the mark.
+#[tactic(auto, unfolding(crate::specs::Answers::predicted))]
 pub fn predict(
     alloc: Global,
     book: &SoundBook<'_>,

@@ -1,6 +1,6 @@
 //! What a question is answered with.
 
-ghost use Rattle.std.specs.Prelude.{◌≡◌, ◌++◌, codes, true, IfOk};
+ghost use Rattle.std.specs.Prelude.{◌≡◌, IfOk};
 ghost use Rattle.tide_answer.specs.Answers.{text_accepted, text_alone, text_rejected};
 
 use decimal_text::Bytes;

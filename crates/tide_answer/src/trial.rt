@@ -4,9 +4,8 @@ ghost use Rattle.std.specs.Prelude.{◌≡◌, ◌<◌, ◌≤◌, ◌^◌, [], 
 ghost use Rattle.decimal_text.specs.Expected.{Gives};
 ghost use Rattle.harmonics_text.specs.Books.{IsBook};
 ghost use Rattle.harmonics_text.specs.Reading.{book_of};
-ghost use Rattle.station_table.specs.Offsets.{IsTable};
 ghost use Rattle.tide_fault.specs.Faults.{wants_memory_of_refusal, IsToldRefusal};
-ghost use Rattle.tide_answer.specs.Trials.{book_from, nothing, station_count, station_tally, tally_on, trial_of, trial_span};
+ghost use Rattle.tide_answer.specs.Trials.{book_from, nothing, station_count, station_tally, tally_on, trial_of};
 ghost use Rattle.tide_answer.specs.Workings.Tallies.{IsUpTo};
 ghost use Rattle.decimal_text.specs.declared.limits.TheConstants.{MOST_BYTES};
 

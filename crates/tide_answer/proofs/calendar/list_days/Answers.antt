@@ -1,13 +1,7 @@
 use Rattle.std.proofs.Common.{FitsSigned, w64, rules}
 use Rattle.std.proofs.lemmas.Int.{to_z-of_z}
-use Rattle.std.proofs.lemmas.Result.{err_from_is_err_and}
-use Rattle.tide_answer.proofs.AnswerLemmas.{calendar_whole, calendar_refused}
+use Rattle.tide_answer.proofs.AnswerLemmas.{calendar_whole}
 use Rattle.tide_answer.proofs.calendar.list_days.Goals as goal
-
-pub returns-in_err-listed-clause-exact : goal.returns-in_err-listed-clause-exact
-returns-in_err-listed-clause-exact c =
-    let p = err_from_is_err_and c.from_residual.result c.from_residual.ensures.1 in
-    rw (p.1, p.2) (calendar_refused _ c.args.book.now c.args.table.now c.args.name.now c.args.asked.now c.args.zone.now _ c.in_err-listed.ensures.exact)
 
 pub calendar_text-requires-clause-listed : goal.calendar_text-requires-clause-listed
 calendar_text-requires-clause-listed c = c.in_ok-listed.ensures.exact.2.lines

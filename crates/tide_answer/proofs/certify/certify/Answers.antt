@@ -1,15 +1,6 @@
-use Rattle.std.proofs.lemmas.Result.{err_from_is_err_and}
-use Rattle.tide_answer.specs.Answers.{certified}
 use Rattle.tide_answer.proofs.CertificateLemmas.{tracks_few, certificate_sound, certified_whole}
 use Rattle.station_span.proofs.FollowLemmas.{ready_of_found}
-use Rattle.station_span.proofs.FoundLemmas.{excused_then}
 use Rattle.tide_answer.proofs.certify.certify.Goals as goal
-
-pub returns-in_err-found-clause-exact : goal.returns-in_err-found-clause-exact
-unfolding certified
-returns-in_err-found-clause-exact c =
-    let p = err_from_is_err_and c.from_residual.result c.from_residual.ensures.1 in
-    rw (p.1, p.2) (excused_then _ _ _ _ c.in_err-found.ensures.exact)
 
 pub cell_count-cells-requires : goal.cell_count-cells-requires
 cell_count-cells-requires c =
