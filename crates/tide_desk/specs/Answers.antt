@@ -4,20 +4,23 @@ use Rattle.std.specs.Option.{option_map_or, IsSomeAnd}
 use Rattle.std.specs.Result.{IsOkAnd}
 use Rattle.std.specs.Str.{bytes_eq}
 use Rattle.decimal_text.specs.Expected.{◌>>=◌}
+use Rattle.harmonics_text.specs.declared.book.Book.{Book}
+use Rattle.question.specs.declared.command.Command.{Command}
+use Rattle.question.specs.declared.command.Command.TheVariants.{Clock, Report}
 use Rattle.question.specs.declared.fault.AskFault.{AskFault}
 use Rattle.question.specs.declared.fault.AskFault.TheVariants.{UnknownCommand}
 use Rattle.question.specs.declared.pairs.Pairs.{Pairs}
 use Rattle.question.specs.declared.question.Question.{Question}
 use Rattle.question.specs.Questions.{question_of}
 use Rattle.question.specs.Words.{pairs_of}
-use Rattle.tide_fault.specs.declared.fault.Fault.{Fault}
-use Rattle.tide_fault.specs.declared.fault.Fault.TheVariants.{Ask, NoSheet, Refused}
-use Rattle.tide_fault.specs.declared.refusal.Refusal.{Refusal}
-use Rattle.harmonics_text.specs.declared.book.Book.{Book}
 use Rattle.report_sheets.specs.declared.head.Head.{Head}
 use Rattle.report_sheets.specs.Pages.{missing_of, pages_of}
 use Rattle.report_sheets.specs.Sheets.{SheetMeaning}
 use Rattle.station_table.specs.declared.offsets.Offsets.{Offsets}
+use Rattle.tide_fault.specs.declared.fault.Fault.{Fault}
+use Rattle.tide_fault.specs.declared.fault.Fault.TheVariants.{Ask, NoSheet, Refused}
+use Rattle.tide_fault.specs.declared.refusal.Refusal.{Refusal}
+use Rattle.tide_answer.specs.declared.given.Given.{Given}
 use Rattle.tide_answer.specs.declared.listed.Listed.{Listed}
 use Rattle.tide_answer.specs.declared.text.Answer.{Answer}
 use Rattle.tide_answer.specs.Answers.{answered, answered_alone, listed, text_alone}
@@ -25,9 +28,6 @@ use Rattle.named_files.specs.declared.no_answer.NoAnswer.{NoAnswer}
 use Rattle.named_files.specs.NoAnswers.{told, refused_over}
 use Rattle.named_files.specs.declared.materials.Materials.{Materials}
 use Rattle.named_files.specs.Readings.{Folders, files_allowed, files_in}
-use Rattle.question.specs.declared.command.Command.{Command}
-use Rattle.question.specs.declared.command.Command.TheVariants.{Clock, Report}
-use Rattle.tide_answer.specs.declared.given.Given.{Given}
 use Rattle.tide_edge.specs.FileStates.{Folder}
 use Rattle.tide_edge.specs.Whole.{Allowance, no_file}
 
@@ -57,7 +57,7 @@ wanted_by question = unwrap_or question.sheets []
 abbrev pub word_at : List (List ℕ) → ℕ → List ℕ
 word_at wanted place = unwrap_or (slice_get wanted place) []
 
--- each wanted word is one of a sheet, or the first that is of none is told
+-- each wanted word is a sheet's, or the first that isn't is told
 abbrev pub known_in : List (List ℕ) → Option ℕ → Result (Unit {0}) Fault
 known_in wanted None = Ok tt
 known_in wanted (Some place) = Err (NoSheet (word_at wanted place))
@@ -122,7 +122,7 @@ reported sheets book table question now = do
   events ← listed book table question
   Ok (text_alone (pages_of sheets (wanted_by question) (head_of events now) events.events))
 
--- what is asked of a book and a table
+-- the answer over a book and a table: a report, or one without sheets
 abbrev pub answered_with : Bool → List SheetMeaning → Book → List Offsets → Question → Given → Result Answer Refusal
 answered_with true sheets book table question given = reported sheets book table question given.now
 answered_with false sheets book table question given = answered book table question given
