@@ -28,19 +28,23 @@ fn day(alloc: Global, sheets: &str) -> Result<String, AllocError> {
     )
 }
 
-// Runs words over a file `pier.txt` with sheets of each kind, of which `first` takes so many events,
-// from 1 on.
+// Runs words over a file `pier.txt` with sheets of each kind, of which `first` takes two events or ten.
 fn report(
     alloc: Global,
     file: Bytes,
     line: &str,
-    first: u32,
+    is_short: bool,
     fails: Fails,
 ) -> Result<Outcome, AllocError> {
     let mut sheets: Vec<Box<dyn Sheet>> = Vec::new(alloc);
     sheets.push(Box::new(alloc, Tally::new(alloc, 1_000_000))?)?;
     sheets.push(Box::new(alloc, Ranges::new(alloc, 1_000_000))?)?;
-    sheets.push(Box::new(alloc, FirstLines::new(alloc, first.clamp(1, 10)))?)?;
+    let first = if is_short {
+        FirstLines::new(alloc, 2)
+    } else {
+        FirstLines::new(alloc, 10)
+    };
+    sheets.push(Box::new(alloc, first)?)?;
     sheets.push(Box::new(alloc, IcalSheet::new(alloc, 1))?)?;
     sheets.push(Box::new(alloc, Stamp::new(alloc, 4))?)?;
     let mut held = Vec::new(alloc);
@@ -51,17 +55,23 @@ fn report(
 #[test]
 fn a_report_has_its_sheets(rt: HostRuntime) -> Result<(), Fail> {
     let alloc = rt.alloc();
-    for (sheets, first, pages) in [
-        ("first,tally,range", 10, [TALLY, RANGE, DAY]),
-        ("range,first,tally", 2, [TALLY, RANGE, TWO]),
-        ("stamp,ical,range", 10, [RANGE, CALENDAR, STAMP]),
+    for (sheets, is_short, pages) in [
+        ("first,tally,range", false, [TALLY, RANGE, DAY]),
+        ("range,first,tally", true, [TALLY, RANGE, TWO]),
+        ("stamp,ical,range", false, [RANGE, CALENDAR, STAMP]),
     ] {
         let mut text = String::new(alloc);
         for page in pages {
             text.push_str(page)?;
         }
         let line = day(alloc, sheets)?;
-        let outcome = report(alloc, pier_with(alloc, 0, "")?, line.as_str(), first, NONE)?;
+        let outcome = report(
+            alloc,
+            pier_with(alloc, 0, "")?,
+            line.as_str(),
+            is_short,
+            NONE,
+        )?;
         assert_outcome(&rt, &outcome, 0, text.as_str(), "");
     }
     Ok(())
@@ -124,7 +134,7 @@ fn a_report_is_refused_in_its_order(rt: HostRuntime) -> Result<(), Fail> {
             alloc,
             pier_with(alloc, line, text)?,
             words.as_str(),
-            10,
+            false,
             fails,
         )?;
         assert_outcome(&rt, &outcome, status, out, told);
@@ -138,7 +148,13 @@ fn a_report_of_ten_years_is_made(rt: HostRuntime) -> Result<(), Fail> {
     let file = String::from_str(alloc, ELEVEN_YEARS)?;
     let words = "report|file=pier.txt|station=Pier|begin=1999-01-02T00:00Z|end=2009-01-02T00:00Z|\
         sheets=tally,range,first";
-    let outcome = report(alloc, Bytes::from_vec(file.into_bytes()), words, 10, NONE)?;
+    let outcome = report(
+        alloc,
+        Bytes::from_vec(file.into_bytes()),
+        words,
+        false,
+        NONE,
+    )?;
     assert_eq!(rt; outcome.status.number(), 0);
     assert_eq!(rt;
         outcome
