@@ -4,3 +4,4 @@ pub mod CoverLemmas
 pub mod QuietLemmas
 pub mod TrackLemmas
 pub mod VerdictLemmas
+pub mod SpanLemmas

@@ -8,8 +8,8 @@ use Rattle.curve_law.specs.Meaning.{Meaning, IsSpan, IsRate, IsLawful}
 use Rattle.curve_law.specs.declared.quiet.TheConstants.{MOST_MINUTES}
 use Rattle.curve_law.specs.Cover.{keeps_side, is_quiet, unit_cell}
 
--- how far the value is after so many minutes
-drift_up : (f : ℤ → ℤ) (a : ℤ) (r n : ℕ) → ((k : ℕ) → k < n → unsigned_abs (f (a +ℤ pos k +ℤ pos 1) -ℤ f (a +ℤ pos k)) ≤ r) → f (a +ℤ pos n) ≤ℤ (f a +ℤ pos (r * n))
+-- how far the value is after so many minutes, and before as many
+pub drift_up : (f : ℤ → ℤ) (a : ℤ) (r n : ℕ) → ((k : ℕ) → k < n → unsigned_abs (f (a +ℤ pos k +ℤ pos 1) -ℤ f (a +ℤ pos k)) ≤ r) → f (a +ℤ pos n) ≤ℤ (f a +ℤ pos (r * n))
 drift_up f a r zero steps = let here : a +ℤ pos 0 ≡ a = omega (arith, ints) in rw here (omega (arith, ints))
 drift_up f a r (suc n) steps =
     let so_far = drift_up f a r n (λ k h. steps k (omega arith)) in
@@ -17,7 +17,7 @@ drift_up f a r (suc n) steps =
     let there : a +ℤ pos n +ℤ pos 1 ≡ a +ℤ pos (suc n) = omega (arith, ints) in
     rw (← there) (omega (arith, ints))
 
-drift_down : (f : ℤ → ℤ) (a : ℤ) (r n : ℕ) → ((k : ℕ) → k < n → unsigned_abs (f (a +ℤ pos k +ℤ pos 1) -ℤ f (a +ℤ pos k)) ≤ r) → f a ≤ℤ (f (a +ℤ pos n) +ℤ pos (r * n))
+pub drift_down : (f : ℤ → ℤ) (a : ℤ) (r n : ℕ) → ((k : ℕ) → k < n → unsigned_abs (f (a +ℤ pos k +ℤ pos 1) -ℤ f (a +ℤ pos k)) ≤ r) → f a ≤ℤ (f (a +ℤ pos n) +ℤ pos (r * n))
 drift_down f a r zero steps = let here : a +ℤ pos 0 ≡ a = omega (arith, ints) in rw here (omega (arith, ints))
 drift_down f a r (suc n) steps =
     let so_far = drift_down f a r n (λ k h. steps k (omega arith)) in
@@ -26,7 +26,7 @@ drift_down f a r (suc n) steps =
     rw (← there) (omega (arith, ints))
 
 -- the steps of the second part of so many minutes
-later_steps : (f : ℤ → ℤ) (a : ℤ) (r j i : ℕ) → ((k : ℕ) → k < j + i → unsigned_abs (f (a +ℤ pos k +ℤ pos 1) -ℤ f (a +ℤ pos k)) ≤ r) → (k : ℕ) → k < i → unsigned_abs (f (a +ℤ pos j +ℤ pos k +ℤ pos 1) -ℤ f (a +ℤ pos j +ℤ pos k)) ≤ r
+pub later_steps : (f : ℤ → ℤ) (a : ℤ) (r j i : ℕ) → ((k : ℕ) → k < j + i → unsigned_abs (f (a +ℤ pos k +ℤ pos 1) -ℤ f (a +ℤ pos k)) ≤ r) → (k : ℕ) → k < i → unsigned_abs (f (a +ℤ pos j +ℤ pos k +ℤ pos 1) -ℤ f (a +ℤ pos j +ℤ pos k)) ≤ r
 later_steps f a r j i steps k few =
     let there : a +ℤ pos j +ℤ pos k ≡ a +ℤ pos (j + k) = omega (arith, ints) in
     rw there (steps (j + k) (omega arith))
@@ -103,17 +103,17 @@ quiet-no_event c a n lawful span quiet k few =
     no_change (side_at c.track (a +ℤ pos k)) (side_at c.track (a +ℤ pos k +ℤ pos 1)) (here ∙ sym (rw next there))
 
 -- the test goes by the side of the first value
-pub keeps-above : (v w most sum rate : ℤ) (n : ℕ) → most ≡ rate *ℤ pos n → sum ≡ v +ℤ w → pos 0 <ℤ v → pos 0 <ℤ w → int_lt most sum ≡ keeps_side (Some rate) n v w
+pub keeps-above : (v w most rate : ℤ) (n : ℕ) → most ≡ rate *ℤ pos n → pos 0 <ℤ v → pos 0 <ℤ w → int_lt most (v +ℤ w) ≡ keeps_side (Some rate) n v w
 unfolding keeps_side
-keeps-above v w most sum rate n e f first second = rw (e, f) (grind (arith, ints))
+keeps-above v w most rate n e first second = rw e (grind (arith, ints))
 
 pub keeps-not_above : (v w rate : ℤ) (n : ℕ) → pos 0 <ℤ v → w ≤ℤ pos 0 → false ≡ keeps_side (Some rate) n v w
 unfolding keeps_side
 keeps-not_above v w rate n first second = grind (arith, ints)
 
-pub keeps-below : (v w most sum all rate : ℤ) (n : ℕ) → most ≡ rate *ℤ pos n → sum ≡ v +ℤ w → all ≡ sum +ℤ most → v ≤ℤ pos 0 → w ≤ℤ pos 0 → int_le all (pos 0) ≡ keeps_side (Some rate) n v w
+pub keeps-below : (v w most rate : ℤ) (n : ℕ) → most ≡ rate *ℤ pos n → v ≤ℤ pos 0 → w ≤ℤ pos 0 → int_le (v +ℤ w +ℤ most) (pos 0) ≡ keeps_side (Some rate) n v w
 unfolding keeps_side
-keeps-below v w most sum all rate n e f h first second = rw (h, f, e) (grind (arith, ints))
+keeps-below v w most rate n e first second = rw e (grind (arith, ints))
 
 pub keeps-not_below : (v w rate : ℤ) (n : ℕ) → v ≤ℤ pos 0 → pos 0 <ℤ w → false ≡ keeps_side (Some rate) n v w
 unfolding keeps_side

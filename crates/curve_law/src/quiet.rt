@@ -64,16 +64,17 @@ fn keeps_side(rate: i128, n: u32, value: i128, end_value: i128) -> bool
     ensures { result ≡ keeps_side (Some rate) n value end_value }
 {
     let most = most_change(rate, n);
-    let sum = sum(value, end_value);
+    let sum = value + end_value;
     if value > 0 {
         end_value > 0 && sum > most
     } else {
-        end_value <= 0 && self::sum(sum, most) <= 0
+        end_value <= 0 && sum + most <= 0
     }
 }
 
-/// The most that a value changes by in `n` minutes.
-fn most_change(rate: i128, n: u32) -> i128
+/// The most that a value changes by in `n` minutes, of at most [`MOST_MINUTES`], at a rate that a curve
+/// can have: not negative, and less than 5 * 10^37 over as many minutes.
+pub fn most_change(rate: i128, n: u32) -> i128
     requires positive { pos 0 ≤ℤ rate }
     requires rate { (rate *ℤ pos MOST_MINUTES) <ℤ pos (5 * 10 ^ 37) }
     requires few { n ≤ MOST_MINUTES }
@@ -81,12 +82,4 @@ fn most_change(rate: i128, n: u32) -> i128
     ensures size { unsigned_abs result < 5 * 10 ^ 37 }
 {
     rate * i128::from(n)
-}
-
-fn sum(a: i128, b: i128) -> i128
-    requires a { unsigned_abs a < 5 * 10 ^ 37 }
-    requires b { unsigned_abs b < 5 * 10 ^ 37 }
-    ensures { result ≡ a +ℤ b }
-{
-    a + b
 }

@@ -1,37 +1,15 @@
 -- A curve that changes by at most its rate in each minute stays under a value that is far enough from the values at both ends.
-use Rattle.std.proofs.Common.{◌≡◌, ◌⊎◌, inl, inr, ⊎_elim, ℕ, zero, suc, ◌+◌, ◌-◌, ◌*◌, ◌≤◌, ◌<◌, nat_le, ℤ, pos, negsuc, ◌+ℤ◌, ◌-ℤ◌, ◌*ℤ◌, ◌≤ℤ◌, ◌<ℤ◌, unsigned_abs, int_lt, int_le, Bool, true, false, ◌&&◌, ◌||◌, ◌^◌, cond, Option, Some, None, refl, sym, arith}
+use Rattle.std.proofs.Common.{◌≡◌, ◌⊎◌, inl, inr, ⊎_elim, ℕ, ◌+◌, ◌-◌, ◌*◌, ◌≤◌, ◌<◌, nat_le, ℤ, pos, negsuc, ◌+ℤ◌, ◌-ℤ◌, ◌*ℤ◌, ◌≤ℤ◌, ◌<ℤ◌, unsigned_abs, int_lt, int_le, Bool, true, false, ◌&&◌, ◌||◌, ◌^◌, cond, Option, Some, None, refl, sym, arith}
 use Rattle.std.proofs.lemmas.Bool.{and_parts}
 use Rattle.std.proofs.lemmas.Bool.Decides.{nat_tests}
 use Rattle.std.proofs.lemmas.Int.{ints}
 use Rattle.curve_law.specs.Meaning.{Meaning, IsSpan, IsRate, IsLawful}
 use Rattle.curve_law.specs.declared.quiet.TheConstants.{MOST_MINUTES}
 use Rattle.curve_law.proofs.CoverLemmas.{by_test}
+use Rattle.curve_law.proofs.QuietLemmas.{drift_up, drift_down, later_steps}
 use Rattle.highest_water.specs.Covers.{twice_most, stays_below, stays_within, is_under}
 use Rattle.highest_water.specs.Verdicts.{is_inside}
 use Rattle.highest_water.specs.Workings.Below.{AreBelow}
-
--- how far the value is after so many minutes, and before as many
-drift_up : (f : ℤ → ℤ) (a : ℤ) (r n : ℕ) → ((k : ℕ) → k < n → unsigned_abs (f (a +ℤ pos k +ℤ pos 1) -ℤ f (a +ℤ pos k)) ≤ r) → f (a +ℤ pos n) ≤ℤ (f a +ℤ pos (r * n))
-drift_up f a r zero steps = let here : a +ℤ pos 0 ≡ a = omega (arith, ints) in rw here (omega (arith, ints))
-drift_up f a r (suc n) steps =
-    let so_far = drift_up f a r n (λ k h. steps k (omega arith)) in
-    let step = steps n (omega arith) in
-    let there : a +ℤ pos n +ℤ pos 1 ≡ a +ℤ pos (suc n) = omega (arith, ints) in
-    rw (← there) (omega (arith, ints))
-
-drift_down : (f : ℤ → ℤ) (a : ℤ) (r n : ℕ) → ((k : ℕ) → k < n → unsigned_abs (f (a +ℤ pos k +ℤ pos 1) -ℤ f (a +ℤ pos k)) ≤ r) → f a ≤ℤ (f (a +ℤ pos n) +ℤ pos (r * n))
-drift_down f a r zero steps = let here : a +ℤ pos 0 ≡ a = omega (arith, ints) in rw here (omega (arith, ints))
-drift_down f a r (suc n) steps =
-    let so_far = drift_down f a r n (λ k h. steps k (omega arith)) in
-    let step = steps n (omega arith) in
-    let there : a +ℤ pos n +ℤ pos 1 ≡ a +ℤ pos (suc n) = omega (arith, ints) in
-    rw (← there) (omega (arith, ints))
-
--- the steps of the second part of so many minutes
-later_steps : (f : ℤ → ℤ) (a : ℤ) (r j i : ℕ) → ((k : ℕ) → k < j + i → unsigned_abs (f (a +ℤ pos k +ℤ pos 1) -ℤ f (a +ℤ pos k)) ≤ r) → (k : ℕ) → k < i → unsigned_abs (f (a +ℤ pos j +ℤ pos k +ℤ pos 1) -ℤ f (a +ℤ pos j +ℤ pos k)) ≤ r
-later_steps f a r j i steps k few =
-    let there : a +ℤ pos j +ℤ pos k ≡ a +ℤ pos (j + k) = omega (arith, ints) in
-    rw there (steps (j + k) (omega arith))
 
 -- twice a value inside is at most both values at the ends and the rate times the minutes
 twice-most : (f : ℤ → ℤ) (a : ℤ) (r j i : ℕ) → ((k : ℕ) → k < j + i → unsigned_abs (f (a +ℤ pos k +ℤ pos 1) -ℤ f (a +ℤ pos k)) ≤ r) → (pos 2 *ℤ f (a +ℤ pos j)) ≤ℤ (f a +ℤ f (a +ℤ pos (j + i)) +ℤ pos (r * (j + i)))

@@ -1,15 +1,13 @@
 -- How the pieces ahead of a walk change, and what they always have.
-use Rattle.std.proofs.Common.{◌≡◌, ℕ, ◌+◌, ◌-◌, ◌*◌, ◌/◌, ◌^◌, ◌≤◌, ◌<◌, min, ℤ, pos, ◌+ℤ◌, ◌≤ℤ◌, ◌<ℤ◌, false, true, List, [], ◌∷◌, ◌++◌, length, length-append, refl, sym, ap, arith, append_assoc, nat_le, ◌∙◌}
+use Rattle.std.proofs.Common.{◌≡◌, ℕ, ◌+◌, ◌-◌, ◌/◌, ◌^◌, ◌≤◌, ◌<◌, min, ℤ, pos, ◌+ℤ◌, ◌≤ℤ◌, ◌<ℤ◌, false, true, List, [], ◌∷◌, ◌++◌, length, length-append, refl, sym, ap, arith, append_assoc, nat_le, ◌∙◌}
 use Rattle.std.proofs.lemmas.Int.{ints}
 use Rattle.std.proofs.lemmas.Bool.Decides.{nat_tests}
 use Rattle.std.proofs.lemmas.List.{append-nil}
-use Rattle.std.proofs.lemmas.Nat.{pow_pos}
-use Rattle.std.proofs.Math.Nat.{mul-le-mul_left}
 use Rattle.curve_law.specs.declared.point.Point.{Point}
 use Rattle.curve_law.specs.Meaning.{Meaning, IsLawful}
 use Rattle.curve_law.proofs.CoverLemmas.{by_test}
 use Rattle.interval_search.specs.Workings.Ahead.{minutes_to, IsPiece, ArePieces}
-use Rattle.interval_search.proofs.AheadLemmas.{begun-pieces, middle-pieces, waiting-few}
+use Rattle.interval_search.proofs.AheadLemmas.{begun-pieces, middle-pieces, piece-ahead, piece-parts, pieces-end, waiting-few}
 use Rattle.highest_water.specs.declared.peak_cell.PeakCell.{PeakCell}
 use Rattle.highest_water.specs.declared.peak_cell.PeakCell.TheVariants.{Under, Single}
 use Rattle.highest_water.specs.Covers.{minutes_of, all_minutes, is_under, peak_split, peak_cover}
@@ -56,37 +54,8 @@ begun-stands c count more end at b p old new some is point counted empty none st
 
 -- ---- the nearest piece, and what is halved of it
 
-piece-parts : (c : Meaning) (end a : ℤ) (p : Point) (ps : List Point) → ArePieces c end a (p ∷ ps) → (a <ℤ p.minute) × (minutes_to a p.minute * 2 ^ length ps ≤ 1024) × (p.value ≡ c.track.value p.minute) × ArePieces c end p.minute ps
-unfolding ArePieces
-piece-parts c end a p ps pieces = pieces
-
-pub pieces-end : (c : Meaning) (end a : ℤ) (ps : List Point) → ArePieces c end a ps → a ≤ℤ end
-unfolding ArePieces
-pieces-end c end a [] pieces = pieces
-pieces-end c end a (p ∷ ps) pieces =
-    let some = pieces.0 in
-    let rest = pieces-end c end p.minute ps pieces.3 in
-    omega (arith, ints)
-
-one_or_more : (k n : ℕ) → n * 2 ^ k ≤ 1024 → n ≤ 1024
-one_or_more k n few = let p = pow_pos k in let q = mul-le-mul_left n p in omega (arith, q)
-
--- what lies ahead of a point to the nearest one
 pub nearest-piece : (c : Meaning) (count : ℕ) (end : ℤ) (at p : Point) (ps : List Point) → Stands c count end at (p ∷ ps) → IsPiece c at p
-nearest-piece c count end at p ps stands =
-    let parts = piece-parts c end at.minute p ps stands.pieces in
-    let few = one_or_more (length ps) (minutes_to at.minute p.minute) parts.1 in
-    let some = parts.0 in
-    let rest = pieces-end c end p.minute ps parts.3 in
-    let last = stands.last in
-    record {
-      first = stands.first;
-      last = omega (arith, ints);
-      some = some;
-      few = omega (arith, ints);
-      value = stands.value;
-      end_value = parts.2;
-    }
+nearest-piece c count end at p ps stands = piece-ahead c end at p ps stands.value stands.first stands.last stands.pieces
 
 -- few enough values were asked for one more
 pub asked-few : (c : Meaning) (count : ℕ) (end : ℤ) (at p : Point) (ps : List Point) → Stands c count end at (p ∷ ps) → count < 2 ^ 63

@@ -6,7 +6,7 @@ ghost use Rattle.curve_law.specs.Meaning.{IsSpan};
 ghost use Rattle.highest_water.specs.Covers.{twice_most, is_under};
 ghost use Rattle.highest_water.specs.Verdicts.{is_inside};
 
-use curve_law::{Curve, MOST_MINUTES, Point};
+use curve_law::{Curve, MOST_MINUTES, Point, most_change};
 
 /// Whether the cell of the `n` minutes from a point on is under the highest water, by the value at the
 /// cell's end.
@@ -52,7 +52,7 @@ fn twice_most(rate: i128, n: u32, value: i128, end_value: i128) -> i128
     ensures value { result ≡ twice_most rate n value end_value }
     ensures size { unsigned_abs result < 7 * 10 ^ 37 }
 {
-    sum(sum(value, end_value), most_change(rate, n))
+    value + end_value + most_change(rate, n)
 }
 
 /// Whether twice a cell's greatest value is low enough: after the highest water it may be as great,
@@ -61,29 +61,10 @@ fn is_low(twice_most: i128, value: i128, is_after: bool) -> bool
     requires size { unsigned_abs value < 10 ^ 37 }
     ensures { result ≡ (if is_after then int_le twice_most (pos 2 *ℤ value) else int_lt twice_most (pos 2 *ℤ value)) }
 {
-    let twice = sum(value, value);
+    let twice = 2 * value;
     if is_after {
         twice_most <= twice
     } else {
         twice_most < twice
     }
-}
-
-/// The most that a value changes by in `n` minutes.
-fn most_change(rate: i128, n: u32) -> i128
-    requires positive { pos 0 ≤ℤ rate }
-    requires rate { (rate *ℤ pos MOST_MINUTES) <ℤ pos (5 * 10 ^ 37) }
-    requires few { n ≤ MOST_MINUTES }
-    ensures value { result ≡ rate *ℤ pos n }
-    ensures size { unsigned_abs result < 5 * 10 ^ 37 }
-{
-    rate * i128::from(n)
-}
-
-fn sum(a: i128, b: i128) -> i128
-    requires a { unsigned_abs a < 5 * 10 ^ 37 }
-    requires b { unsigned_abs b < 5 * 10 ^ 37 }
-    ensures { result ≡ a +ℤ b }
-{
-    a + b
 }

@@ -68,11 +68,11 @@ begun-at c count more end at b p old new some is point counted empty none stands
     (rw (point, counted, none) begun, rw (point, empty, none) cells)
 
 -- the nearest piece, and what is halved of it
-piece-parts : (c : Meaning) (end a : ℤ) (p : Point) (ps : List Point) → ArePieces c end a (p ∷ ps) → (a <ℤ p.minute) × (minutes_to a p.minute * 2 ^ length ps ≤ MOST_MINUTES) × (p.value ≡ c.track.value p.minute) × ArePieces c end p.minute ps
+pub piece-parts : (c : Meaning) (end a : ℤ) (p : Point) (ps : List Point) → ArePieces c end a (p ∷ ps) → (a <ℤ p.minute) × (minutes_to a p.minute * 2 ^ length ps ≤ MOST_MINUTES) × (p.value ≡ c.track.value p.minute) × ArePieces c end p.minute ps
 unfolding ArePieces
 piece-parts c end a p ps pieces = pieces
 
-pieces-end : (c : Meaning) (end a : ℤ) (ps : List Point) → ArePieces c end a ps → a ≤ℤ end
+pub pieces-end : (c : Meaning) (end a : ℤ) (ps : List Point) → ArePieces c end a ps → a ≤ℤ end
 unfolding ArePieces
 pieces-end c end a [] pieces = pieces
 pieces-end c end a (p ∷ ps) pieces =
@@ -85,21 +85,23 @@ one_or_more : (k n : ℕ) → n * 2 ^ k ≤ MOST_MINUTES → n ≤ MOST_MINUTES
 one_or_more k n few = let p = pow_pos k in let q = mul-le-mul_left n p in omega (arith, q)
 
 -- what lies ahead of a point to the nearest one
-pub nearest-piece : (c : Meaning) (count : ℕ) (end : ℤ) (at p : Point) (ps : List Point) → Stands c count end at (p ∷ ps) → IsPiece c at p
-nearest-piece c count end at p ps stands =
-    let parts = piece-parts c end at.minute p ps stands.pieces in
+pub piece-ahead : (c : Meaning) (end : ℤ) (at p : Point) (ps : List Point) → at.value ≡ c.track.value at.minute → c.first ≤ℤ at.minute → end ≤ℤ c.last → ArePieces c end at.minute (p ∷ ps) → IsPiece c at p
+piece-ahead c end at p ps value first last pieces =
+    let parts = piece-parts c end at.minute p ps pieces in
     let few = one_or_more (length ps) (minutes_to at.minute p.minute) parts.1 in
     let some = parts.0 in
     let rest = pieces-end c end p.minute ps parts.3 in
-    let last = stands.last in
     record {
-      first = stands.first;
+      first = first;
       last = omega (arith, ints);
       some = some;
       few = omega (arith, ints);
-      value = stands.value;
+      value = value;
       end_value = parts.2;
     }
+
+pub nearest-piece : (c : Meaning) (count : ℕ) (end : ℤ) (at p : Point) (ps : List Point) → Stands c count end at (p ∷ ps) → IsPiece c at p
+nearest-piece c count end at p ps stands = piece-ahead c end at p ps stands.value stands.first stands.last stands.pieces
 
 -- few enough points wait for one more
 pub waiting-few : (c : Meaning) (end a : ℤ) (p : Point) (ps : List Point) → ArePieces c end a (p ∷ ps) → length ps < 16

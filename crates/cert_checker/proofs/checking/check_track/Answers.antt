@@ -1,7 +1,8 @@
 use Rattle.std.proofs.Common.{w64, sym, refl, ◌∙◌}
 use Rattle.std.proofs.lemmas.Int.{to_z-of_z}
 use Rattle.curve_law.proofs.VerdictLemmas.{verdict-exact}
-use Rattle.cert_checker.proofs.SpanLemmas.{IsBetween, wrong-length, whole-span, within-span, verdict-whole}
+use Rattle.curve_law.proofs.SpanLemmas.{IsBetween, counted-whole, within-span}
+use Rattle.cert_checker.proofs.SpanLemmas.{wrong-length, verdict-whole}
 use Rattle.cert_checker.proofs.checking.check_track.Goals as goal
 
 pub returns-then-covered-wanted-clause-verdict : goal.returns-then-covered-wanted-clause-verdict
@@ -12,13 +13,13 @@ returns-then-covered-wanted-clause-verdict g c =
 pub first_finding-requires-clause-span : goal.first_finding-requires-clause-span
 first_finding-requires-clause-span g c =
     let between : IsBetween (g.C.Curve.meaning c.args.curve.now) c.args.begin c.args.end = record { lawful = g.met.C.Curve.lawful c.args.curve.now; forward = c.requires.forward; first = c.requires.first; last = c.requires.last } in
-    let whole = whole-span _ _ _ _ c.args.cells.now between (rw c.as_slice.ensures at c.covered_by-covered.ensures) c.if-covered-wanted.false in
+    let whole = counted-whole _ _ _ _ _ between (rw c.as_slice.ensures at c.covered_by-covered.ensures) c.if-covered-wanted.false in
     rw (to_z-of_z w64 c.args.begin c.ranges.begin, c.as_slice-2.ensures) (within-span _ _ _ _ between whole)
 
 pub returns-clause-verdict : goal.returns-clause-verdict
 returns-clause-verdict g c =
     let between : IsBetween (g.C.Curve.meaning c.args.curve.now) c.args.begin c.args.end = record { lawful = g.met.C.Curve.lawful c.args.curve.now; forward = c.requires.forward; first = c.requires.first; last = c.requires.last } in
-    let whole = whole-span _ _ _ _ c.args.cells.now between (rw c.as_slice.ensures at c.covered_by-covered.ensures) c.if-covered-wanted.false in
+    let whole = counted-whole _ _ _ _ _ between (rw c.as_slice.ensures at c.covered_by-covered.ensures) c.if-covered-wanted.false in
     rw (to_z-of_z w64 c.args.begin c.ranges.begin, c.as_slice-2.ensures) at c.first_finding.ensures.verdict ∙ verdict-whole _ _ _ _ whole
 
 pub returns-clause-exact : goal.returns-clause-exact

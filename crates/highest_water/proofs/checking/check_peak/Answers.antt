@@ -2,7 +2,8 @@ use Rattle.std.proofs.Common.{w64, FitsSigned, rules, sym, refl, ◌∙◌}
 use Rattle.std.proofs.lemmas.Int.{to_z-of_z}
 use mir.Syntax.{w128}
 use Rattle.highest_water.proofs.VerdictLemmas.{verdict-highest}
-use Rattle.highest_water.proofs.SpanLemmas.{IsBetween, wrong-length, whole-span, within-span, span-end}
+use Rattle.curve_law.proofs.SpanLemmas.{IsBetween, counted-whole, within-span}
+use Rattle.highest_water.proofs.SpanLemmas.{wrong-length, span-end}
 use Rattle.highest_water.proofs.JudgingLemmas.{verdict-outside, verdict-inside}
 use Rattle.highest_water.proofs.checking.check_peak.Goals as goal
 
@@ -14,7 +15,7 @@ returns-then-covered-wanted-clause-verdict g c =
 pub returns-then-not-is_inside-clause-verdict : goal.returns-then-not-is_inside-clause-verdict
 returns-then-not-is_inside-clause-verdict g c =
     let between : IsBetween (g.C.Curve.meaning c.args.curve.now) c.args.begin c.args.end = record { lawful = g.met.C.Curve.lawful c.args.curve.now; forward = c.requires.forward; first = c.requires.first; last = c.requires.last } in
-    let whole = whole-span _ _ _ _ c.args.peak.now between (rw c.as_slice.ensures at c.covered_by-covered.ensures) c.if-covered-wanted.false in
+    let whole = counted-whole _ _ _ _ _ between (rw c.as_slice.ensures at c.covered_by-covered.ensures) c.if-covered-wanted.false in
     let at : FitsSigned w64 c.args.peak.now.at = search rules in
     let begin = to_z-of_z w64 c.args.begin c.ranges.begin in
     let end = to_z-of_z w64 c.args.end c.ranges.end in
@@ -24,13 +25,13 @@ returns-then-not-is_inside-clause-verdict g c =
 pub first_finding-requires-clause-span : goal.first_finding-requires-clause-span
 first_finding-requires-clause-span g c =
     let between : IsBetween (g.C.Curve.meaning c.args.curve.now) c.args.begin c.args.end = record { lawful = g.met.C.Curve.lawful c.args.curve.now; forward = c.requires.forward; first = c.requires.first; last = c.requires.last } in
-    let whole = whole-span _ _ _ _ c.args.peak.now between (rw c.as_slice.ensures at c.covered_by-covered.ensures) c.if-covered-wanted.false in
+    let whole = counted-whole _ _ _ _ _ between (rw c.as_slice.ensures at c.covered_by-covered.ensures) c.if-covered-wanted.false in
     rw (to_z-of_z w64 c.args.begin c.ranges.begin, c.as_slice-2.ensures) (within-span _ _ _ _ between whole)
 
 pub returns-clause-verdict : goal.returns-clause-verdict
 returns-clause-verdict g c =
     let between : IsBetween (g.C.Curve.meaning c.args.curve.now) c.args.begin c.args.end = record { lawful = g.met.C.Curve.lawful c.args.curve.now; forward = c.requires.forward; first = c.requires.first; last = c.requires.last } in
-    let whole = whole-span _ _ _ _ c.args.peak.now between (rw c.as_slice.ensures at c.covered_by-covered.ensures) c.if-covered-wanted.false in
+    let whole = counted-whole _ _ _ _ _ between (rw c.as_slice.ensures at c.covered_by-covered.ensures) c.if-covered-wanted.false in
     let at : FitsSigned w64 c.args.peak.now.at = search rules in
     let begin = to_z-of_z w64 c.args.begin c.ranges.begin in
     let end = to_z-of_z w64 c.args.end c.ranges.end in

@@ -1,7 +1,7 @@
 use Rattle.std.proofs.Common.{◌≡◌, w64, to_z, of_z, FitsSigned, rules, refl, sym, ap, ◌∙◌}
 use Rattle.std.proofs.lemmas.Int.{to_z-of_z}
-use Rattle.interval_search.proofs.AheadLemmas.{before-end}
-use Rattle.highest_water.proofs.WalkLemmas.{done-waiting, done-cells, given-cells, given-onward, given-right, given-stands, pieces-end}
+use Rattle.interval_search.proofs.AheadLemmas.{before-end, pieces-end}
+use Rattle.highest_water.proofs.WalkLemmas.{done-waiting, done-cells, given-cells, given-onward, given-right, given-stands}
 use Rattle.highest_water.proofs.walk.next_cell.Goals as goal
 
 pub returns-then-at-end-clause-found : goal.returns-then-at-end-clause-found

@@ -1,0 +1,60 @@
+-- The minutes of a span as 64 bits, and a count of them that stops at the greatest `i64`.
+use Rattle.std.proofs.Common.{◌≡◌, ℕ, ◌-◌, ◌^◌, min, w64, to_z, of_z, FitsSigned, ℤ, pos, ◌-ℤ◌, ◌≤ℤ◌, unsigned_abs, refl, sym, ap, arith, ◌∙◌}
+use Rattle.std.proofs.lemmas.Int.{ints, to_z-of_z}
+use Rattle.curve_law.specs.Meaning.{Meaning, IsSpan, IsLawful}
+
+-- a span of a curve, from one minute to another
+pub record IsBetween (c : Meaning) (begin end : ℤ) : Type 0 where
+  pub lawful : IsLawful c
+  pub forward : begin ≤ℤ end
+  pub first : c.first ≤ℤ begin
+  pub last : end ≤ℤ c.last
+
+pub all-of : (n : ℕ) (begin end : ℤ) → n ≡ unsigned_abs (end -ℤ begin) → begin ≤ℤ end → (end -ℤ begin) ≤ℤ pos (2 ^ 61) → pos (min n (2 ^ 63 - 1)) ≡ end -ℤ begin
+all-of n begin end is forward few = omega (arith, ints)
+
+-- more minutes than an `i64` holds are not those of a span
+whole-of : (n : ℕ) (begin end : ℤ) → pos (min n (2 ^ 63 - 1)) ≡ end -ℤ begin → begin ≤ℤ end → (end -ℤ begin) ≤ℤ pos (2 ^ 61) → n ≡ unsigned_abs (end -ℤ begin)
+whole-of n begin end is forward few = omega (arith, ints)
+
+pub minutes-few : (c : Meaning) (begin end : ℤ) → IsBetween c begin end → (end -ℤ begin) ≤ℤ pos (2 ^ 61)
+minutes-few c begin end between =
+    let early = between.lawful.early in let late = between.lawful.late in
+    let first = between.first in let last = between.last in
+    omega (arith, ints)
+
+-- a minute of the span as 64 bits
+minute-fits : (c : Meaning) (begin end m : ℤ) → IsBetween c begin end → begin ≤ℤ m → m ≤ℤ end → FitsSigned w64 m
+minute-fits c begin end m between from to =
+    let early = between.lawful.early in let late = between.lawful.late in
+    let first = between.first in let last = between.last in
+    omega (arith, ints)
+
+-- the ends of the span, and its minutes, as 64 bits
+pub ends-are : (c : Meaning) (begin end : ℤ) → IsBetween c begin end → to_z w64 (of_z w64 end) -ℤ to_z w64 (of_z w64 begin) ≡ end -ℤ begin
+ends-are c begin end between =
+    let forward = between.forward in
+    let b = minute-fits c begin end begin between (omega (arith, ints)) forward in
+    let e = minute-fits c begin end end between forward (omega (arith, ints)) in
+    rw (to_z-of_z w64 begin b, to_z-of_z w64 end e) refl
+
+pub wanted-is : (c : Meaning) (begin end : ℤ) → IsBetween c begin end → to_z w64 (of_z w64 (end -ℤ begin)) ≡ end -ℤ begin
+wanted-is c begin end between =
+    let forward = between.forward in
+    let few = minutes-few c begin end between in
+    let fits : FitsSigned w64 (end -ℤ begin) = omega (arith, ints) in
+    to_z-of_z w64 (end -ℤ begin) fits
+
+pub covered-is : (covered : ℤ) (n : ℕ) → covered ≡ pos (min n (2 ^ 63 - 1)) → to_z w64 (of_z w64 covered) ≡ covered
+covered-is covered n is = omega (arith, ints)
+
+-- a count that is the span's
+pub counted-whole : (c : Meaning) (begin end covered : ℤ) (n : ℕ) → IsBetween c begin end → covered ≡ pos (min n (2 ^ 63 - 1)) → of_z w64 covered ≡ of_z w64 (to_z w64 (of_z w64 end) -ℤ to_z w64 (of_z w64 begin)) → n ≡ unsigned_abs (end -ℤ begin)
+counted-whole c begin end covered n between is same =
+    let minutes : covered ≡ end -ℤ begin = sym (covered-is covered n is) ∙ ap (to_z w64) (rw (ends-are c begin end between) at same) ∙ wanted-is c begin end between in
+    whole-of n begin end (sym is ∙ minutes) between.forward (minutes-few c begin end between)
+
+pub within-span : (c : Meaning) (begin end : ℤ) (n : ℕ) → IsBetween c begin end → n ≡ unsigned_abs (end -ℤ begin) → IsSpan c begin n
+within-span c begin end n between whole =
+    let forward = between.forward in let last = between.last in
+    record { first = between.first; last = omega (arith, ints) }
