@@ -255,27 +255,29 @@ text_from _ _ = Err NoStation
 unfoldable pub answered_alone : Question → Result Answer Refusal
 answered_alone question = text_from question.command question.seed
 
+-- what a command that is asked of a span gives; the others name none
+abbrev pub text_over : Command → Book → List Offsets → Question → Zone → List ℕ → Asked → Result Answer Refusal
+text_over Predict book table question zone name asked = predicted book table name asked question.layout zone
+text_over Certify book table question zone name asked = certified book table name asked
+text_over Heights book table question zone name asked = heights book table name asked question.step question.layout zone
+text_over Calendar book table question zone name asked = on_calendar book table name asked zone
+text_over Highest book table question zone name asked = highest book table name asked zone
+text_over Peak book table question zone name asked = peak_certified book table name asked
+text_over _ book table question zone name asked = Err NoStation
+
 abbrev pub text_by : Command → Book → List Offsets → Question → Given → Result Answer Refusal
-text_by Predict book table question given =
-    asks_span question (λ name asked. predicted book table name asked question.layout given.zone)
-text_by Certify book table question given = asks_span question (λ name asked. certified book table name asked)
 text_by Check book table question given = checked book table given.certificate given.zone
-text_by Heights book table question given =
-    asks_span question (λ name asked. heights book table name asked question.step question.layout given.zone)
-text_by Calendar book table question given =
-    asks_span question (λ name asked. on_calendar book table name asked given.zone)
+text_by PeakCheck book table question given = peak_checked book table given.certificate
 text_by Clock book table question given =
     asks_name question (λ name. on_clock book table name given.now given.zone)
+text_by About book table question given = asks_name question (λ name. known book table name)
 text_by Stations book table question given = Ok (text_alone (stations_text_of book table))
 text_by Sample book table question given = answered_alone question
 text_by Trial book table question given = answered_alone question
-text_by Highest book table question given =
-    asks_span question (λ name asked. highest book table name asked given.zone)
-text_by Peak book table question given = asks_span question (λ name asked. peak_certified book table name asked)
-text_by PeakCheck book table question given = peak_checked book table given.certificate
-text_by About book table question given = asks_name question (λ name. known book table name)
 text_by Report book table question given = Err NoStation
 text_by Serve book table question given = Err NoStation
+text_by command book table question given =
+    asks_span question (text_over command book table question given.zone)
 
 -- the answer to a question over a book and a table that were read, or the first refusal
 unfoldable pub answered : Book → List Offsets → Question → Given → Result Answer Refusal

@@ -5,7 +5,7 @@ ghost use Rattle.decimal_text.specs.Expected.{Gives};
 ghost use Rattle.harmonics_text.specs.Books.{IsBook};
 ghost use Rattle.listing.specs.StationLists.{stations_text_of};
 ghost use Rattle.question.specs.Asked.{IsAsked};
-ghost use Rattle.tide_answer.specs.Answers.{answered, text_by, text_alone, predicted, certified, heights, highest, known, on_calendar, on_clock, peak_certified, asks_name, asks_span};
+ghost use Rattle.tide_answer.specs.Answers.{answered, text_by, text_alone, text_over, known, on_clock, asks_name, asks_span};
 ghost use Rattle.tide_fault.specs.Faults.{wants_memory_of_refusal, IsToldRefusal};
 ghost use Rattle.tide_answer.specs.Givens.{IsGiven};
 
@@ -70,85 +70,46 @@ fn answer_command(
 {
     let zone = &given.zone.clock();
     match question.get().command {
-        Command::Predict => answer_predict(alloc, book, table, question, zone),
-        Command::Certify => answer_certify(alloc, book, table, question),
-        Command::Check => check(alloc, book, table, &given.certificate, zone),
-        Command::Heights => answer_heights(alloc, book, table, question, zone),
-        Command::Calendar => answer_calendar(alloc, book, table, question, zone),
+        Command::Predict
+        | Command::Certify
+        | Command::Heights
+        | Command::Calendar
+        | Command::Highest
+        | Command::Peak => answer_span(alloc, book, table, question, zone),
         Command::Clock => answer_clock(alloc, book, table, question, given),
+        Command::About => answer_about(alloc, book, table, question),
+        Command::Check => check(alloc, book, table, &given.certificate, zone),
+        Command::PeakCheck => check_peak_text(alloc, book, table, &given.certificate),
         Command::Stations => answer_stations(alloc, book.get(), table),
         Command::Sample | Command::Trial => answer_alone(alloc, question),
-        Command::Highest => answer_highest(alloc, book, table, question, zone),
-        Command::Peak => answer_peak(alloc, book, table, question),
-        Command::PeakCheck => check_peak_text(alloc, book, table, &given.certificate),
-        Command::About => answer_about(alloc, book, table, question),
         Command::Report | Command::Serve => Err(Refusal::NoStation),
     }
 }
 
+/// The answer to a command that is asked of a span.
 #[tactic(auto, unfolding(crate::specs::Answers::asks_span))]
-fn answer_predict(
+fn answer_span(
     alloc: Global,
     book: &SoundBook<'_>,
     table: &OffsetTable,
     question: &SoundQuestion<'_>,
     zone: &ZoneClock<'_>,
 ) -> Result<Answer, Refusal>
-    ensures exact { Gives wants_memory_of_refusal (asks_span question.now (λ name asked. predicted book.now table.now name asked question.now.layout zone.now)) result }
+    ensures exact { Gives wants_memory_of_refusal (asks_span question.now (text_over question.now.command book.now table.now question.now zone.now)) result }
     ensures told { IfErr result (IsToldRefusal table.now) }
 {
     let name = station_named(question)?;
     let asked = span_named(question)?;
-    let layout = question.get().layout;
-    predict(alloc, book, table, name, &asked, layout, zone)
-}
-
-#[tactic(auto, unfolding(crate::specs::Answers::asks_span))]
-fn answer_certify(
-    alloc: Global,
-    book: &SoundBook<'_>,
-    table: &OffsetTable,
-    question: &SoundQuestion<'_>,
-) -> Result<Answer, Refusal>
-    ensures exact { Gives wants_memory_of_refusal (asks_span question.now (λ name asked. certified book.now table.now name asked)) result }
-    ensures told { IfErr result (IsToldRefusal table.now) }
-{
-    let name = station_named(question)?;
-    let asked = span_named(question)?;
-    certify(alloc, book, table, name, &asked)
-}
-
-#[tactic(auto, unfolding(crate::specs::Answers::asks_span))]
-fn answer_heights(
-    alloc: Global,
-    book: &SoundBook<'_>,
-    table: &OffsetTable,
-    question: &SoundQuestion<'_>,
-    zone: &ZoneClock<'_>,
-) -> Result<Answer, Refusal>
-    ensures exact { Gives wants_memory_of_refusal (asks_span question.now (λ name asked. heights book.now table.now name asked question.now.step question.now.layout zone.now)) result }
-    ensures told { IfErr result (IsToldRefusal table.now) }
-{
-    let name = station_named(question)?;
-    let asked = span_named(question)?;
-    let Question { step, layout, .. } = question.get();
-    list_heights(alloc, book, table, name, &asked, *step, *layout, zone)
-}
-
-#[tactic(auto, unfolding(crate::specs::Answers::asks_span))]
-fn answer_calendar(
-    alloc: Global,
-    book: &SoundBook<'_>,
-    table: &OffsetTable,
-    question: &SoundQuestion<'_>,
-    zone: &ZoneClock<'_>,
-) -> Result<Answer, Refusal>
-    ensures exact { Gives wants_memory_of_refusal (asks_span question.now (λ name asked. on_calendar book.now table.now name asked zone.now)) result }
-    ensures told { IfErr result (IsToldRefusal table.now) }
-{
-    let name = station_named(question)?;
-    let asked = span_named(question)?;
-    list_days(alloc, book, table, name, &asked, zone)
+    let Question { layout, step, .. } = question.get();
+    match question.get().command {
+        Command::Predict => predict(alloc, book, table, name, &asked, *layout, zone),
+        Command::Certify => certify(alloc, book, table, name, &asked),
+        Command::Heights => list_heights(alloc, book, table, name, &asked, *step, *layout, zone),
+        Command::Calendar => list_days(alloc, book, table, name, &asked, zone),
+        Command::Highest => tell_highest(alloc, book, table, name, &asked, zone),
+        Command::Peak => certify_peak(alloc, book, table, name, &asked),
+        _ => Err(Refusal::NoStation),
+    }
 }
 
 #[tactic(auto, unfolding(crate::specs::Answers::asks_name))]
@@ -172,37 +133,6 @@ fn answer_stations(alloc: Global, book: &Book, table: &OffsetTable) -> Result<An
     ensures memory { IfErr result (λ refusal. refusal ≡ Refusal.NoMemory) }
 {
     Ok(text_alone(stations_text(alloc, book, table)?))
-}
-
-#[tactic(auto, unfolding(crate::specs::Answers::asks_span))]
-fn answer_highest(
-    alloc: Global,
-    book: &SoundBook<'_>,
-    table: &OffsetTable,
-    question: &SoundQuestion<'_>,
-    zone: &ZoneClock<'_>,
-) -> Result<Answer, Refusal>
-    ensures exact { Gives wants_memory_of_refusal (asks_span question.now (λ name asked. highest book.now table.now name asked zone.now)) result }
-    ensures told { IfErr result (IsToldRefusal table.now) }
-{
-    let name = station_named(question)?;
-    let asked = span_named(question)?;
-    tell_highest(alloc, book, table, name, &asked, zone)
-}
-
-#[tactic(auto, unfolding(crate::specs::Answers::asks_span))]
-fn answer_peak(
-    alloc: Global,
-    book: &SoundBook<'_>,
-    table: &OffsetTable,
-    question: &SoundQuestion<'_>,
-) -> Result<Answer, Refusal>
-    ensures exact { Gives wants_memory_of_refusal (asks_span question.now (λ name asked. peak_certified book.now table.now name asked)) result }
-    ensures told { IfErr result (IsToldRefusal table.now) }
-{
-    let name = station_named(question)?;
-    let asked = span_named(question)?;
-    certify_peak(alloc, book, table, name, &asked)
 }
 
 #[tactic(auto, unfolding(crate::specs::Answers::asks_name))]
