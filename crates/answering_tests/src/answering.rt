@@ -9,7 +9,6 @@ ghost use Rattle.question.specs.Asked.{IsAsked};
 ghost use Rattle.tide_answer.specs.Givens.{IsGiven};
 ghost use Rattle.tide_fault.specs.Faults.{IsTold};
 
-use crate::texts::words_of;
 use decimal_text::{Bytes, Text};
 use harmonics_text::{Book, BookFault, read_book};
 use question::{AskFault, Command, Question, SoundQuestion, pairs_of_words, read_question};
@@ -21,6 +20,7 @@ use station_table::{OffsetFault, OffsetTable, read_offsets};
 use std::alloc::{AllocError, Global};
 use std::process::Abort;
 use std::test::Fail;
+use texts_for_tests::words_of;
 use tide_answer::{
     Fault, Given, Slot, accepted_is_true, accepted_peak_is_true, answer, answer_alone, answer_into,
     certified_is_accepted, fault_line, fault_status, highest_is_told, peak_certified_is_accepted,

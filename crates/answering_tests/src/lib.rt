@@ -1,16 +1,8 @@
-//! Tests of the crates that answer: of a question, of a whole run, and of requests over HTTP.
+//! Tests of what answers a question: its answers, refusals and certificates.
 //!
-//! They see only what is public of those crates. They stand here because a crate with tests is proved
+//! They see only what is public of the crates below. They stand here because a crate with tests is proved
 //! twice: with and without them.
 #![tactic(auto)]
 
 #[cfg(test)]
 mod answering;
-#[cfg(test)]
-mod desk;
-#[cfg(test)]
-mod server;
-#[cfg(test)]
-mod stamp;
-#[cfg(test)]
-mod texts;

@@ -1,6 +1,6 @@
 //! The rows of the tests: expected values are those of an independent program.
 
-use crate::texts::DAY;
+use texts_for_tests::DAY;
 
 pub const PREDICT: &str =
     "predict|file=pier.txt|station=Pier|begin=2000-01-10T00:00Z|end=2000-01-11T00:00Z";

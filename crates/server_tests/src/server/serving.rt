@@ -5,11 +5,11 @@ ghost use Rattle.std.specs.List.{list_all};
 ghost use Rattle.tide_edge.specs.Memory.{are_pieces};
 
 use super::with_fields;
-use crate::texts::{PIER, words_of};
 use decimal_text::{Bytes, Text};
 use std::alloc::{AllocError, Global};
 use std::process::Abort;
 use std::test::Fail;
+use texts_for_tests::{PIER, words_of};
 use tide_answer::Status;
 use tide_edge::{FixedClock, MemoryDoor, MemoryFiles, MemorySink, NamedFile};
 use tide_server::serve;

@@ -1,9 +1,9 @@
 //! A server whose clock goes on, and one whose reply is long.
 
 use super::serving::{Coming, files_of, requests_of};
-use crate::texts::words_of;
 use std::alloc::Global;
 use std::test::Fail;
+use texts_for_tests::words_of;
 use tide_answer::Status;
 use tide_edge::{Clock, Failed, FixedClock, MemoryDoor, MemorySink};
 use tide_server::serve;

@@ -3,13 +3,13 @@
 ghost use Rattle.std.specs.Prelude.{IfOk};
 ghost use Rattle.harmonics_text.specs.Books.{IsBook};
 
-use crate::texts::{DAY, PIER};
 use arrayvec::ArrayString;
 use decimal_text::Bytes;
 use harmonics_text::{Book, BookFault, read_book};
 use station_table::{OffsetFault, OffsetTable, read_offsets};
 use std::alloc::Global;
 use std::test::Fail;
+use texts_for_tests::{DAY, PIER};
 use tide_server::{fixed_reply, reply};
 
 const TABLE: &[u8] = b"name,reference,high_add,low_add,high_times,low_times,high_plus,low_plus\n\

@@ -1,4 +1,5 @@
-//! Texts that several of the tests take.
+//! Texts that the tests of several crates take.
+#![tactic(auto)]
 
 use decimal_text::{Text, Words};
 use std::alloc::{AllocError, Global};

@@ -5,7 +5,6 @@ mod files;
 mod reports;
 mod rows;
 
-use crate::texts::{DAY, PIER, words_of};
 use decimal_text::{Bytes, Text};
 use files::*;
 use report_sheets::Sheet;
@@ -13,6 +12,7 @@ use rows::*;
 use std::alloc::{AllocError, Global};
 use std::process::Abort;
 use std::test::Fail;
+use texts_for_tests::{DAY, PIER, words_of};
 use tide_answer::Status;
 use tide_desk::run;
 use tide_edge::{FixedClock, MemoryFiles, MemorySink, NamedFile};

@@ -1,0 +1,8 @@
+//! Tests of requests over HTTP, their replies, and the server.
+//!
+//! They see only what is public of the crates below. They stand here because a crate with tests is proved
+//! twice: with and without them.
+#![tactic(auto)]
+
+#[cfg(test)]
+mod server;
