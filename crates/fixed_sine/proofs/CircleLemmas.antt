@@ -1,10 +1,9 @@
 -- Places on the circle: folded onto its first quarter, and how large the sine is there.
-use Rattle.std.proofs.Common.{◌≡◌, ℕ, zero, suc, ◌+◌, ◌-◌, ◌/◌, ◌%◌, ◌<◌, ◌≤◌, inl, inr, nat_lt, refl, sym, ap, ◌∙◌, arith, lit≤, ℤ, pos, neg_ℤ, ◌-ℤ◌, unsigned_abs, get_or, to_z, of_z, w64}
+use Rattle.std.proofs.Common.{◌≡◌, ℕ, zero, suc, ◌+◌, ◌-◌, ◌/◌, ◌%◌, ◌<◌, ◌≤◌, inl, inr, nat_lt, refl, sym, ap, ◌∙◌, arith, lit≤, ℤ, pos, negsuc, neg_ℤ, ◌-ℤ◌, unsigned_abs, get_or, to_z, of_z, w64}
 use Rattle.std.proofs.lemmas.Bool.{cases_lt, cond-true, cond-false, lt-ltb, le-ltb}
-use Rattle.std.proofs.lemmas.Int.{ints, to_z_pos}
-use Rattle.fixed_sine.specs.declared.table.TheConstants.{CORRECTIONS}
+use Rattle.std.proofs.lemmas.Int.{ints, to_z-of_z, fits_signed_from_abs}
 use Rattle.fixed_sine.specs.Circle.{degree}
-use Rattle.fixed_sine.specs.Table.{sines}
+use Rattle.fixed_sine.specs.Table.{sines, correction}
 use Rattle.fixed_sine.specs.Sine.{quarter_of, half_of, isin_of, icos_of}
 use Rattle.fixed_sine.proofs.TableLemmas.{sines_rise, correction-size}
 use Rattle.fixed_sine.proofs.QuarterLemmas.{quarter_of-entries, quarter_of-ninety, gain_bound}
@@ -31,17 +30,18 @@ pub isin_of-second : (p : ℕ) → 108000000000 ≤ p → isin_of p ≡ neg_ℤ 
 unfolding isin_of
 isin_of-second p h = cond-false (nat_lt p 108000000000) _ _ (le-ltb p 108000000000 h)
 
-pub isin_of-first_sign : (p n : ℕ) → p < 108000000000 → n ≤ 1000000000 → pos n ≡ half_of p → to_z w64 n ≡ isin_of p
-isin_of-first_sign p n h small value =
-    to_z_pos w64 n (omega arith) ∙ value ∙ sym (isin_of-first p h)
+pub isin_of-first_sign : (p : ℕ) (z : ℤ) → p < 108000000000 → unsigned_abs z ≤ 1000000000 → z ≡ half_of p → to_z w64 (of_z w64 z) ≡ isin_of p
+isin_of-first_sign p z h small value =
+    to_z-of_z w64 z (fits_signed_from_abs w64 z (omega (arith, small))) ∙ value ∙ sym (isin_of-first p h)
 
-negated : (n : ℕ) → n ≤ 1000000000 → to_z w64 (of_z w64 (pos 0 -ℤ to_z w64 n)) ≡ neg_ℤ (pos n)
-negated zero h = refl
-negated (suc n) h = omega (arith, ints)
+negated : (z : ℤ) → unsigned_abs z ≤ 1000000000 → to_z w64 (of_z w64 (pos 0 -ℤ to_z w64 (of_z w64 z))) ≡ neg_ℤ z
+negated (pos zero) h = refl
+negated (pos (suc n)) h = omega (arith, ints)
+negated (negsuc n) h = omega (arith, ints)
 
-pub isin_of-second_sign : (p n : ℕ) → 108000000000 ≤ p → n ≤ 1000000000 → pos n ≡ half_of (p - 108000000000) → to_z w64 (of_z w64 (pos 0 -ℤ to_z w64 n)) ≡ isin_of p
-isin_of-second_sign p n h small value =
-    negated n small ∙ ap neg_ℤ value ∙ sym (isin_of-second p h)
+pub isin_of-second_sign : (p : ℕ) (z : ℤ) → 108000000000 ≤ p → unsigned_abs z ≤ 1000000000 → z ≡ half_of (p - 108000000000) → to_z w64 (of_z w64 (pos 0 -ℤ to_z w64 (of_z w64 z))) ≡ isin_of p
+isin_of-second_sign p z h small value =
+    negated z small ∙ ap neg_ℤ value ∙ sym (isin_of-second p h)
 
 pub icos_of-ahead : (p a : ℕ) → a ≡ (p + 54000000000) % 216000000000 → icos_of p ≡ isin_of a
 unfolding icos_of
@@ -51,10 +51,10 @@ quarter_of-first : (p : ℕ) → p < 54000000000 → IsUnsignedSine (quarter_of 
 quarter_of-first p h =
     let k = p / degree in
     let rising = sines_rise k (omega arith) in
-    let little = gain_bound (p % degree) (get_or sines (k + 1) 0 - get_or sines k 0) (get_or CORRECTIONS k 0) (omega arith) rising.enough in
+    let little = gain_bound (p % degree) (get_or sines (k + 1) 0 - get_or sines k 0) (unsigned_abs (correction k)) (omega arith) rising.enough in
     record {
       size = _;
-      value = quarter_of-entries p (get_or CORRECTIONS k 0) (omega arith) (correction-size k (omega arith));
+      value = quarter_of-entries p (unsigned_abs (correction k)) (omega arith) (correction-size k (omega arith));
       most = omega (arith, little, rising.up, rising.capped);
     }
 
@@ -73,7 +73,7 @@ half_of_size p h =
       | inr above ↦ rw (half_of-second p above) (quarter_of_size (108000000000 - p) (omega arith))
     ]
 
-size_from : (z : ℤ) → IsUnsignedSine z → unsigned_abs z ≤ 1000000000
+pub size_from : (z : ℤ) → IsUnsignedSine z → unsigned_abs z ≤ 1000000000
 size_from z s = rw s.value s.most
 
 size_from_negative : (z : ℤ) → IsUnsignedSine z → unsigned_abs (neg_ℤ z) ≤ 1000000000

@@ -2,3 +2,5 @@ pub mod TableLemmas
 pub mod QuarterLemmas
 pub mod CircleLemmas
 pub mod RateLemmas
+pub mod RowLemmas
+pub mod EstimateLemmas

@@ -1,5 +1,5 @@
--- The quick form of the interpolation: unsigned, in 64 bits, and equal to the signed formula.
-use Rattle.std.proofs.Common.{◌≡◌, ℕ, zero, suc, ◌+◌, ◌-◌, ◌*◌, ◌/◌, ◌%◌, ◌<◌, ◌≤◌, refl, sym, ap, ◌∙◌, arith, pos, neg_ℤ, ◌+ℤ◌, ◌-ℤ◌, ◌*ℤ◌, unsigned_abs, get_or, nat_le}
+-- The interpolation on the first quarter in numbers without a sign, equal to the signed formula.
+use Rattle.std.proofs.Common.{◌≡◌, ℕ, zero, suc, ◌+◌, ◌-◌, ◌*◌, ◌/◌, ◌%◌, ◌<◌, ◌≤◌, refl, sym, ap, ◌∙◌, arith, pos, neg_ℤ, ◌+ℤ◌, ◌-ℤ◌, ◌*ℤ◌, get_or, nat_le}
 use Rattle.std.proofs.lemmas.Bool.{cond-true, le-leb}
 use Rattle.std.proofs.lemmas.Int.{ints}
 use Rattle.std.proofs.lemmas.Nat.{mul-le}
@@ -20,7 +20,7 @@ rise-entries k h =
     rw (sine_at-entry (k + 1) (omega arith), sine_at-entry k (omega arith))
     (difference (get_or sines k 0) (get_or sines (k + 1) 0) (sines_rise k h).up)
 
-minus_times : (g c : ℕ) → pos g *ℤ neg_ℤ (pos c) ≡ neg_ℤ (pos (g * c))
+pub minus_times : (g c : ℕ) → pos g *ℤ neg_ℤ (pos c) ≡ neg_ℤ (pos (g * c))
 minus_times g zero = omega (arith, ints)
 minus_times g (suc c) = refl
 
@@ -62,43 +62,10 @@ unfolding quarter_of scaled_between correction sine_at sines
 quarter_of-ninety = refl
 
 -- the same gain by the slope where the degree begins
-by_slope : (r u c : ℕ) → r ≤ degree → r * ((2400000000 * u + 600000000 * c) - r * c) ≡ 2400000000 * r * u + r * (600000000 - r) * c
+pub by_slope : (r u c : ℕ) → r ≤ degree → r * ((2400000000 * u + 600000000 * c) - r * c) ≡ 2400000000 * r * u + r * (600000000 - r) * c
 by_slope r u c h =
     let q = 600000000 - r in
     let all : 600000000 ≡ r + q = omega arith in
     let split : 600000000 * c ≡ r * c + q * c = ap (λ n. n * c) all ∙ (omega arith) in
     let inner : (2400000000 * u + 600000000 * c) - r * c ≡ 2400000000 * u + q * c = omega arith in
     ap (λ n. r * n) inner ∙ (omega arith)
-
-pub gain_by_slope : (k r c slope gain : ℕ) → r ≤ degree → correction k ≡ neg_ℤ (pos c) → slope ≡ 2400000000 * (get_or sines (k + 1) 0 - get_or sines k 0) + 600000000 * unsigned_abs (correction k) → gain ≡ r * (slope - r * c) / 1440000000000000000 → gain ≡ (2400000000 * r * (get_or sines (k + 1) 0 - get_or sines k 0) + r * (600000000 - r) * c) / 1440000000000000000
-gain_by_slope k r c slope gain h size is_slope is_gain =
-    let rise = get_or sines (k + 1) 0 - get_or sines k 0 in
-    let entry : slope ≡ 2400000000 * rise + 600000000 * c = omega (arith, ints, size, is_slope) in
-    is_gain ∙ ap (λ s. r * (s - r * c) / 1440000000000000000) entry ∙ ap (λ n. n / 1440000000000000000) (by_slope r rise c h)
-
--- the quotient or one less
-pub record IsEstimate (least scaled : ℕ) : Type 0 where
-  pub under : least * 1440000000000000000 ≤ scaled
-  pub near : scaled < least * 1440000000000000000 + 2880000000000000000
-
-pub estimate : (r inner : ℕ) → r ≤ 600000000 → inner ≤ 41889600000000000 → IsEstimate (r * (inner / 4194304) / 16777216 * 13432509 / 274877906944) (r * inner)
-estimate r inner h small =
-    let high = inner / 4194304 in
-    let low = inner % 4194304 in
-    let split : inner ≡ 4194304 * high + low = omega arith in
-    let product : r * inner ≡ 4194304 * (r * high) + r * low = ap (λ n. r * n) split ∙ (omega arith) in
-    let cut = mul-le r low 600000000 4194303 h (omega arith) in
-    let most = mul-le r high 600000000 9987258911 h (omega arith) in
-    record { under = omega arith; near = omega arith }
-
-pub estimate_reached : (least scaled : ℕ) → IsEstimate least scaled → scaled - least * 1440000000000000000 < 1440000000000000000 → least ≡ scaled / 1440000000000000000
-estimate_reached least scaled near little = omega arith
-
-pub estimate_short : (least scaled : ℕ) → IsEstimate least scaled → 1440000000000000000 ≤ scaled - least * 1440000000000000000 → least + 1 ≡ scaled / 1440000000000000000
-estimate_short least scaled near much = omega arith
-
--- no degree gains more than the steepest
-pub gain_small : (r inner : ℕ) → r ≤ 600000000 → inner ≤ 41889600000000000 → r * inner / 1440000000000000000 ≤ 17454000
-gain_small r inner h small =
-    let most = mul-le r inner 600000000 41889600000000000 h small in
-    omega arith

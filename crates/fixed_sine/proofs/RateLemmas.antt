@@ -3,12 +3,11 @@ use Rattle.std.proofs.Common.{◌≡◌, ℕ, zero, suc, ◌+◌, ◌-◌, ◌*�
 use Rattle.std.proofs.lemmas.Bool.{cases_lt, cond-true, cond-false, lt-ltb, le-ltb}
 use Rattle.std.proofs.lemmas.Int.{ints}
 use Rattle.std.proofs.lemmas.Nat.{mul-le}
-use Rattle.fixed_sine.specs.declared.table.TheConstants.{CORRECTIONS}
-use Rattle.fixed_sine.specs.Table.{sines, correction}
+use Rattle.fixed_sine.specs.Table.{sines, sine_at, correction}
 use Rattle.fixed_sine.specs.Sine.{quarter_of, half_of, isin_of}
 use Rattle.fixed_sine.specs.Rate.{step_of, RateLaw}
 use Rattle.fixed_sine.proofs.TableLemmas.{correction-size, sines_rise}
-use Rattle.fixed_sine.proofs.QuarterLemmas.{scaled_between-entries, scaled_quotient, quarter_of-ninety}
+use Rattle.fixed_sine.proofs.QuarterLemmas.{scaled_between-entries, quarter_of-ninety}
 use Rattle.fixed_sine.proofs.CircleLemmas.{half_of-first, half_of-second, isin_of-first, isin_of-second}
 
 -- two numbers at most that far apart
@@ -46,7 +45,7 @@ formula-begin s u c = omega arith
 
 -- 4 * degree^2 times the sine on the first quarter
 unfoldable scaled : ℕ → ℕ → ℕ
-scaled k r = formula (get_or sines k 0) (get_or sines (k + 1) 0 - get_or sines k 0) (get_or CORRECTIONS k 0) r
+scaled k r = formula (get_or sines k 0) (get_or sines (k + 1) 0 - get_or sines k 0) (unsigned_abs (correction k)) r
 
 scaled-step : (k r : ℕ) → k < 90 → r < 600000000 → IsNear 41889600000000000 (scaled k (r + 1)) (scaled k r)
 unfolding scaled
@@ -90,7 +89,7 @@ quarter_of-below p h =
     rw (scaled_between-entries (p / 600000000) (p % 600000000) _ (omega arith) (correction-size (p / 600000000) (omega arith)))
 
 num-end : num 54000000000 ≡ 1440000000000000000000000000
-unfolding num scaled formula sines
+unfolding num scaled formula sines correction sine_at
 num-end = refl
 
 quarter_of-num : (p : ℕ) → p ≤ 54000000000 → quarter_of p ≡ pos (num p / 1440000000000000000)
@@ -113,19 +112,10 @@ num-between k r h small =
 pub num-formula : (k r : ℕ) → k < 90 → r ≤ 600000000 → num (600000000 * k + r) ≡ formula (get_or sines k 0) (get_or sines (k + 1) 0 - get_or sines k 0) (unsigned_abs (correction k)) r
 unfolding scaled
 num-formula k r h small =
-    let size : get_or CORRECTIONS k 0 ≡ unsigned_abs (correction k) = omega (arith, ints, correction-size k h) in
-    num-between k r h small ∙ ap (λ c. formula (get_or sines k 0) (get_or sines (k + 1) 0 - get_or sines k 0) c r) size
-
--- the sine between two degrees, the second one included
-pub quarter_of-between : (k r c : ℕ) → k < 90 → r ≤ 600000000 → correction k ≡ neg_ℤ (pos c) → quarter_of (600000000 * k + r) ≡ pos (get_or sines k 0 + (2400000000 * r * (get_or sines (k + 1) 0 - get_or sines k 0) + r * (600000000 - r) * c) / 1440000000000000000)
-unfolding scaled formula
-quarter_of-between k r c h small size =
-    let same : c ≡ get_or CORRECTIONS k 0 = omega (arith, ints, size, correction-size k h) in
-    rw same
-    (quarter_of-num (600000000 * k + r) (omega arith) ∙ ap (λ n. pos (n / 1440000000000000000)) (num-between k r h small) ∙ ap pos (scaled_quotient _ _ _))
+    num-between k r h small
 
 num-begin : num 0 ≡ 0
-unfolding num scaled formula sines
+unfolding num scaled formula sines correction sine_at
 num-begin = refl
 
 -- the same on the first half of the circle, up to its end
@@ -159,7 +149,7 @@ half_num-step i h =
           rw (here, next) (turned _ _ _ (num-step q (omega arith))))
     ]
 
-half_of-num : (i : ℕ) → i < 108000000000 → half_of i ≡ pos (half_num i / 1440000000000000000)
+pub half_of-num : (i : ℕ) → i < 108000000000 → half_of i ≡ pos (half_num i / 1440000000000000000)
 half_of-num i h =
     elim (cases_lt i 54000000000) [
       | inl first ↦ half_of-first i first ∙ quarter_of-num i (omega arith)

@@ -1,24 +1,24 @@
 -- Facts about every entry of the table, each by a test that computes over all of it.
-use Rattle.std.proofs.Common.{◌≡◌, ℕ, ◌+◌, ◌-◌, ◌*◌, ◌^◌, ◌<◌, ◌≤◌, Bool, true, ◌&&◌, nat_eq, nat_le, nat_lt, refl, arith, ℤ, pos, neg_ℤ, ◌+ℤ◌, ◌-ℤ◌, ◌*ℤ◌, ◌≤ℤ◌, unsigned_abs, get_or, int_le}
+use Rattle.std.proofs.Common.{◌≡◌, ℕ, ◌+◌, ◌-◌, ◌*◌, ◌^◌, ◌<◌, ◌≤◌, Bool, true, ◌&&◌, nat_le, nat_lt, min, refl, arith, ℤ, pos, neg_ℤ, ◌+ℤ◌, ◌-ℤ◌, ◌*ℤ◌, ◌≤ℤ◌, unsigned_abs, get_or, int_le}
 use Rattle.std.specs.Ordering.{int_eq}
-use Rattle.std.proofs.lemmas.Bool.{agree_below_at, eqb-true, leb-true, and_parts}
+use Rattle.std.proofs.lemmas.Bool.{agree_below_at, leb-true, and_parts}
 use Rattle.std.proofs.lemmas.Bool.Decides.{Decides-int_eq}
 use Rattle.std.proofs.lemmas.Int.{ints}
-use Rattle.fixed_sine.specs.declared.table.TheConstants.{CORRECTIONS, SLOPES}
+use Rattle.fixed_sine.specs.declared.table.TheConstants.{ROWS}
 use Rattle.fixed_sine.specs.Table.{sines, sine_at, rise, correction}
 
 le_from_test : (a b : ℤ) → int_le a b ≡ true → a ≤ℤ b
 le_from_test a b h = grind (arith, ints)
 
--- the corrections of the code
-unfoldable is_correction : ℕ → Bool
-is_correction k = int_eq (correction k) (neg_ℤ (pos (get_or CORRECTIONS k 0)))
+-- no correction is above 0
+unfoldable falls : ℕ → Bool
+falls k = int_eq (correction k) (neg_ℤ (pos (unsigned_abs (correction k))))
 
-pub correction-size : (k : ℕ) → k < 90 → correction k ≡ neg_ℤ (pos (get_or CORRECTIONS k 0))
-unfolding is_correction correction sine_at sines
+pub correction-size : (k : ℕ) → k < 90 → correction k ≡ neg_ℤ (pos (unsigned_abs (correction k)))
+unfolding falls correction sine_at sines
 correction-size k h =
-    (Decides-int_eq (correction k) (neg_ℤ (pos (get_or CORRECTIONS k 0)))).0
-    (agree_below_at is_correction (λ _. true) 90 k refl h)
+    (Decides-int_eq (correction k) (neg_ℤ (pos (unsigned_abs (correction k))))).0
+    (agree_below_at falls (λ _. true) 90 k refl h)
 
 -- the first check of the table
 unfoldable gains_little : ℕ → Bool
@@ -45,7 +45,7 @@ unfoldable rises : ℕ → Bool
 rises k =
     let here = get_or sines k 0 in
     let next = get_or sines (k + 1) 0 in
-    let size = get_or CORRECTIONS k 0 in
+    let size = unsigned_abs (correction k) in
     nat_le here next
     && (nat_lt next (here + 33554432)
     && (nat_le size (4 * (next - here))
@@ -58,8 +58,8 @@ pub record IsRising (here next size : ℕ) : Type 0 where
   pub capped : next ≤ 1000000000
   pub gentle : 4 * (next - here) + size ≤ 69816000
 
-pub sines_rise : (k : ℕ) → k < 90 → IsRising (get_or sines k 0) (get_or sines (k + 1) 0) (get_or CORRECTIONS k 0)
-unfolding rises sines
+pub sines_rise : (k : ℕ) → k < 90 → IsRising (get_or sines k 0) (get_or sines (k + 1) 0) (unsigned_abs (correction k))
+unfolding rises correction sine_at sines
 sines_rise k h =
     let all = and_parts _ _ (agree_below_at rises (λ _. true) 90 k refl h) in
     let rest = and_parts _ _ all.1 in
@@ -73,11 +73,26 @@ sines_rise k h =
       gentle = leb-true _ _ last.1;
     }
 
--- the slopes of the code
-unfoldable is_slope : ℕ → Bool
-is_slope k =
-    nat_eq (get_or SLOPES k 0) (2400000000 * (get_or sines (k + 1) 0 - get_or sines k 0) + 600000000 * get_or CORRECTIONS k 0)
+-- the rows of the code
+unfoldable is_row : ℕ → Bool
+is_row k =
+    let row = get_or ROWS k (pos 0, 0, 0) in
+    int_eq row.0 ((pos 2400000000 *ℤ rise k) +ℤ pos (600000000 * row.2))
+    && (int_eq (pos row.1) (sine_at (pos k))
+    && int_eq (correction (min k (179 - k))) (neg_ℤ (pos row.2)))
 
-pub slope-entry : (k : ℕ) → k < 90 → get_or SLOPES k 0 ≡ 2400000000 * (get_or sines (k + 1) 0 - get_or sines k 0) + 600000000 * get_or CORRECTIONS k 0
-unfolding is_slope sines
-slope-entry k h = eqb-true _ _ (agree_below_at is_slope (λ _. true) 90 k refl h)
+pub record IsRow (k : ℕ) (slope : ℤ) (sine size : ℕ) : Type 0 where
+  pub steep : slope ≡ (pos 2400000000 *ℤ rise k) +ℤ pos (600000000 * size)
+  pub here : pos sine ≡ sine_at (pos k)
+  pub bent : correction (min k (179 - k)) ≡ neg_ℤ (pos size)
+
+pub row-entry : (k : ℕ) → k < 180 → IsRow k (get_or ROWS k (pos 0, 0, 0)).0 (get_or ROWS k (pos 0, 0, 0)).1 (get_or ROWS k (pos 0, 0, 0)).2
+unfolding is_row correction sine_at sines
+row-entry k h =
+    let all = and_parts _ _ (agree_below_at is_row (λ _. true) 180 k refl h) in
+    let rest = and_parts _ _ all.1 in
+    record {
+      steep = (Decides-int_eq _ _).0 all.0;
+      here = (Decides-int_eq _ _).0 rest.0;
+      bent = (Decides-int_eq _ _).0 rest.1;
+    }

@@ -3,9 +3,9 @@
 //! A part of a turn is counted in 2^64ths of it. So whole turns fall away where such parts are added
 //! or multiplied, and the degree and the units in it are the leading digits of products.
 
-ghost use Rattle.std.specs.Prelude.{◌≡◌, ◌+◌, ◌-◌, ◌*◌, ◌/◌, ◌%◌, ◌^◌, ◌≤◌, ◌<◌, unsigned_abs};
+ghost use Rattle.std.specs.Prelude.{◌≡◌, ◌+◌, ◌*◌, ◌/◌, ◌%◌, ◌^◌, ◌≤◌, ◌<◌, unsigned_abs};
 ghost use Rattle.fixed_sine.specs.Circle.{circle, degree};
-ghost use Rattle.fixed_sine.specs.Sine.{quarter_of, half_of, isin_of, icos_of};
+ghost use Rattle.fixed_sine.specs.Sine.{isin_of, icos_of};
 ghost use Rattle.fixed_sine.specs.Turn.{turn_of, units_of};
 
 use crate::circle::CIRCLE;
@@ -40,8 +40,8 @@ pub fn turn_sine(turn: u64) -> i64
     ensures value { result ≡ isin_of (units_of turn) }
     ensures size { unsigned_abs result ≤ 1000000000 }
 {
-    let spot = folded(turn);
-    let size = between(spot.degrees, spot.r) as i64;
+    let spot = spot_in_half(turn);
+    let size = between(spot.degrees, spot.r);
     if turn < HALF_TURN { size } else { -size }
 }
 
@@ -53,50 +53,22 @@ pub fn turn_cosine(turn: u64) -> i64
     turn_sine(turn.wrapping_add(QUARTER_TURN))
 }
 
-/// A place on the first quarter of the circle: whole degrees, and units past them.
+/// A place on the first half of the circle: whole degrees, and units past them.
 #[derive(Clone, Copy)]
 struct Spot {
     degrees: usize,
     r: u64,
 }
 
-/// The spot of the first quarter where the sine is as large.
-fn folded(turn: u64) -> Spot
-    ensures degrees { result.degrees < 90 }
-    ensures part { result.r ≤ degree }
-    ensures value { half_of (units_of turn % (circle / 2)) ≡ quarter_of (degree * result.degrees + result.r) }
-{
-    let spot = spot_in_quarter(turn);
-    if turn / QUARTER_TURN % 2 == 0 {
-        spot
-    } else {
-        mirrored(spot)
-    }
-}
-
-/// The spot in the quarter that a part of a turn lies in.
-fn spot_in_quarter(turn: u64) -> Spot
-    ensures degrees { result.degrees < 90 }
+/// The spot in the half that a part of a turn lies in.
+fn spot_in_half(turn: u64) -> Spot
+    ensures degrees { result.degrees < 180 }
     ensures part { result.r < degree }
-    ensures value { degree * result.degrees + result.r ≡ units_of turn % (circle / 4) }
+    ensures value { degree * result.degrees + result.r ≡ units_of turn % (circle / 2) }
 {
-    let degrees = u128::from(turn % QUARTER_TURN * 4) * 90;
+    let degrees = u128::from(turn % HALF_TURN * 2) * 180;
     Spot {
         degrees: (degrees / TURN) as usize,
         r: (degrees % TURN * u128::from(UNITS) / TURN) as u64,
-    }
-}
-
-/// The spot as far before the quarter's end.
-fn mirrored(spot: Spot) -> Spot
-    requires degrees { spot.degrees < 90 }
-    requires part { spot.r < degree }
-    ensures degrees { result.degrees < 90 }
-    ensures part { result.r ≤ degree }
-    ensures value { degree * result.degrees + result.r ≡ circle / 4 - (degree * spot.degrees + spot.r) }
-{
-    Spot {
-        degrees: 89 - spot.degrees,
-        r: UNITS - spot.r,
     }
 }

@@ -1,28 +1,59 @@
-use Rattle.std.proofs.Common.{◌-◌, ◌+◌, arith, get_or}
-use Rattle.std.proofs.lemmas.Int.{ints}
-use Rattle.fixed_sine.specs.Table.{sines}
-use Rattle.fixed_sine.proofs.TableLemmas.{sines_rise}
-use Rattle.fixed_sine.proofs.QuarterLemmas.{gain_bound, gain_by_slope}
-use Rattle.fixed_sine.proofs.RateLemmas.{quarter_of-between}
+use Rattle.std.proofs.Common.{FitsSigned, rules, ◌+◌, ◌*◌, w64, arith}
+use Rattle.std.proofs.lemmas.Int.{to_z-of_z}
+use Rattle.fixed_sine.specs.Sine.{half_of}
+use Rattle.fixed_sine.proofs.TableLemmas.{IsRow}
+use Rattle.fixed_sine.proofs.CircleLemmas.{half_of_size, size_from}
+use Rattle.fixed_sine.proofs.RowLemmas.{gentle, half_of-row, summed}
 use Rattle.fixed_sine.proofs.sine.between.Goals as goal
 
-pub gain-requires-clause-correction : goal.gain-requires-clause-correction
-gain-requires-clause-correction c =
-    omega (arith, ints, c.slope_of_degree-slope.ensures.value, c.correction_size.ensures.value)
+pub mean_slope-requires-clause-slope : goal.mean_slope-requires-clause-slope
+mean_slope-requires-clause-slope c =
+    let row : IsRow c.args.degrees c.row_of-row.result.slope c.row_of-row.result.sine c.row_of-row.result.correction =
+    record {
+      steep = c.row_of-row.ensures.slope;
+      here = c.row_of-row.ensures.sine;
+      bent = c.row_of-row.ensures.correction;
+    }
+    in
+    let fits : FitsSigned w64 c.row_of-row.result.slope = search rules in
+    let slope = to_z-of_z w64 c.row_of-row.result.slope fits in
+    rw slope (gentle c.args.degrees c.args.r c.row_of-row.result.sine c.row_of-row.result.correction c.row_of-row.result.slope c.requires.degrees c.requires.part row).begin
 
-pub overflow_add-result : goal.overflow_add-result
-overflow_add-result c =
-    let rising = sines_rise c.args.degrees c.requires.degrees in
-    omega (arith, rising.up, rising.capped, c.gain.ensures.small)
+pub gain-requires-clause-slope : goal.gain-requires-clause-slope
+gain-requires-clause-slope c =
+    let row : IsRow c.args.degrees c.row_of-row.result.slope c.row_of-row.result.sine c.row_of-row.result.correction =
+    record {
+      steep = c.row_of-row.ensures.slope;
+      here = c.row_of-row.ensures.sine;
+      bent = c.row_of-row.ensures.correction;
+    }
+    in
+    let fits : FitsSigned w64 c.row_of-row.result.slope = search rules in
+    let slope = to_z-of_z w64 c.row_of-row.result.slope fits in
+    let mean_fits : FitsSigned w64 c.mean_slope.result = search rules in
+    let mean = to_z-of_z w64 c.mean_slope.result mean_fits in
+    rw (mean, c.mean_slope.ensures, slope) (gentle c.args.degrees c.args.r c.row_of-row.result.sine c.row_of-row.result.correction c.row_of-row.result.slope c.requires.degrees c.requires.part row).mean
 
 pub returns-clause-value : goal.returns-clause-value
 returns-clause-value c =
-    let gain = gain_by_slope c.args.degrees c.args.r c.correction_size.result c.slope_of_degree-slope.result c.gain.result c.requires.part c.correction_size.ensures.value c.slope_of_degree-slope.ensures.value c.gain.ensures.value in
-    cc (quarter_of-between c.args.degrees c.args.r c.correction_size.result c.requires.degrees c.requires.part c.correction_size.ensures.value)
+    let row : IsRow c.args.degrees c.row_of-row.result.slope c.row_of-row.result.sine c.row_of-row.result.correction =
+    record {
+      steep = c.row_of-row.ensures.slope;
+      here = c.row_of-row.ensures.sine;
+      bent = c.row_of-row.ensures.correction;
+    }
+    in
+    let fits : FitsSigned w64 c.row_of-row.result.slope = search rules in
+    let slope = to_z-of_z w64 c.row_of-row.result.slope fits in
+    let mean_fits : FitsSigned w64 c.mean_slope.result = search rules in
+    let mean = to_z-of_z w64 c.mean_slope.result mean_fits in
+    let least = rw (mean, c.mean_slope.ensures, slope) at c.gain.ensures.least in
+    let most = rw (mean, c.mean_slope.ensures, slope) at c.gain.ensures.most in
+    let value = half_of-row c.args.degrees c.args.r c.row_of-row.result.sine c.row_of-row.result.correction c.row_of-row.result.slope c.gain.result c.requires.degrees c.requires.part row least most in
+    let place = half_of_size (600000000 * c.args.degrees + c.args.r) (omega (arith, c.requires.degrees, c.requires.part)) in
+    summed c.from.result c.gain.result (half_of (600000000 * c.args.degrees + c.args.r)) c.row_of-row.result.sine c.from.ensures value c.gain.ensures.size (size_from _ place)
 
 pub returns-clause-size : goal.returns-clause-size
 returns-clause-size c =
-    let rising = sines_rise c.args.degrees c.requires.degrees in
-    let gain = gain_by_slope c.args.degrees c.args.r c.correction_size.result c.slope_of_degree-slope.result c.gain.result c.requires.part c.correction_size.ensures.value c.slope_of_degree-slope.ensures.value c.gain.ensures.value in
-    let most = gain_bound c.args.r (get_or sines (c.args.degrees + 1) 0 - get_or sines c.args.degrees 0) c.correction_size.result c.requires.part c.correction_size.ensures.small in
-    omega (arith, gain, most, rising.up, rising.capped)
+    rw (returns-clause-value c)
+    (size_from _ (half_of_size (600000000 * c.args.degrees + c.args.r) (omega (arith, c.requires.degrees, c.requires.part))))
