@@ -19,8 +19,10 @@ export function readStations(text) {
 
 const folded = text => text.normalize('NFD').replace(/\p{M}/gu, '').toLowerCase();
 
-/** The stations whose names have each of the words, whatever their accents and capitals. */
+/** The stations whose names have each of the words, whatever their accents and capitals; those that begin with one come first. */
 export function findStations(stations, words) {
   const parts = folded(words).split(/\s+/).filter(Boolean);
-  return stations.filter(({ name }) => parts.every(part => folded(name).includes(part)));
+  const found = stations.filter(({ name }) => parts.every(part => folded(name).includes(part)));
+  const begins = ({ name }) => parts.some(part => folded(name).startsWith(part));
+  return [...found.filter(begins), ...found.filter(station => !begins(station))];
 }

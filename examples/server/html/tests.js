@@ -112,6 +112,7 @@ same('found by a part', find('pie'), ['Pier (old)']);
 same('found by two parts', find('EAST dock'), ['Dock (east)']);
 same('found without accents', find('olhao'), ['Olhão, "Ria"']);
 same('found by accents', find('OLHÃO'), ['Olhão, "Ria"']);
+same('first what begins with it', find('O')[0], 'Olhão, "Ria"');
 same('not found', find('pier dock'), []);
 
 same('an answer', answerOf(200, 'text/csv; charset=utf-8', 'a\n'), 'a\n');
