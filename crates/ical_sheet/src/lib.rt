@@ -19,7 +19,7 @@ mod worked;
 pub use escaping::escape;
 pub use folding::fold;
 pub use laws::{calendars_unfold, folded_lines_unfold, lines_are_cut_between_characters};
-pub use sheet::IcalSheet;
+pub use sheet::{IcalPage, IcalSheet};
 pub use unfolding::unfold;
 pub use worked::{worked_calendars, worked_escapes, worked_folds, worked_stamps, worked_unfolds};
 

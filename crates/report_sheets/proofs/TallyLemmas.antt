@@ -1,5 +1,5 @@
 -- Counts of names, one event after the other.
-use Rattle.std.proofs.Common.{◌≡◌, ◌∙◌, ℕ, ◌+◌, ◌<◌, List, [], ◌∷◌, ◌++◌, length, get_or, set, take, refl, sym, ap, arith, slice_index, ◌==◌, append-nil, append_assoc}
+use Rattle.std.proofs.Common.{◌≡◌, ◌∙◌, ℕ, ◌+◌, ◌<◌, List, [], ◌∷◌, ◌++◌, length, get_or, set, take, sym, ap, slice_index, ◌==◌, append-nil, append_assoc}
 use Rattle.std.specs.List.{flat_map}
 use Rattle.std.proofs.lemmas.Bool.{cases_eq, eq-eqb, ne_eqb}
 use Rattle.std.proofs.lemmas.List.{get_or-set_same, get_or-set_other, take_more}
@@ -8,22 +8,9 @@ use Rattle.std.proofs.lemmas.List.Sums.{count_by_more_yes, count_by_more_no}
 use Rattle.curve_law.specs.declared.event.Event.{Event}
 use Rattle.event_text.specs.Words.{word_of}
 use Rattle.event_text.specs.declared.event_word.EventWord.{EventWord}
-use Rattle.event_text.specs.declared.event_word.EventWord.TheVariants.{HighTide, LowTide, MaxFlood, MinFlood, MaxEbb, MinEbb, SlackFloodBegins, SlackEbbBegins, MarkRising, MarkFalling}
 use Rattle.harmonics_text.specs.declared.book.Units.{Units}
 use Rattle.report_sheets.specs.Tallies.{count_at, count_line, names, place_of}
 use Rattle.std.proofs.Common.{⊎_elim}
-
-place_of-small : (word : EventWord) → place_of word < 10
-place_of-small HighTide = omega arith
-place_of-small LowTide = omega arith
-place_of-small MaxFlood = omega arith
-place_of-small MinFlood = omega arith
-place_of-small MaxEbb = omega arith
-place_of-small MinEbb = omega arith
-place_of-small SlackFloodBegins = omega arith
-place_of-small SlackEbbBegins = omega arith
-place_of-small MarkRising = omega arith
-place_of-small MarkFalling = omega arith
 
 -- one count more at the place of an event's name
 pub count_at-more : (units : Units) (events : List Event) (i : ℕ) (d : Event) (counts : List ℕ) (at place : ℕ) → i < length events → at < length counts
@@ -39,17 +26,6 @@ count_at-more units events i d counts at place within inside is here there =
     (λ other. get_or-set_other counts at place (get_or counts at 0 + 1) 0 (λ e. other (sym e)) ∙ there
     ∙ sym (count_by_more_no (p place) events i d within (ne_eqb _ _ (λ e. other (is ∙ e)))))
     (cases_eq at place)
-
-flat_map-agree : (f g : EventWord → List ℕ) → ((word : EventWord) → f word ≡ g word) → (words : List EventWord) → flat_map f words ≡ flat_map g words
-flat_map-agree f g same [] = refl
-flat_map-agree f g same (word ∷ words) = rw (same word) (ap (λ rest. g word ++ rest) (flat_map-agree f g same words))
-
--- lines of counts that were taken before
-pub lines_counted : (units : Units) (events : List Event) (counts : List ℕ) → ((place : ℕ) → place < 10 → slice_index counts place ≡ count_at units events place)
-    → flat_map (λ word. count_line (slice_index counts (place_of word)) word) names ≡ flat_map (λ word. count_line (count_at units events (place_of word)) word) names
-lines_counted units events counts counted =
-    flat_map-agree (λ word. count_line (slice_index counts (place_of word)) word) (λ word. count_line (count_at units events (place_of word)) word)
-    (λ word. ap (λ count. count_line count word) (counted (place_of word) (place_of-small word))) names
 
 -- the line of one name more
 pub lines_more : (counts start text after : List ℕ) (i place : ℕ) (d : EventWord) → i < 10

@@ -28,7 +28,7 @@ pub struct Collected {
 }
 
 impl Collected {
-    ghost use Rattle.std.specs.Prelude.{◌≡◌, [], ◌++◌, codes, IfOk, OnOk, OnErr};
+    ghost use Rattle.std.specs.Prelude.{◌≡◌, [], IfOk, OnOk, OnErr};
     ghost use Rattle.report_sheets.specs.Sheets.{first_head, taken_of, list_after};
 
     /// No event, and a head of an empty name, feet and minute 0. It takes no memory.
@@ -76,15 +76,5 @@ impl Collected {
         }
         self.events.push(*event)?;
         Ok(Taken::Kept)
-    }
-
-    /// The line of the name, which a page begins with.
-    pub fn name_line(&self) -> Result<Vec<u8>, AllocError>
-        ensures { IfOk result (λ text. text.items ≡ self.now.head.name ++ codes "\n") }
-    {
-        let alloc = *self.events.allocator();
-        let mut text = Vec::from_slice(alloc, self.head.name.as_str().as_bytes())?;
-        text.push(b'\n')?;
-        Ok(text)
     }
 }

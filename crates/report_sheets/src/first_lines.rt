@@ -1,18 +1,16 @@
 //! The sheet of the first events.
 
-ghost use Rattle.std.specs.Prelude.{◌≡◌, [], ◌++◌, OnOk};
+ghost use Rattle.std.specs.Prelude.{◌≡◌, refl, [], ◌++◌, OnOk};
 ghost use Rattle.event_text.specs.Lines.{IsListed, event_line_in};
 ghost use Rattle.report_sheets.specs.Listings.{first_sheet};
-ghost use Rattle.report_sheets.specs.Sheets.{IsLimit, first_head};
 ghost use Rattle.zone_time.specs.declared.zone.Zone.{Zone};
 
-use crate::collected::Collected;
 use crate::head::Head;
-use crate::sheet::Sheet;
-use crate::taken::Taken;
+use crate::layout::Layout;
+use crate::sheet_of::SheetOf;
 use arrayvec::ArrayString;
 use curve_law::Event;
-use decimal_text::{Bytes, Text};
+use decimal_text::Bytes;
 use event_text::event_line;
 use harmonics_text::Units;
 use std::alloc::{AllocError, Global};
@@ -20,51 +18,25 @@ use zone_time::Zone;
 
 /// The sheet `first`: below the station's name, the line of each event in universal time, as
 /// [`event_line`] has it.
-#[derive(Drop)]
-pub struct FirstLines {
-    collected: Collected,
-}
+pub type FirstLines = SheetOf<FirstLinesPage>;
 
-impl FirstLines {
-    /// A sheet that takes from 1 to 1,000,000 events. It takes no memory.
-    pub fn new(alloc: Global, limit: u32) -> FirstLines
-        requires { IsLimit limit }
-        ensures meaning { ⟦<FirstLines as Sheet>⟧.meaning result ≡ first_sheet limit }
-        ensures heading { ⟦<FirstLines as Sheet>⟧.heading result ≡ first_head }
-        ensures list { ⟦<FirstLines as Sheet>⟧.list result ≡ [] }
-    {
-        FirstLines {
-            collected: Collected::new(alloc, limit),
-        }
-    }
-}
+/// The layout of [`FirstLines`].
+pub struct FirstLinesPage;
 
-impl Sheet for FirstLines {
-    ghost meaning = { λ sheet. first_sheet sheet.collected.limit };
+impl Layout for FirstLinesPage {
+    ghost sheet = { first_sheet };
 
-    ghost heading = { λ sheet. sheet.collected.head };
+    ghost limited = { λ _. refl };
 
-    ghost list = { λ sheet. sheet.collected.events.items };
-
-    ghost limited = { λ sheet. sheet.collected.limited };
-
-    fn named(&self, word: &Text) -> bool {
-        word.as_str() == "first"
-    }
-
-    fn open(&mut self, head: &Head) -> Result<(), AllocError> {
-        self.collected.open(head)
-    }
-
-    fn take(&mut self, event: &Event) -> Result<Taken, AllocError> {
-        self.collected.take(event)
+    fn word() -> &'static str {
+        "first"
     }
 
     #[tactic(auto, unfolding(listing::specs::Listings::plain_events_of))]
-    fn text(&self) -> Result<Bytes, AllocError> {
-        let mut text = self.collected.name_line()?;
-        for event in &self.collected.events {
-            push_line(&mut text, self.collected.head.units, event)?;
+    fn text(alloc: Global, head: &Head, events: &[Event]) -> Result<Bytes, AllocError> {
+        let mut text = head.name_line(alloc)?;
+        for event in events {
+            push_line(&mut text, head.units, event)?;
         }
         Ok(Bytes::from_vec(text))
     }

@@ -1,10 +1,10 @@
 //! What a report is about.
 
-ghost use Rattle.std.specs.Prelude.{◌≡◌, IfOk};
+ghost use Rattle.std.specs.Prelude.{◌≡◌, ◌++◌, IfOk, codes};
 
 use decimal_text::Text;
 use harmonics_text::Units;
-use std::alloc::AllocError;
+use std::alloc::{AllocError, Global};
 
 /// What a report is about: a station, its unit, and when the report is made.
 #[derive(Drop)]
@@ -27,5 +27,14 @@ impl Head {
             units: self.units,
             now: self.now,
         })
+    }
+
+    /// The line of the name, which a page begins with.
+    pub fn name_line(&self, alloc: Global) -> Result<Vec<u8>, AllocError>
+        ensures { IfOk result (λ text. text.items ≡ self.entry.now.name ++ codes "\n") }
+    {
+        let mut text = Vec::from_slice(alloc, self.name.as_str().as_bytes())?;
+        text.push(b'\n')?;
+        Ok(text)
     }
 }

@@ -2,8 +2,9 @@
 //!
 //! A [`Sheet`] has a word, is opened with a [`Head`], takes the events one by one up to its limit, and
 //! writes its text. [`Tally`] counts events, [`Ranges`] shows the highest and the lowest water, and
-//! [`FirstLines`] the first events. [`missing`] finds a wanted word that no sheet has, and [`fill`]
-//! makes the text of the wanted sheets. `specs/` has the layouts.
+//! [`FirstLines`] the first events. These are sheets of one form, [`SheetOf`] a [`Layout`].
+//! [`missing`] finds a wanted word that no sheet has, and [`fill`] makes the text of the wanted
+//! sheets. `specs/` has the layouts.
 #![tactic(auto)]
 
 mod collected;
@@ -11,22 +12,26 @@ mod extreme;
 mod first_lines;
 mod head;
 mod laws;
+mod layout;
 mod pages;
 mod ranges;
 mod sheet;
+mod sheet_of;
 mod taken;
 mod tally;
 mod worked;
 
 pub use collected::Collected;
-pub use first_lines::FirstLines;
+pub use first_lines::{FirstLines, FirstLinesPage};
 pub use head::Head;
 pub use laws::pages_show_the_first_events;
+pub use layout::Layout;
 pub use pages::{fill, missing};
-pub use ranges::Ranges;
+pub use ranges::{Ranges, RangesPage};
 pub use sheet::Sheet;
+pub use sheet_of::SheetOf;
 pub use taken::Taken;
-pub use tally::Tally;
+pub use tally::{Tally, TallyPage};
 pub use worked::{worked_pages, worked_ranges, worked_tallies, worked_words};
 
 #[cfg(test)]

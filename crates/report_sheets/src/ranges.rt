@@ -1,20 +1,18 @@
 //! The sheet of the highest and the lowest water.
 
-ghost use Rattle.std.specs.Prelude.{◌≡◌, [], ◌++◌, All, OnOk, Some, codes};
+ghost use Rattle.std.specs.Prelude.{◌≡◌, refl, [], ◌++◌, All, OnOk, Some, codes};
 ghost use Rattle.event_text.specs.Lines.{IsListed};
-ghost use Rattle.report_sheets.specs.Sheets.{IsLimit, first_head};
 ghost use Rattle.report_sheets.specs.Ranges.{extreme_of, range_line, range_sheet};
 ghost use Rattle.report_sheets.specs.Workings.{better_of};
 ghost use Rattle.zone_time.specs.Zones.{InZoneYears};
 
-use crate::collected::Collected;
 use crate::extreme::Extreme;
 use crate::head::Head;
-use crate::sheet::Sheet;
-use crate::taken::Taken;
+use crate::layout::Layout;
+use crate::sheet_of::SheetOf;
 use arrayvec::ArrayString;
 use curve_law::Event;
-use decimal_text::{Bytes, Text};
+use decimal_text::Bytes;
 use event_text::{unit_text, write_level};
 use harmonics_text::Units;
 use std::alloc::{AllocError, Global};
@@ -23,53 +21,25 @@ use zone_time::write_moment;
 /// The sheet `range`: below the station's name, a line such as
 /// `Highest 1.00 feet 2000-01-10T11:59Z` for the first high of greatest level, and one such as
 /// `Lowest -1.00 feet 2000-01-10T06:00Z` for the first low of least level.
-#[derive(Drop)]
-pub struct Ranges {
-    collected: Collected,
-}
+pub type Ranges = SheetOf<RangesPage>;
 
-impl Ranges {
-    /// A sheet that takes from 1 to 1,000,000 events. It takes no memory.
-    pub fn new(alloc: Global, limit: u32) -> Ranges
-        requires { IsLimit limit }
-        ensures meaning { ⟦<Ranges as Sheet>⟧.meaning result ≡ range_sheet limit }
-        ensures heading { ⟦<Ranges as Sheet>⟧.heading result ≡ first_head }
-        ensures list { ⟦<Ranges as Sheet>⟧.list result ≡ [] }
-    {
-        Ranges {
-            collected: Collected::new(alloc, limit),
-        }
-    }
-}
+/// The layout of [`Ranges`].
+pub struct RangesPage;
 
-impl Sheet for Ranges {
-    ghost meaning = { λ sheet. range_sheet sheet.collected.limit };
+impl Layout for RangesPage {
+    ghost sheet = { range_sheet };
 
-    ghost heading = { λ sheet. sheet.collected.head };
+    ghost limited = { λ _. refl };
 
-    ghost list = { λ sheet. sheet.collected.events.items };
-
-    ghost limited = { λ sheet. sheet.collected.limited };
-
-    fn named(&self, word: &Text) -> bool {
-        word.as_str() == "range"
-    }
-
-    fn open(&mut self, head: &Head) -> Result<(), AllocError> {
-        self.collected.open(head)
-    }
-
-    fn take(&mut self, event: &Event) -> Result<Taken, AllocError> {
-        self.collected.take(event)
+    fn word() -> &'static str {
+        "range"
     }
 
     #[tactic(auto, unfolding(crate::specs::Ranges::ranges_of))]
-    fn text(&self) -> Result<Bytes, AllocError> {
-        let units = self.collected.head.units;
-        let events = self.collected.events.as_slice();
-        let mut text = self.collected.name_line()?;
-        push_extreme(&mut text, Extreme::Highest, units, events)?;
-        push_extreme(&mut text, Extreme::Lowest, units, events)?;
+    fn text(alloc: Global, head: &Head, events: &[Event]) -> Result<Bytes, AllocError> {
+        let mut text = head.name_line(alloc)?;
+        push_extreme(&mut text, Extreme::Highest, head.units, events)?;
+        push_extreme(&mut text, Extreme::Lowest, head.units, events)?;
         Ok(Bytes::from_vec(text))
     }
 }

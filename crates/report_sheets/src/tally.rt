@@ -1,18 +1,16 @@
 //! The sheet that counts events.
 
-ghost use Rattle.std.specs.Prelude.{◌≡◌, ℕ, ◌<◌, [], ◌++◌, length, All, OnOk, slice_index};
+ghost use Rattle.std.specs.Prelude.{◌≡◌, refl, ℕ, ◌<◌, [], ◌++◌, length, All, OnOk, slice_index};
 ghost use Rattle.std.specs.List.{flat_map};
 ghost use Rattle.event_text.specs.Lines.{IsListed};
 ghost use Rattle.event_text.specs.Words.{word_of};
-ghost use Rattle.report_sheets.specs.Sheets.{IsLimit, first_head};
 ghost use Rattle.report_sheets.specs.Tallies.{count_at, count_line, names, place_of, tally_sheet};
 
-use crate::collected::Collected;
 use crate::head::Head;
-use crate::sheet::Sheet;
-use crate::taken::Taken;
+use crate::layout::Layout;
+use crate::sheet_of::SheetOf;
 use curve_law::Event;
-use decimal_text::{Bytes, Text};
+use decimal_text::Bytes;
 use event_text::{EventWord, word};
 use harmonics_text::Units;
 use itoa::Buffer;
@@ -34,50 +32,24 @@ const NAMES: [EventWord; 10] = [
 
 /// The sheet `tally`: below the station's name, a line such as `2 High Tide` for each name that an
 /// event has.
-#[derive(Drop)]
-pub struct Tally {
-    collected: Collected,
-}
+pub type Tally = SheetOf<TallyPage>;
 
-impl Tally {
-    /// A sheet that takes from 1 to 1,000,000 events. It takes no memory.
-    pub fn new(alloc: Global, limit: u32) -> Tally
-        requires { IsLimit limit }
-        ensures meaning { ⟦<Tally as Sheet>⟧.meaning result ≡ tally_sheet limit }
-        ensures heading { ⟦<Tally as Sheet>⟧.heading result ≡ first_head }
-        ensures list { ⟦<Tally as Sheet>⟧.list result ≡ [] }
-    {
-        Tally {
-            collected: Collected::new(alloc, limit),
-        }
-    }
-}
+/// The layout of [`Tally`].
+pub struct TallyPage;
 
-impl Sheet for Tally {
-    ghost meaning = { λ sheet. tally_sheet sheet.collected.limit };
+impl Layout for TallyPage {
+    ghost sheet = { tally_sheet };
 
-    ghost heading = { λ sheet. sheet.collected.head };
+    ghost limited = { λ _. refl };
 
-    ghost list = { λ sheet. sheet.collected.events.items };
-
-    ghost limited = { λ sheet. sheet.collected.limited };
-
-    fn named(&self, word: &Text) -> bool {
-        word.as_str() == "tally"
-    }
-
-    fn open(&mut self, head: &Head) -> Result<(), AllocError> {
-        self.collected.open(head)
-    }
-
-    fn take(&mut self, event: &Event) -> Result<Taken, AllocError> {
-        self.collected.take(event)
+    fn word() -> &'static str {
+        "tally"
     }
 
     #[tactic(auto, unfolding(crate::specs::Tallies::tally_of))]
-    fn text(&self) -> Result<Bytes, AllocError> {
-        let counts = counts(self.collected.head.units, self.collected.events.as_slice());
-        let mut text = self.collected.name_line()?;
+    fn text(alloc: Global, head: &Head, events: &[Event]) -> Result<Bytes, AllocError> {
+        let counts = counts(head.units, events);
+        let mut text = head.name_line(alloc)?;
         push_counts(&mut text, &counts)?;
         Ok(Bytes::from_vec(text))
     }

@@ -1,0 +1,67 @@
+//! A sheet of any layout.
+
+ghost use Rattle.std.specs.Prelude.{◌≡◌, []};
+ghost use Rattle.report_sheets.specs.Sheets.{IsLimit, first_head};
+
+use crate::collected::Collected;
+use crate::head::Head;
+use crate::layout::Layout;
+use crate::sheet::Sheet;
+use crate::taken::Taken;
+use curve_law::Event;
+use decimal_text::{Bytes, Text};
+use std::alloc::{AllocError, Global};
+use std::marker::PhantomData;
+
+/// A sheet that collects its events, and writes them in a layout.
+#[derive(Drop)]
+pub struct SheetOf<L> {
+    collected: Collected,
+    layout: PhantomData<L>,
+}
+
+impl<L: Layout> SheetOf<L> {
+    /// A sheet that takes from 1 to 1,000,000 events. It takes no memory.
+    pub fn new(alloc: Global, limit: u32) -> SheetOf<L>
+        requires { IsLimit limit }
+        ensures meaning { ⟦<SheetOf<L> as Sheet>⟧.meaning result ≡ L.sheet limit }
+        ensures heading { ⟦<SheetOf<L> as Sheet>⟧.heading result ≡ first_head }
+        ensures list { ⟦<SheetOf<L> as Sheet>⟧.list result ≡ [] }
+    {
+        SheetOf {
+            collected: Collected::new(alloc, limit),
+            layout: PhantomData,
+        }
+    }
+}
+
+impl<L: Layout> Sheet for SheetOf<L> {
+    ghost meaning = { λ sheet. L.sheet sheet.collected.limit };
+
+    ghost heading = { λ sheet. sheet.collected.head };
+
+    ghost list = { λ sheet. sheet.collected.events.items };
+
+    ghost limited = { λ sheet. rw (L.limited sheet.collected.limit) sheet.collected.limited };
+
+    fn named(&self, word: &Text) -> bool {
+        word.as_str() == L::word()
+    }
+
+    fn open(&mut self, head: &Head) -> Result<(), AllocError> {
+        self.collected.open(head)
+    }
+
+    fn take(&mut self, event: &Event) -> Result<Taken, AllocError> {
+        self.collected.take(event)
+    }
+
+    fn text(&self) -> Result<Bytes, AllocError> {
+        let alloc = *self.collected.events.allocator();
+        L::text(
+            alloc,
+            &self.collected.head,
+            self.collected.events.as_slice(),
+        )
+    }
+}
