@@ -33,7 +33,7 @@ pub use limits::MOST_BYTES;
 pub use names::are_name_bytes;
 pub use numbers::Numbers;
 pub use reading::read;
-pub use rounding::rounded;
+pub use rounding::{rounded, rounded_short};
 pub use sign::split_sign;
 pub use text::Text;
 pub use whole::{are_digits, digits, digits_value, wide_digits, wide_digits_value};

@@ -24,3 +24,24 @@ fn rounded_size(size: u128, unit: u64) -> u128
     let unit = u128::from(unit);
     (2 * size + unit) / (2 * unit)
 }
+
+/// The same of shorter numbers.
+pub fn rounded_short(value: i64, unit: u32) -> i64
+    requires some { 0 < unit }
+    requires room { unsigned_abs value < 2 ^ 61 }
+    ensures exact { result ≡ rounded_of value unit }
+    ensures small { unsigned_abs result ≤ half_up (unsigned_abs value) unit }
+{
+    let size = short_size(value.unsigned_abs(), u64::from(unit)) as i64;
+    if value < 0 { -size } else { size }
+}
+
+fn short_size(size: u64, unit: u64) -> u64
+    requires some { 0 < unit }
+    requires unit { unit < 2 ^ 32 }
+    requires room { size < 2 ^ 61 }
+    ensures exact { result ≡ half_up size unit }
+    ensures small { result ≤ 2 ^ 62 }
+{
+    (unit + 2 * size) / (2 * unit)
+}

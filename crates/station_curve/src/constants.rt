@@ -13,7 +13,7 @@ ghost use Rattle.station_curve.specs.Curves.{waves_of, is_present, year_fault};
 
 use crate::fault::CurveFault;
 use crate::wave::Wave;
-use decimal_text::rounded;
+use decimal_text::rounded_short;
 use fixed_sine::reduce;
 use harmonics_text::{SoundBook, Station};
 use std::alloc::{AllocError, Global};
@@ -122,7 +122,7 @@ fn effective(amplitude: i64, factor: i64) -> i64
     ensures value { result ≡ rounded_of (amplitude *ℤ factor) 1000000 }
     ensures size { unsigned_abs result ≤ 10 ^ 11 }
 {
-    rounded(i128::from(amplitude * factor), 1_000_000) as i64
+    rounded_short(amplitude * factor, 1_000_000)
 }
 
 /// Where a table of all years has a constituent's value of a year.
