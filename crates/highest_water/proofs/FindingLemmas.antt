@@ -1,9 +1,10 @@
 -- The highest point so far, cell by cell.
-use Rattle.std.proofs.Common.{◌≡◌, ◌≤◌, ◌<◌, ◌^◌, ℤ, pos, ◌+ℤ◌, ◌-ℤ◌, ◌≤ℤ◌, ◌<ℤ◌, int_lt, unsigned_abs, true, false, List, refl, sym, ap, ◌∙◌, arith}
+use Rattle.std.proofs.Common.{◌≡◌, ℕ, ◌+◌, ◌*◌, ◌≤◌, ◌<◌, ◌^◌, ℤ, pos, ◌+ℤ◌, ◌-ℤ◌, ◌≤ℤ◌, ◌<ℤ◌, int_lt, unsigned_abs, true, false, List, length, refl, sym, ap, ◌∙◌, arith}
 use Rattle.std.proofs.lemmas.Int.{ints}
 use Rattle.curve_law.specs.declared.point.Point.{Point}
 use Rattle.curve_law.specs.Meaning.{Meaning, IsLawful}
 use Rattle.curve_law.proofs.CoverLemmas.{by_test}
+use Rattle.highest_water.specs.declared.peak.Peak.{Peak}
 use Rattle.highest_water.specs.declared.peak_cell.PeakCell.{PeakCell}
 use Rattle.highest_water.specs.declared.peak_cell.PeakCell.TheVariants.{Under, Single}
 use Rattle.highest_water.specs.Peaks.{IsHighest, is_higher}
@@ -118,3 +119,9 @@ highest-peak_of c begin end at value cells peak is =
     let looked = rw all at (minute-highest c begin (unsigned_abs (end -ℤ begin)) (omega (arith, ints))) in
     let one = highest-one c begin end at value _ _ peak looked in
     rw (is, one.1, one.0) refl
+
+-- the values that the search and then the cover ask for
+pub values-counted : (c : Meaning) (begin end at value : ℤ) (before found after : ℕ) → IsHighest c begin end at value → found ≤ before + 2 * unsigned_abs (end -ℤ begin) + 1 → after ≤ found + length (peak_cover c at value begin (unsigned_abs (end -ℤ begin))) + 1 → after ≤ before + 2 * unsigned_abs (end -ℤ begin) + length (peak_of c begin (unsigned_abs (end -ℤ begin))).cells + 2
+values-counted c begin end at value before found after highest first second =
+    let same = ap (λ (p : Peak). length p.cells) (highest-peak_of c begin end at value _ highest refl) in
+    omega (arith, first, second, same)

@@ -1,6 +1,6 @@
 //! The search for the highest water of a span.
 
-ghost use Rattle.std.specs.Prelude.{◌≡◌, ◌+◌, ◌*◌, ◌^◌, ◌≤◌, pos, ◌-ℤ◌, ◌≤ℤ◌, ◌<ℤ◌, unsigned_abs, IfOk};
+ghost use Rattle.std.specs.Prelude.{◌≡◌, ◌+◌, ◌*◌, ◌^◌, ◌≤◌, pos, ◌-ℤ◌, ◌≤ℤ◌, ◌<ℤ◌, unsigned_abs, length, IfOk};
 ghost use Rattle.interval_search.specs.Workings.Ahead.{minutes_to};
 ghost use Rattle.highest_water.specs.Peaks.{IsHighest};
 ghost use Rattle.highest_water.specs.Covers.{peak_of};
@@ -16,7 +16,8 @@ use std::alloc::{AllocError, Global};
 
 /// The highest water of the minutes from `begin` on and before `end`, which the curve tells: the first
 /// minute that has their greatest value, that value, and the cells that show it. There is at least one
-/// minute, and there are at most 5,270,400. The curve was asked for at most 2^62 values.
+/// minute, and there are at most 5,270,400. The curve was asked for at most 2^62 values, and is asked for
+/// at most two a minute, one a cell of the highest water and two more.
 pub fn find_peak<C: Curve>(
     alloc: Global,
     curve: &mut C,
@@ -30,6 +31,8 @@ pub fn find_peak<C: Curve>(
     requires few { C.count curve.old ≤ 2 ^ 62 }
     ensures highest { IfOk result (λ peak. IsHighest (C.meaning curve.old) begin end peak.at peak.value) }
     ensures peak { IfOk result (λ peak. peak ≡ peak_of (C.meaning curve.old) begin (unsigned_abs (end -ℤ begin))) }
+    ensures count { C.count curve.new ≤ C.count curve.old + 2 * unsigned_abs (end -ℤ begin)
+        + length (peak_of (C.meaning curve.old) begin (unsigned_abs (end -ℤ begin))).cells + 2 }
     ensures same { C.meaning curve.new ≡ C.meaning curve.old }
 {
     let highest = highest_point(curve, begin, end);

@@ -1,7 +1,7 @@
 use Rattle.std.proofs.Common.{w64, FitsSigned, rules}
 use Rattle.std.proofs.lemmas.Int.{to_z-of_z}
 use mir.Syntax.{w128}
-use Rattle.highest_water.proofs.FindingLemmas.{highest-small, highest-peak_of}
+use Rattle.highest_water.proofs.FindingLemmas.{highest-small, highest-peak_of, values-counted}
 use Rattle.highest_water.proofs.finding.find_peak.Goals as goal
 
 pub cells_by-requires-clause-size : goal.cells_by-requires-clause-size
@@ -18,3 +18,25 @@ returns-clause-peak g c =
     let end = to_z-of_z w64 c.args.end c.ranges.end in
     let cells = rw (c.highest_point-highest.ensures.same, begin, end) at c.in_ok-cells.ensures.cells in
     rw (to_z-of_z w64 _ at, to_z-of_z w128 _ value) (highest-peak_of (g.C.Curve.meaning c.args.curve.now) c.args.begin c.args.end _ _ _ highest cells)
+
+pub returns-clause-count : goal.returns-clause-count
+returns-clause-count g c =
+    let begin = to_z-of_z w64 c.args.begin c.ranges.begin in
+    let end = to_z-of_z w64 c.args.end c.ranges.end in
+    let highest = rw (begin, end) at c.highest_point-highest.ensures.highest in
+    let at : FitsSigned w64 c.highest_point-highest.result.minute = search rules in
+    let value : FitsSigned w128 c.highest_point-highest.result.value = search rules in
+    let found = rw (begin, end) at c.highest_point-highest.ensures.count in
+    let after = rw (c.highest_point-highest.ensures.same, begin, end) at c.cells_by.ensures.count in
+    values-counted (g.C.Curve.meaning c.args.curve.now) c.args.begin c.args.end _ _ _ _ _ highest found after
+
+pub returns-in_err-cells-clause-count : goal.returns-in_err-cells-clause-count
+returns-in_err-cells-clause-count g c =
+    let begin = to_z-of_z w64 c.args.begin c.ranges.begin in
+    let end = to_z-of_z w64 c.args.end c.ranges.end in
+    let highest = rw (begin, end) at c.highest_point-highest.ensures.highest in
+    let at : FitsSigned w64 c.highest_point-highest.result.minute = search rules in
+    let value : FitsSigned w128 c.highest_point-highest.result.value = search rules in
+    let found = rw (begin, end) at c.highest_point-highest.ensures.count in
+    let after = rw (c.highest_point-highest.ensures.same, begin, end) at c.cells_by.ensures.count in
+    values-counted (g.C.Curve.meaning c.args.curve.now) c.args.begin c.args.end _ _ _ _ _ highest found after
