@@ -1,6 +1,6 @@
 //! The events of a station over a span, and the cells in which they are found.
 
-ghost use Rattle.std.specs.Prelude.{◌≡◌, ◌≤◌, unsigned_abs, option_map, IfErr, IfOk, OnOk};
+ghost use Rattle.std.specs.Prelude.{◌≡◌, ◌+◌, ◌≤◌, length, unsigned_abs, option_map, IfErr, IfOk, OnOk};
 ghost use Rattle.std.specs.Option.{ForSome};
 ghost use Rattle.cert_text.specs.Certificates.{IsStationName};
 ghost use Rattle.event_list.specs.Events.{cover_over};
@@ -121,26 +121,28 @@ pub fn merge_of<'a>(found: &'a Found, asked: &Asked) -> Merge<TurnCurve<'a>, Mar
     )
 }
 
-/// Where the reference's level turns.
+/// Where the reference's level turns. The curve is asked for at most one value a cell and one more.
 pub fn turn_search<'a>(found: &'a Found, span: &Span) -> Search<TurnCurve<'a>>
     requires { HasMinutes found.now.curve span.now }
     ensures at { result.at ≡ span.now.begin }
     ensures left { result.left ≡ cover_over span.now (turn_meaning Version.Second found.now.curve) }
+    ensures most { result.most ≡ length result.left + 1 }
 {
     Search::new(turn_curve(found, Version::Second), span.begin, span.end)
 }
 
-/// Where a current turns, if that is asked.
+/// Where a current turns, if that is asked, with as few values.
 pub fn slack_search<'a>(found: &'a Found, span: &Span) -> Option<Search<MarkCurve<'a>>>
     requires minutes { HasMinutes found.now.curve span.now }
     requires offsets { HasOffsets found.now.basis }
     ensures at { ForSome result (λ search. search.at ≡ span.now.begin) }
     ensures left { cells_left result ≡ option_map (cover_over span.now) (tide_slack Version.Second found.now) }
+    ensures most { ForSome result (λ search. search.most ≡ length search.left + 1) }
 {
     search_if(slack_curve(found, Version::Second), span)
 }
 
-/// Where the level passes the mark, if there is one.
+/// Where the level passes the mark, if there is one, with as few values.
 pub fn mark_search<'a>(
     found: &'a Found,
     mark: Option<i64>,
@@ -151,6 +153,7 @@ pub fn mark_search<'a>(
     requires mark { ForSome mark (λ level. unsigned_abs level ≤ 10000000000) }
     ensures at { ForSome result (λ search. search.at ≡ span.now.begin) }
     ensures left { cells_left result ≡ option_map (cover_over span.now) (tide_mark Version.Second found.now mark) }
+    ensures most { ForSome result (λ search. search.most ≡ length search.left + 1) }
 {
     search_if(mark_curve(found, Version::Second, mark), span)
 }
@@ -160,6 +163,7 @@ fn search_if<C: Curve>(curve: Option<C>, span: &Span) -> Option<Search<C>>
     requires { ForSome curve (λ c. Tells span.now (C.meaning c) (C.count c)) }
     ensures at { ForSome result (λ search. search.at ≡ span.now.begin) }
     ensures left { cells_left result ≡ option_map (λ c. cover_over span.now (C.meaning c)) curve }
+    ensures most { ForSome result (λ search. search.most ≡ length search.left + 1) }
 {
     match curve {
         Some(curve) => Some(Search::new(curve, span.begin, span.end)),
