@@ -181,6 +181,10 @@ pub const VERDICTS: &[(&str, &str)] = &[
         "Rejected: track turn: cell 2 has level -999999, computed -1000000\n",
     ),
     (
+        "tide certificate 1\nstation Pier\nbegin 2000-01-10T05:59Z\nend 2000-01-10T06:01Z\nmark none\ntrack turn\ns\ns\ndone\n",
+        "Rejected: track turn: cell 2 has the wrong step\n",
+    ),
+    (
         "tide certificate 2\nstation Nobody\nbegin 2000-01-10T05:59Z\nend 2000-01-10T06:01Z\nmark none\ntrack turn\ndone\n",
         "refused: no station\n",
     ),
