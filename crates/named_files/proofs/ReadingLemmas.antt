@@ -19,11 +19,16 @@ use Rattle.tide_edge.specs.declared.read_all_fault.ReadAllFault.{ReadAllFault}
 use Rattle.tide_edge.specs.declared.read_all_fault.ReadAllFault.TheVariants as reading
 use Rattle.decimal_text.specs.Expected.{Source, memory, outside, given, Excuses, Meets}
 use Rattle.tide_edge.specs.FileStates.{Folder}
-use Rattle.tide_edge.specs.Whole.{whole, source_of as source_of_reading}
+use Rattle.question.specs.declared.question.Question.{Question}
+use Rattle.std.specs.Option.{ForSome}
+use Rattle.std.specs.Result.{IfErr}
+use Rattle.tide_edge.specs.FileStates.{FilesState}
+use Rattle.tide_edge.specs.Whole.{ReadWithin, both, one_file, whole, source_of as source_of_reading}
+use Rattle.tide_edge.proofs.ReadingLemmas.{read_more, read_then}
 use Rattle.named_files.specs.declared.no_answer.NoAnswer.{NoAnswer}
 use Rattle.named_files.specs.declared.no_answer.NoAnswer.TheVariants.{Unread, Told, Refused}
-use Rattle.named_files.specs.NoAnswers.{is_unread, reading_failed, source_of, told, wants_memory}
-use Rattle.named_files.specs.Readings.{Folders, book_from, book_named, bytes_from, bytes_of, fault_of_loading, fault_of_reading, limit_of}
+use Rattle.named_files.specs.NoAnswers.{IsOf, file_of, is_unread, reading_failed, source_of, told, wants_memory}
+use Rattle.named_files.specs.Readings.{Folders, allowed_for, allowed_to, files_allowed, zone_file, book_from, book_named, bytes_from, bytes_of, fault_of_loading, fault_of_reading, limit_of}
 
 -- ---- Steps, one after the other
 
@@ -145,3 +150,42 @@ by_slot file offsets zone certificate File = file
 by_slot file offsets zone certificate Offsets = offsets
 by_slot file offsets zone certificate Zone = zone
 by_slot file offsets zone certificate Certificate = certificate
+
+-- ---- How much was read before a fault
+
+to_fault : (question : Question) (slot : Slot) (said : Option Slot) (failed : Bool) (before after : FilesState) → ForSome said (λ other. other ≡ slot) → ReadWithin (files_allowed question) failed before after → ReadWithin (allowed_to question (Some slot)) failed before after → ReadWithin (allowed_to question said) failed before after
+to_fault question slot None failed before after is all own = all
+to_fault question slot (Some other) failed before after is all own =
+    subst (λ (s : Slot). ReadWithin (allowed_to question (Some s)) failed before after) (sym (is other refl)) own
+
+pub to_book : (question : Question) (none : NoAnswer) (before after : FilesState) → IsOf File none → ReadWithin (one_file (limit_of File)) (is_unread none) before after → ReadWithin (allowed_to question (file_of none)) (is_unread none) before after
+to_book question none before after is book =
+    to_fault question File (file_of none) (is_unread none) before after is
+    (read_more (one_file (limit_of File)) (both (allowed_for Offsets question.offsets) (both (allowed_for Zone (zone_file question.zone)) (allowed_for Certificate question.certificate))) (is_unread none) before after book) book
+
+pub to_table : (question : Question) (none : NoAnswer) (before between after : FilesState) → IsOf Offsets none → ReadWithin (one_file (limit_of File)) false before between → ReadWithin (allowed_for Offsets question.offsets) (is_unread none) between after → ReadWithin (allowed_to question (file_of none)) (is_unread none) before after
+to_table question none before between after is book table =
+    to_fault question Offsets (file_of none) (is_unread none) before after is
+    (read_then (one_file (limit_of File)) (both (allowed_for Offsets question.offsets) (both (allowed_for Zone (zone_file question.zone)) (allowed_for Certificate question.certificate))) (is_unread none) before between after book
+    (read_more (allowed_for Offsets question.offsets) (both (allowed_for Zone (zone_file question.zone)) (allowed_for Certificate question.certificate)) (is_unread none) between after table))
+    (read_then (one_file (limit_of File)) (allowed_for Offsets question.offsets) (is_unread none) before between after book table)
+
+pub to_zone : (question : Question) (none : NoAnswer) (before between beyond after : FilesState) → IsOf Zone none → ReadWithin (one_file (limit_of File)) false before between → ReadWithin (allowed_for Offsets question.offsets) false between beyond → ReadWithin (allowed_for Zone (zone_file question.zone)) (is_unread none) beyond after → ReadWithin (allowed_to question (file_of none)) (is_unread none) before after
+to_zone question none before between beyond after is book table zone =
+    to_fault question Zone (file_of none) (is_unread none) before after is
+    (read_then (one_file (limit_of File)) (both (allowed_for Offsets question.offsets) (both (allowed_for Zone (zone_file question.zone)) (allowed_for Certificate question.certificate))) (is_unread none) before between after book
+    (read_then (allowed_for Offsets question.offsets) (both (allowed_for Zone (zone_file question.zone)) (allowed_for Certificate question.certificate)) (is_unread none) between beyond after table
+    (read_more (allowed_for Zone (zone_file question.zone)) (allowed_for Certificate question.certificate) (is_unread none) beyond after zone)))
+    (read_then (one_file (limit_of File)) (both (allowed_for Offsets question.offsets) (allowed_for Zone (zone_file question.zone))) (is_unread none) before between after book
+    (read_then (allowed_for Offsets question.offsets) (allowed_for Zone (zone_file question.zone)) (is_unread none) between beyond after table zone))
+
+-- a certificate is the last of them
+pub to_certificate : (question : Question) (none : NoAnswer) (before after : FilesState) → IsOf Certificate none → ReadWithin (files_allowed question) (is_unread none) before after → ReadWithin (allowed_to question (file_of none)) (is_unread none) before after
+to_certificate question none before after is all =
+    to_fault question Certificate (file_of none) (is_unread none) before after is all all
+
+-- the fault that was given is that of the step
+pub last_at : {A : Type 0} (question : Question) (result : Result A NoAnswer) (none : NoAnswer) (before after : FilesState) → IsErrAnd result (λ e. e ≡ none) → ReadWithin (allowed_to question (file_of none)) (is_unread none) before after → IfErr result (λ e. ReadWithin (allowed_to question (file_of e)) (is_unread e) before after)
+last_at question (Ok value) none before after is read = absurd is
+last_at question (Err e) none before after is read =
+    subst (λ (x : NoAnswer). ReadWithin (allowed_to question (file_of x)) (is_unread x) before after) (sym is) read

@@ -1,9 +1,12 @@
 -- Why the words of a run have no answer (this project).
-use Rattle.std.specs.Prelude.{ℕ, Bool, true, false, if◌then◌else◌, Result, Ok, Err, List, [], codes}
+use Rattle.std.specs.Prelude.{◌≡◌, ℕ, Bool, true, false, if◌then◌else◌, Option, Some, None, Result, Ok, Err, List, [], codes}
+use Rattle.std.specs.Option.{ForSome}
 use Rattle.station_table.specs.declared.offsets.Offsets.{Offsets}
 use Rattle.tide_fault.specs.declared.fault.Fault.{Fault}
 use Rattle.tide_fault.specs.declared.fault.Fault.TheVariants as faults
 use Rattle.tide_fault.specs.declared.refusal.Refusal.{Refusal}
+use Rattle.tide_fault.specs.declared.slot.Slot.{Slot}
+use Rattle.tide_fault.specs.declared.slot.Slot.TheVariants as slots
 use Rattle.tide_fault.specs.declared.status.Status.{Status}
 use Rattle.tide_fault.specs.declared.status.Status.TheVariants as status
 use Rattle.tide_fault.specs.Faults.{status_of as status_of_fault, status_of_refusal, line_of as line_of_fault, wants_memory as fault_wants_memory, wants_memory_of_refusal, IsTold as IsToldFault, IsToldRefusal}
@@ -62,3 +65,22 @@ is_unread (Refused refusal rows) = false
 abbrev pub reading_failed : {A : Type 0} → Result A NoAnswer → Bool
 reading_failed (Ok value) = false
 reading_failed (Err none) = is_unread none
+
+-- the file that is too long or isn't of its form, where that is why
+abbrev pub file_of_fault : Fault → Option Slot
+file_of_fault (faults.TooLong slot) = Some slot
+file_of_fault (faults.Book form) = Some slots.File
+file_of_fault (faults.Offsets form) = Some slots.Offsets
+file_of_fault faults.BadZone = Some slots.Zone
+file_of_fault (faults.Ask ask) = None
+file_of_fault (faults.NoSheet word) = None
+file_of_fault (faults.Refused refusal) = None
+
+abbrev pub file_of : NoAnswer → Option Slot
+file_of Unread = None
+file_of (Told fault) = file_of_fault fault
+file_of (Refused refusal rows) = None
+
+-- no other file is why
+abbrev pub IsOf : Slot → NoAnswer → Type 0
+IsOf slot none = ForSome (file_of none) (λ other. other ≡ slot)

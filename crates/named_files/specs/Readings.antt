@@ -131,3 +131,14 @@ files_allowed question =
     both (one_file (limit_of slots.File))
     (both (allowed_for slots.Offsets question.offsets)
     (both (allowed_for slots.Zone (zone_file question.zone)) (allowed_for slots.Certificate question.certificate)))
+
+-- of these files those up to the one that is why there is no answer, or all, where that is none of them
+abbrev pub allowed_to : Question → Option Slot → Allowance
+allowed_to question None = files_allowed question
+allowed_to question (Some slots.File) = one_file (limit_of slots.File)
+allowed_to question (Some slots.Offsets) =
+    both (one_file (limit_of slots.File)) (allowed_for slots.Offsets question.offsets)
+allowed_to question (Some slots.Zone) =
+    both (one_file (limit_of slots.File))
+    (both (allowed_for slots.Offsets question.offsets) (allowed_for slots.Zone (zone_file question.zone)))
+allowed_to question (Some slots.Certificate) = files_allowed question

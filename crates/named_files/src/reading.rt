@@ -8,8 +8,8 @@ ghost use Rattle.station_table.specs.Table.{table_of};
 ghost use Rattle.zone_time.specs.Zones.{IsZone, zone_of};
 ghost use Rattle.tide_edge.specs.FileStates.{Folder};
 ghost use Rattle.tide_edge.specs.Whole.{ReadWithin, one_file};
-ghost use Rattle.named_files.specs.NoAnswers.{IsTold, reading_failed, source_of, wants_memory};
-ghost use Rattle.named_files.specs.Readings.{Folders, allowed_for, files_allowed, zone_file, limit_of, fault_of_reading, bytes_of, book_named, table_from, table_named, zone_from, zone_named, certificate_named, files_in};
+ghost use Rattle.named_files.specs.NoAnswers.{IsOf, IsTold, file_of, is_unread, reading_failed, source_of, wants_memory};
+ghost use Rattle.named_files.specs.Readings.{Folders, allowed_for, allowed_to, files_allowed, zone_file, limit_of, fault_of_reading, bytes_of, book_named, table_from, table_named, zone_from, zone_named, certificate_named, files_in};
 ghost use Rattle.named_files.specs.Workings.Materials.{AreMaterials};
 ghost use Rattle.decimal_text.specs.Expected.{Meets};
 ghost use Rattle.decimal_text.specs.declared.limits.TheConstants.{MOST_BYTES};
@@ -27,7 +27,8 @@ use tide_fault::{Fault, Refusal, Slot};
 use zone_time::{Zone, ZoneFault, read_zone};
 
 /// What the files of a question hold, or the first fault of them in their order: the harmonic
-/// constants, the table, the zone, the certificate, of each its reading before its form.
+/// constants, the table, the zone, the certificate, of each its reading before its form. Behind a file that
+/// is too long or isn't of its form nothing is opened, and nothing again.
 #[tactic(auto, unfolding(crate::specs::Readings::files_in))]
 pub fn read_files<F: Files>(
     alloc: Global,
@@ -41,6 +42,7 @@ pub fn read_files<F: Files>(
     ensures sound { IfOk result AreMaterials }
     ensures told { IfErr result IsTold }
     ensures read { ReadWithin (files_allowed question.now) (reading_failed result) (F.state files.old) (F.state files.new) }
+    ensures last { IfErr result (λ none. ReadWithin (allowed_to question.now (file_of none)) (is_unread none) (F.state files.old) (F.state files.new)) }
 {
     let question = question.get();
     let book = read_book(alloc, files, name)?;
@@ -63,6 +65,7 @@ pub fn read_book<F: Files>(alloc: Global, files: &mut F, name: &Text) -> Result<
     ensures sound { IfOk result IsBook }
     ensures told { IfErr result IsTold }
     ensures read { ReadWithin (one_file (limit_of Slot.File)) (reading_failed result) (F.state files.old) (F.state files.new) }
+    ensures fault { IfErr result (IsOf Slot.File) }
 {
     match load_book(alloc, files, name, limit_of(Slot::File)) {
         Ok(book) => Ok(book),
@@ -81,6 +84,7 @@ pub fn read_table<F: Files>(
     ensures some { (folder : Folder) × Meets source_of (Unit {0}) (table_named folder name.now) result }
     ensures told { IfErr result IsTold }
     ensures read { ReadWithin (allowed_for Slot.Offsets name.now) (reading_failed result) (F.state files.old) (F.state files.new) }
+    ensures fault { IfErr result (IsOf Slot.Offsets) }
 {
     match name {
         Some(name) => {
@@ -96,6 +100,7 @@ fn table_in(alloc: Global, bytes: &Bytes) -> Result<OffsetTable, NoAnswer>
     ensures exact { Gives wants_memory (table_from (table_of bytes.now)) result }
     ensures told { IfErr result IsTold }
     ensures read { reading_failed result ≡ false }
+    ensures fault { IfErr result (IsOf Slot.Offsets) }
 {
     match read_offsets(alloc, bytes.as_slice()) {
         Ok(table) => Ok(table),
@@ -116,6 +121,7 @@ fn read_zone_named<F: Files>(
     ensures sound { IfOk result IsZone }
     ensures told { IfErr result IsTold }
     ensures read { ReadWithin (allowed_for Slot.Zone (zone_file word.now)) (reading_failed result) (F.state files.old) (F.state files.new) }
+    ensures fault { IfErr result (IsOf Slot.Zone) }
 {
     match word {
         ZoneWord::Utc => Ok(Zone::Utc),
@@ -132,6 +138,7 @@ fn zone_in(alloc: Global, bytes: &Bytes) -> Result<Zone, NoAnswer>
     ensures sound { IfOk result IsZone }
     ensures told { IfErr result IsTold }
     ensures read { reading_failed result ≡ false }
+    ensures fault { IfErr result (IsOf Slot.Zone) }
 {
     match read_zone(alloc, bytes.as_slice()) {
         Ok(zone) => Ok(zone),
@@ -152,6 +159,7 @@ fn read_certificate<F: Files>(
     ensures within { IfOk result (λ bytes. length bytes ≤ MOST_BYTES) }
     ensures told { IfErr result IsTold }
     ensures read { ReadWithin (allowed_for Slot.Certificate name.now) (reading_failed result) (F.state files.old) (F.state files.new) }
+    ensures fault { IfErr result (IsOf Slot.Certificate) }
 {
     match name {
         Some(name) => read_file(alloc, files, name, Slot::Certificate),
@@ -172,6 +180,7 @@ fn read_file<F: Files>(
     ensures within { IfOk result (λ bytes. length bytes ≤ limit_of slot) }
     ensures told { IfErr result IsTold }
     ensures read { ReadWithin (one_file (limit_of slot)) (reading_failed result) (F.state files.old) (F.state files.new) }
+    ensures fault { IfErr result (IsOf slot) }
 {
     match read_all(alloc, files, name, limit_of(slot)) {
         Ok(bytes) => Ok(bytes),
