@@ -1,8 +1,9 @@
 -- What a served door in memory holds.
-use Rattle.std.proofs.Common.{◌≡◌, ℕ, ◌+◌, ◌-◌, ◌^◌, ◌<◌, Bool, false, true, List, [], ◌∷◌, ◌++◌, map, append-nil, arith, None, Ok, inl, inr, ap, ◌∙◌, subst, refl}
+use Rattle.std.proofs.Common.{◌≡◌, ℕ, ◌+◌, ◌-◌, ◌^◌, ◌<◌, Bool, false, true, List, [], ◌∷◌, ◌++◌, map, append-nil, arith, None, Ok, inl, inr, ap, ◌∙◌, subst, sym, refl}
 use Rattle.std.specs.List.{concat}
 use Rattle.std.specs.Prelude.{ℤ, count_by, if◌then◌else◌}
 use Rattle.std.proofs.lemmas.Grind.{common_steps}
+use Rattle.std.proofs.lemmas.List.{length-map}
 use Rattle.tide_edge.specs.Clocks.{ClockState, next_minute}
 use Rattle.tide_edge.specs.Memory.{folder_of}
 use Rattle.tide_fault.specs.declared.status.Status.TheVariants.{Done}
@@ -65,6 +66,8 @@ answered_by stock before after served =
           served.replies
           ∙ ap (λ left. before.door.replies ++ map (λ c. c.reply) served.served ++ map (λ request. []) left) none
           ∙ append-nil (before.door.replies ++ map (λ c. c.reply) served.served);
+      each =
+          length-map served.served (λ c. c.reply) ∙ sym (length-map served.served (λ c. c.request));
       answered = λ same few.
           let cut : RoseBy (cuts served.served) before.door.line_faults before.door.line_faults =
           subst (λ (n : ℕ). RoseBy (cuts served.served) before.door.line_faults n) same served.cut in

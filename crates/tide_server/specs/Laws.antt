@@ -1,5 +1,5 @@
 -- What a server comes to over objects in memory (this project).
-use Rattle.std.specs.Prelude.{◌≡◌, ◌<◌, ◌-◌, ◌^◌, ℕ, ℤ, List, [], ◌∷◌, ◌++◌}
+use Rattle.std.specs.Prelude.{◌≡◌, ◌<◌, ◌-◌, ◌^◌, ℕ, ℤ, List, [], ◌∷◌, ◌++◌, length}
 use Rattle.std.specs.List.{concat}
 use Rattle.tide_edge.specs.Memory.{HeldClock, HeldDoor, HeldFiles, HeldSink, clock_state, door_state, files_state, sink_state}
 use Rattle.tide_server.specs.declared.stock.Stock.{Stock}
@@ -35,5 +35,6 @@ pub record HasAnswered (stock : Stock) (before after : InMemory) : Type 0 where
   pub replies : List (List ℕ)
   pub taken : before.door.waiting ≡ requests ++ after.door.waiting
   pub given : after.door.replies ≡ before.door.replies ++ replies
+  pub each : length replies ≡ length requests
   pub answered : after.door.line_faults ≡ before.door.line_faults → before.door.line_faults < 2 ^ 64 - 1
       → AreAnswered stock before.clock.minute requests replies
