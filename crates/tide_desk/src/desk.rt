@@ -18,8 +18,8 @@ use tide_fault::Status;
 
 /// Answers the words from the files: writes the whole answer to `out`, or one line that says why
 /// there is none to `err`. A failure to write to `err` changes nothing of the status. Nothing is
-/// tried again after a failure. No more files are opened than the words name, of each the end is found
-/// once, and together no more bytes are read than their limits and a piece of 65,536 bytes for each.
+/// tried again after a failure. No more files are opened than the words name, no more ends are found,
+/// and together no more bytes are read than their limits and a piece of 65,536 bytes for each.
 /// The clock is asked once, for the commands `clock` and `report` alone, after all files were read.
 ///
 /// A report has the pages of those of the sheets whose words are wanted, in the order in which they
