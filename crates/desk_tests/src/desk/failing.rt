@@ -8,6 +8,11 @@ const CERTIFICATE: &str = "tide certificate 2\nstation Pier\nbegin 2000-01-10T00
 const DOCKS: &str = "name,reference,high_add,low_add,high_times,low_times,high_plus,low_plus\n\
     Dock,Pier,0:30,-0:10,1.1,0.9,0.1,0\nOuter,Pier,0:30,0:30,2,2,0.5,0.5\n";
 
+// A time zone's file (RFC 8536): one hour ahead, always.
+const HOUR_AHEAD: &str =
+    "TZif2\0\0\0\0\0\0\0\0\0\0\0\0\0\0\0\0\0\0\0\0\0\0\0\0\0\0\0\0\0\0\0\0\0\0\x01\0\0\0\x01\0\0\0\0\0\0\0\
+    TZif2\0\0\0\0\0\0\0\0\0\0\0\0\0\0\0\0\0\0\0\0\0\0\0\0\0\0\0\0\0\0\0\0\0\0\x01\0\0\0\x04\0\0\x0e\x10\0\0CET\0\nCET-1\n";
+
 // Words, how often they call the files, and what they write.
 const WHOLE: &[(&str, u64, &str)] = &[
     (PREDICT, 3, DAY),
@@ -30,6 +35,12 @@ const WHOLE: &[(&str, u64, &str)] = &[
          2000-01-10 17:50 UTC      -0.90 feet  Low Tide\n",
     ),
     (
+        "predict|file=pier.txt|zone=@hour|station=Pier|begin=2000-01-10T12:00Z|end=2000-01-11T00:00Z",
+        6,
+        "Pier\n2000-01-10 19:00 +01:00      -1.00 feet  Low Tide\n\
+         2000-01-11 00:59 +01:00       1.00 feet  High Tide\n",
+    ),
+    (
         "predict|file=pier.txt|station=Pier|begin=2000-01-10T11:00Z|end=2000-01-10T13:00Z|layout=csv",
         3,
         "station,moment,local,event,level,units\n\
@@ -46,11 +57,15 @@ const LINES: &[(&str, u64, u8, &str)] = &[
     (PREDICT, 1, 7, "write fault\n"),
 ];
 
-// Runs words over the pier, a table and a certificate. A write takes at most ten bytes.
+// Runs words over the pier, a table, a certificate and a zone. A write takes at most ten bytes.
 fn run_words(alloc: Global, words: &str, fails: Fails) -> Result<Outcome, AllocError> {
     let mut held = Vec::new(alloc);
     held.push(named(alloc, "pier.txt", pier_with(alloc, 0, "")?)?)?;
-    for (name, text) in [("o.csv", DOCKS), ("cert", CERTIFICATE)] {
+    for (name, text) in [
+        ("o.csv", DOCKS),
+        ("cert", CERTIFICATE),
+        ("hour", HOUR_AHEAD),
+    ] {
         let bytes = Bytes::from_vec(text.as_bytes().to_vec(alloc)?);
         held.push(named(alloc, name, bytes)?)?;
     }

@@ -16,6 +16,9 @@ use tide_server::serve;
 
 const SHORT: &str = "# Pier test\n1\nS2 30.0000000\n1999\n3\nS2\n0 0 0\n*END*\n2\n";
 
+const DOCK: &str = "name,reference,high_add,low_add,high_times,low_times,high_plus,low_plus\n\
+    Dock,Pier,0:30,-0:10,1.1,0.9,0.1,0\n";
+
 const DAY: &str =
     "GET /predict?station=Pier&begin=2000-01-10T00:00Z&end=2000-01-11T00:00Z HTTP/1.1\r\nHost: a\r\n\r\n";
 
@@ -121,7 +124,12 @@ pub(super) fn requests_of(alloc: Global, all: &[Coming<'_>]) -> Result<Vec<Vec<B
 
 pub(super) fn files_of(alloc: Global, fails: u64) -> Result<MemoryFiles, AllocError> {
     let mut files = Vec::new(alloc);
-    for (name, text) in [("pier.txt", PIER), ("short.txt", SHORT), ("empty.csv", "")] {
+    for (name, text) in [
+        ("pier.txt", PIER),
+        ("short.txt", SHORT),
+        ("empty.csv", ""),
+        ("dock.csv", DOCK),
+    ] {
         files.push(NamedFile {
             name: Text::from_str(alloc, name)?,
             bytes: Bytes::from_vec(text.as_bytes().to_vec(alloc)?),
@@ -176,18 +184,31 @@ fn each_connection_has_its_reply(rt: HostRuntime) -> Result<(), Fail> {
     Ok(())
 }
 
+/// The words of a server, a request, and its reply.
+const QUESTIONS: &[(&str, &str, &str)] = &[
+    (ASKED, DAY, LISTED),
+    (
+        "serve|file=pier.txt|offsets=dock.csv",
+        "GET /stations HTTP/1.1\r\nHost: a\r\n\r\n",
+        "HTTP/1.1 200 OK\r\nContent-Type: text/plain; charset=utf-8\r\nContent-Length: 35\r\nConnection: close\r\n\r\n\
+         Ref feet Pier\nSub feet Dock (Pier)\n",
+    ),
+];
+
 #[test]
 fn a_question_is_answered_however_it_comes(rt: HostRuntime) -> Result<(), Fail> {
     let alloc = rt.alloc();
-    for requests in [
-        [Coming::Whole(DAY), Coming::Whole("")],
-        [Coming::ByBytes(DAY), Coming::Whole("")],
-    ] {
-        let outcome = serve_over(alloc, ASKED, &requests, 4096, NONE)?;
-        assert_eq!(rt; outcome.status, Status::Done);
-        assert_reply(&rt, &outcome, 0, Some(LISTED));
-        assert_reply(&rt, &outcome, 1, Some(""));
-        assert_reply(&rt, &outcome, 2, None);
+    for &(words, request, reply) in QUESTIONS {
+        for requests in [
+            [Coming::Whole(request), Coming::Whole("")],
+            [Coming::ByBytes(request), Coming::Whole("")],
+        ] {
+            let outcome = serve_over(alloc, words, &requests, 4096, NONE)?;
+            assert_eq!(rt; outcome.status, Status::Done);
+            assert_reply(&rt, &outcome, 0, Some(reply));
+            assert_reply(&rt, &outcome, 1, Some(""));
+            assert_reply(&rt, &outcome, 2, None);
+        }
     }
     Ok(())
 }
