@@ -24,7 +24,7 @@ use tide_server::serve;
 
 /// Writes the page that the words ask for, or serves where they ask for that, or else answers them, over
 /// the objects that it is handed and no others. The sheets are those of a report. A page takes neither
-/// files nor door nor clock; an answer leaves the door as it is, and serving leaves `out`.
+/// files nor door nor clock nor memory; an answer leaves the door as it is, and serving leaves `out`.
 pub fn respond<F: Files, D: Door, O: Sink, E: Sink, K: Clock>(
     alloc: Global,
     words: &Words,
@@ -38,6 +38,7 @@ pub fn respond<F: Files, D: Door, O: Sink, E: Sink, K: Clock>(
     requires { (D.state door.old).doorway.port ≡ None }
     ensures page { IfSome (page_of words.now) (λ page. EndsAs (page_answer page) result
         (outputs (O.state out.old) (E.state err.old)) (outputs (O.state out.new) (E.state err.new))) }
+    ensures page_memory { IsSome (page_of words.now) → ¬ (result ≡ Status.NoMemory) }
     ensures page_alone { IsSome (page_of words.now) → (files.new ≡ files.old) × (door.new ≡ door.old) × (clock.new ≡ clock.old) }
     ensures own_answer { let meanings = map meaning sheets.items in let asked = asked_of meanings words.now in
         AsksAnswer words.now → IsTrue (F.state files.old).store.tells → (AsksClock asked → IsTrue (K.state clock.old).tells)
@@ -87,8 +88,9 @@ pub fn respond<F: Files, D: Door, O: Sink, E: Sink, K: Clock>(
 }
 
 fn write_page<O: Sink, E: Sink>(page: Page, out: &mut O, err: &mut E) -> Status
-    ensures { EndsAs (page_answer page) result
+    ensures ends { EndsAs (page_answer page) result
         (outputs (O.state out.old) (E.state err.old)) (outputs (O.state out.new) (E.state err.new)) }
+    ensures memory { ¬ (result ≡ Status.NoMemory) }
 {
     match write_all(out, page.text().as_bytes()) {
         Ok(()) => Status::Done,

@@ -18,6 +18,10 @@ const PIER: &str = "# Pier test\n1\nS2 30.0000000\n1999\n3\nS2\n0 0 0\n*END*\n3\
 const CERTIFICATE: &str =
     "tide certificate 2\nstation Pier\nbegin 2000-01-10T00:00Z\nend 2000-01-10T00:08Z\nmark none\ntrack turn\ns\ns\nq 2\nq 4\ndone\n";
 
+const PEAK: &str =
+    "peak certificate 1\nstation Pier\nbegin 2000-01-10T00:00Z\nend 2000-01-10T00:08Z\nat 2000-01-10T00:00Z\n\
+    value 4147200000000000000000000000000\nm\nm\nm\nm\nm\nm\nm\nm\ndone\n";
+
 const REQUEST: &str = "GET /stations HTTP/1.1\r\nHost: a\r\n\r\n";
 
 const REPLY: &str =
@@ -42,7 +46,11 @@ fn words_of(alloc: Global, line: &str) -> Result<Words, AllocError> {
 
 fn files_of(alloc: Global) -> Result<MemoryFiles, AllocError> {
     let mut files = Vec::new(alloc);
-    for (name, text) in [("pier.txt", PIER), ("pier.cert", CERTIFICATE)] {
+    for (name, text) in [
+        ("pier.txt", PIER),
+        ("pier.cert", CERTIFICATE),
+        ("pier.peak", PEAK),
+    ] {
         files.push(NamedFile {
             name: Text::from_str(alloc, name)?,
             bytes: Bytes::from_vec(text.as_bytes().to_vec(alloc)?),
@@ -114,6 +122,22 @@ const ANSWERED: &[(&str, &str)] = &[
         "Pier\nNow 2000-01-10 03:00 UTC       0.00 feet  Falling\n",
     ),
     ("stations|file=pier.txt", "Ref feet Pier\n"),
+    (
+        "highest|file=pier.txt|station=Pier|begin=2000-01-10T00:00Z|end=2000-01-11T00:00Z",
+        "Pier\nHighest 2000-01-10 00:00 UTC       1.00 feet\n",
+    ),
+    (
+        "peak|file=pier.txt|station=Pier|begin=2000-01-10T00:00Z|end=2000-01-10T00:08Z",
+        PEAK,
+    ),
+    (
+        "peakcheck|file=pier.txt|certificate=pier.peak",
+        "Accepted\nPier\nHighest 2000-01-10 00:00 UTC       1.00 feet\n",
+    ),
+    (
+        "about|file=pier.txt|station=Pier",
+        "Pier\nreference Pier\nunits feet\nconstituents 1\nagreement 10982486704628157235200000000000\n",
+    ),
     ("sample|seed=1", "#"),
     (
         "trial|seed=0",
