@@ -34,13 +34,7 @@ impl<'a> MarkCurve<'a> {
 
     /// The level against a mark with rates in the plain part of one year alone, its numbers as in
     /// [`new`](MarkCurve::new).
-    pub fn over(
-        station: &'a StationCurve,
-        times: i64,
-        plus: i64,
-        mark: i64,
-        slack: bool,
-    ) -> MarkCurve<'a>
+    pub fn over(station: &'a StationCurve, times: i64, plus: i64, mark: i64, slack: bool) -> Self
         requires scale { IsScale times plus mark }
         requires slack { OnTrue slack (mark ≡ pos 0) }
         ensures meaning { ⟦<MarkCurve<'a> as Curve>⟧.meaning result
@@ -51,13 +45,7 @@ impl<'a> MarkCurve<'a> {
     }
 
     /// The same with rates across a new year too.
-    pub fn blended(
-        station: &'a StationCurve,
-        times: i64,
-        plus: i64,
-        mark: i64,
-        slack: bool,
-    ) -> MarkCurve<'a>
+    pub fn blended(station: &'a StationCurve, times: i64, plus: i64, mark: i64, slack: bool) -> Self
         requires scale { IsScale times plus mark }
         requires slack { OnTrue slack (mark ≡ pos 0) }
         ensures meaning { ⟦<MarkCurve<'a> as Curve>⟧.meaning result
