@@ -4,7 +4,7 @@ use Rattle.std.specs.Int.{int_shr}
 use Rattle.std.proofs.lemmas.Int.{ints, unsigned_abs-mul}
 use Rattle.std.proofs.lemmas.Nat.{mul-le}
 
-raised : (z : ℤ) (b : ℕ) → unsigned_abs z ≤ b → z +ℤ pos b ≡ pos (unsigned_abs (z +ℤ pos b))
+pub raised : (z : ℤ) (b : ℕ) → unsigned_abs z ≤ b → z +ℤ pos b ≡ pos (unsigned_abs (z +ℤ pos b))
 raised z b h = omega (arith, ints)
 
 shifted_22 : (z : ℤ) (n : ℕ) → z +ℤ pos 41943040000000000 ≡ pos n → int_shr z 22 +ℤ pos 10000000000 ≡ pos (n / 4194304)
@@ -23,7 +23,7 @@ lifted : (x y n : ℕ) → n + x ≡ y → neg_ℤ (pos x) +ℤ pos y ≡ pos n
 lifted zero y n e = omega (arith, ints)
 lifted (suc x) y n e = omega (arith, ints)
 
-multiplied : (r b n : ℕ) (z : ℤ) → z +ℤ pos b ≡ pos n → (pos r *ℤ z) +ℤ pos (r * b) ≡ pos (r * n)
+pub multiplied : (r b n : ℕ) (z : ℤ) → z +ℤ pos b ≡ pos n → (pos r *ℤ z) +ℤ pos (r * b) ≡ pos (r * n)
 multiplied r b n (pos a) e =
     let sum : a + b ≡ n = omega (arith, ints) in
     let product : r * (a + b) ≡ r * n = ap (λ k. r * k) sum in

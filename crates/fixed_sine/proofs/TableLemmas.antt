@@ -1,10 +1,12 @@
 -- Facts about every entry of the table, each by a test that computes over all of it.
-use Rattle.std.proofs.Common.{◌≡◌, ℕ, ◌+◌, ◌-◌, ◌*◌, ◌^◌, ◌<◌, ◌≤◌, Bool, true, ◌&&◌, nat_le, nat_lt, min, refl, arith, ℤ, pos, neg_ℤ, ◌+ℤ◌, ◌-ℤ◌, ◌*ℤ◌, ◌≤ℤ◌, unsigned_abs, get_or, int_le}
+use Rattle.std.proofs.Common.{◌≡◌, ℕ, ◌+◌, ◌-◌, ◌*◌, ◌^◌, ◌<◌, ◌≤◌, Bool, true, ◌&&◌, nat_le, nat_lt, min, refl, arith, ℤ, pos, neg_ℤ, ◌+ℤ◌, ◌-ℤ◌, ◌*ℤ◌, ◌≤ℤ◌, unsigned_abs, get_or, int_le, to_z, of_z, w32, w64}
 use Rattle.std.specs.Ordering.{int_eq}
 use Rattle.std.proofs.lemmas.Bool.{agree_below_at, leb-true, and_parts}
 use Rattle.std.proofs.lemmas.Bool.Decides.{Decides-int_eq}
-use Rattle.std.proofs.lemmas.Int.{ints}
+use Rattle.std.proofs.lemmas.Int.{ints, to_z-of_z, fits_signed_from_abs}
+use Rattle.fixed_sine.specs.declared.degrees.TheConstants.{DEGREES}
 use Rattle.fixed_sine.specs.declared.table.TheConstants.{ROWS}
+use Rattle.fixed_sine.specs.Degrees.{bend_at, slope_at, IsReady}
 use Rattle.fixed_sine.specs.Table.{sines, sine_at, rise, correction}
 
 le_from_test : (a b : ℤ) → int_le a b ≡ true → a ≤ℤ b
@@ -96,3 +98,77 @@ row-entry k h =
       here = (Decides-int_eq _ _).0 rest.0;
       bent = (Decides-int_eq _ _).0 rest.1;
     }
+
+-- the degrees of the code, on either half of the circle
+unfoldable is_ready : ℤ → ℤ → ℤ → ℤ → Bool
+is_ready slope bend ready_slope ready_bend =
+    int_le (slope *ℤ pos (2 ^ 64)) (ready_slope *ℤ pos 1440000000000000000)
+    && (int_le (ready_slope *ℤ pos 1440000000000000000) ((slope *ℤ pos (2 ^ 64)) +ℤ pos 1440000000000000000)
+    && (int_le (bend *ℤ pos (2 ^ 72)) ((ready_bend *ℤ pos 1440000000000000000) +ℤ pos 1440000000000000000)
+    && int_le (ready_bend *ℤ pos 1440000000000000000) (bend *ℤ pos (2 ^ 72))))
+
+ready-parts : (slope bend ready_slope ready_bend : ℤ) → is_ready slope bend ready_slope ready_bend ≡ true → IsReady slope bend ready_slope ready_bend
+unfolding is_ready
+ready-parts slope bend ready_slope ready_bend h =
+    let all = and_parts _ _ h in
+    let rest = and_parts _ _ all.1 in
+    let last = and_parts _ _ rest.1 in
+    record {
+      slope_least = le_from_test _ _ all.0;
+      slope_most = le_from_test _ _ rest.0;
+      bend_least = le_from_test _ _ last.0;
+      bend_most = le_from_test _ _ last.1;
+    }
+
+unfoldable is_first : ℕ → Bool
+is_first k =
+    let row = get_or DEGREES k (pos 0, pos 0, pos 0) in
+    is_ready (slope_at k) (pos (bend_at k)) row.0 row.1 && int_eq row.2 (sine_at (pos k))
+
+unfoldable is_second : ℕ → Bool
+is_second k =
+    let row = get_or DEGREES (k + 180) (pos 0, pos 0, pos 0) in
+    is_ready (neg_ℤ (slope_at k)) (neg_ℤ (pos (bend_at k))) row.0 row.1 && int_eq row.2 (pos 1 -ℤ sine_at (pos k))
+
+unfoldable is_gentle : ℕ → Bool
+is_gentle k =
+    let row = get_or DEGREES k (pos 0, pos 0, pos 0) in
+    nat_le (unsigned_abs row.0) 540000000000000000
+    && (nat_le (unsigned_abs row.1) 2000000000 && nat_le (unsigned_abs row.2) 1000000000)
+
+pub degree-first : (k : ℕ) → k < 180 → IsReady (slope_at k) (pos (bend_at k)) (get_or DEGREES k (pos 0, pos 0, pos 0)).0 (get_or DEGREES k (pos 0, pos 0, pos 0)).1 × ((get_or DEGREES k (pos 0, pos 0, pos 0)).2 ≡ sine_at (pos k))
+unfolding is_first is_ready correction sine_at sines
+degree-first k h =
+    let all = and_parts _ _ (agree_below_at is_first (λ _. true) 180 k refl h) in
+    (ready-parts _ _ _ _ all.0, (Decides-int_eq _ _).0 all.1)
+
+pub degree-second : (k : ℕ) → k < 180 → IsReady (neg_ℤ (slope_at k)) (neg_ℤ (pos (bend_at k))) (get_or DEGREES (k + 180) (pos 0, pos 0, pos 0)).0 (get_or DEGREES (k + 180) (pos 0, pos 0, pos 0)).1 × ((get_or DEGREES (k + 180) (pos 0, pos 0, pos 0)).2 ≡ pos 1 -ℤ sine_at (pos k))
+unfolding is_second is_ready correction sine_at sines
+degree-second k h =
+    let all = and_parts _ _ (agree_below_at is_second (λ _. true) 180 k refl h) in
+    (ready-parts _ _ _ _ all.0, (Decides-int_eq _ _).0 all.1)
+
+-- they fit their types, with room
+pub record Fits (s b n : ℤ) : Type 0 where
+  pub slope : unsigned_abs s ≤ 540000000000000000
+  pub slope_kept : to_z w64 (of_z w64 s) ≡ s
+  pub bend : unsigned_abs b ≤ 2000000000
+  pub bend_kept : to_z w32 (of_z w32 b) ≡ b
+  pub sine_kept : to_z w32 (of_z w32 n) ≡ n
+
+fitting : (s b n : ℤ) → unsigned_abs s ≤ 540000000000000000 → unsigned_abs b ≤ 2000000000 → unsigned_abs n ≤ 1000000000 → Fits s b n
+fitting s b n slope bend sine =
+    record {
+      slope = slope;
+      slope_kept = to_z-of_z w64 s (fits_signed_from_abs w64 s (omega (arith, slope)));
+      bend = bend;
+      bend_kept = to_z-of_z w32 b (fits_signed_from_abs w32 b (omega (arith, bend)));
+      sine_kept = to_z-of_z w32 n (fits_signed_from_abs w32 n (omega (arith, sine)));
+    }
+
+pub degree-fits : (k : ℕ) → k < 360 → Fits (get_or DEGREES k (pos 0, pos 0, pos 0)).0 (get_or DEGREES k (pos 0, pos 0, pos 0)).1 (get_or DEGREES k (pos 0, pos 0, pos 0)).2
+unfolding is_gentle
+degree-fits k h =
+    let all = and_parts _ _ (agree_below_at is_gentle (λ _. true) 360 k refl h) in
+    let rest = and_parts _ _ all.1 in
+    fitting _ _ _ (leb-true _ _ all.0) (leb-true _ _ rest.0) (leb-true _ _ rest.1)

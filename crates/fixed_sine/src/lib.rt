@@ -8,6 +8,7 @@
 #![tactic(auto)]
 
 mod circle;
+mod degrees;
 mod laws;
 mod rate;
 mod sine;

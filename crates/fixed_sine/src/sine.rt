@@ -62,7 +62,7 @@ fn half(place: u64) -> i64
 }
 
 /// The sine `r` units past so many degrees of the first half of the circle.
-pub fn between(degrees: usize, r: u64) -> i64
+fn between(degrees: usize, r: u64) -> i64
     requires degrees { degrees < 180 }
     requires part { r < degree }
     ensures value { result ≡ half_of (degree * degrees + r) }

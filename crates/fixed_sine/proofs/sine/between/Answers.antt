@@ -1,4 +1,4 @@
-use Rattle.std.proofs.Common.{FitsSigned, rules, ◌+◌, ◌*◌, w64, arith}
+use Rattle.std.proofs.Common.{FitsSigned, rules, ◌+◌, ◌*◌, pos, w64, arith}
 use Rattle.std.proofs.lemmas.Int.{to_z-of_z}
 use Rattle.fixed_sine.specs.Sine.{half_of}
 use Rattle.fixed_sine.proofs.TableLemmas.{IsRow}
@@ -51,7 +51,7 @@ returns-clause-value c =
     let most = rw (mean, c.mean_slope.ensures, slope) at c.gain.ensures.most in
     let value = half_of-row c.args.degrees c.args.r c.row_of-row.result.sine c.row_of-row.result.correction c.row_of-row.result.slope c.gain.result c.requires.degrees c.requires.part row least most in
     let place = half_of_size (600000000 * c.args.degrees + c.args.r) (omega (arith, c.requires.degrees, c.requires.part)) in
-    summed c.from.result c.gain.result (half_of (600000000 * c.args.degrees + c.args.r)) c.row_of-row.result.sine c.from.ensures value c.gain.ensures.size (size_from _ place)
+    summed c.from.result c.gain.result (half_of (600000000 * c.args.degrees + c.args.r)) (pos c.row_of-row.result.sine) c.from.ensures value c.gain.ensures.size (size_from _ place)
 
 pub returns-clause-size : goal.returns-clause-size
 returns-clause-size c =
