@@ -1,5 +1,6 @@
 -- A curve that changes by at most its rate in each minute keeps its side between end values that are far enough from 0.
 use Rattle.std.proofs.Common.{nat_le, ◌⊎◌, ◌≡◌, ◌≢◌, ℕ, zero, suc, ◌+◌, ◌-◌, ◌*◌, ◌≤◌, ◌<◌, ℤ, pos, negsuc, ◌+ℤ◌, ◌-ℤ◌, ◌*ℤ◌, neg_ℤ, ◌≤ℤ◌, ◌<ℤ◌, unsigned_abs, int_lt, int_le, Bool, true, false, not, ◌&&◌, ◌||◌, cond, Option, Some, None, refl, sym, ◌∙◌, arith}
+use mathlib.Core.Bool.{beq}
 use Rattle.std.proofs.lemmas.Bool.Decides.{nat_tests}
 use Rattle.std.proofs.lemmas.Int.{ints}
 use Rattle.curve_law.specs.Track.{Track, side_at, has_event}
@@ -148,3 +149,24 @@ pub unit_cell-turn : (t : Track) (a : ℤ) (here there : Bool) → here ≡ side
 unfolding unit_cell
 unit_cell-turn t a here there e f differ =
     let q : has_event t a ≡ true = change (side_at t a) (side_at t (a +ℤ pos 1)) (λ h. differ (cc)) in rw (q, e) refl
+
+other_sides : (rate : Option ℤ) (n : ℕ) (v w : ℤ) → (int_lt (pos 0) v ≡ int_lt (pos 0) w → ⊥) → keeps_side rate n v w ≡ false
+unfolding keeps_side
+other_sides None n v w other = refl
+other_sides (Some rate) n v w other = grind (arith, ints)
+
+differ : (s t : Bool) → not (beq s t) ≡ true → s ≡ t → ⊥
+differ true true h e = cc
+differ true false h e = cc
+differ false true h e = cc
+differ false false h e = cc
+
+-- values on two sides are the ends of no quiet cell
+pub crossed-loud : (c : Meaning) (a : ℤ) (n : ℕ) → not (beq (int_lt (pos 0) (c.track.value a)) (int_lt (pos 0) (c.track.value (a +ℤ pos n)))) ≡ true → false ≡ is_quiet c a n
+unfolding is_quiet
+crossed-loud c a n other =
+    rw (other_sides (c.rate a n) n (c.track.value a) (c.track.value (a +ℤ pos n)) (differ _ _ other)) (never (nat_le 2 n && nat_le n MOST_MINUTES))
+  where
+    never : (t : Bool) → false ≡ (t && false)
+    never true = refl
+    never false = refl

@@ -12,8 +12,21 @@ use crate::passing::kind_after;
 /// The most minutes of a quiet cell, and the minutes of a block.
 pub const MOST_MINUTES: u32 = 1024;
 
-/// Whether the `n` minutes from `a` on are a quiet cell, by the values at both ends.
+/// Whether the `n` minutes from `a` on are a quiet cell, by the values at both ends. The rate is asked
+/// only where both are on one side.
 pub fn is_quiet<C: Curve>(curve: &C, a: i64, n: u32, value: i128, end_value: i128) -> bool
+    requires span { IsSpan (C.meaning curve.now) a n }
+    requires value { value ≡ (C.meaning curve.now).track.value a }
+    requires end_value { end_value ≡ (C.meaning curve.now).track.value (a +ℤ pos n) }
+    ensures { result ≡ is_quiet (C.meaning curve.now) a n }
+{
+    if (value > 0) != (end_value > 0) {
+        return false;
+    }
+    is_quiet_by_rate(curve, a, n, value, end_value)
+}
+
+fn is_quiet_by_rate<C: Curve>(curve: &C, a: i64, n: u32, value: i128, end_value: i128) -> bool
     requires span { IsSpan (C.meaning curve.now) a n }
     requires value { value ≡ (C.meaning curve.now).track.value a }
     requires end_value { end_value ≡ (C.meaning curve.now).track.value (a +ℤ pos n) }

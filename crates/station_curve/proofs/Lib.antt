@@ -18,3 +18,4 @@ pub mod NearNewYear
 pub mod CellSteps
 pub mod PlainSteps
 pub mod Ranges
+pub mod Present

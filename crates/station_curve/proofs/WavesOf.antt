@@ -1,12 +1,9 @@
 -- The waves of a year by the constituents' places.
-use Rattle.std.proofs.Common.{◌≡◌, ℕ, ◌+◌, ◌*◌, ◌<◌, ◌≤◌, Bool, true, false, [], ◌∷◌, ◌++◌, length, nat_eq, append-nil, get_or, take, Some, None, ℤ, pos, ◌+ℤ◌, ◌-ℤ◌, refl, sym, ap, ◌∙◌, arith}
-use Rattle.std.specs.Prelude.{unsigned_abs, nat_lt, not, filter, cond}
-use Rattle.std.proofs.Math.Seq.{take-length}
-use Rattle.std.proofs.lemmas.Bool.{lt-ltb, le-ltb, ltb-false, ne_eqb}
-use Rattle.std.proofs.lemmas.Int.{ints}
-use Rattle.std.proofs.lemmas.List.Elements.{filter_more}
+use Rattle.std.proofs.Common.{◌≡◌, ℕ, ◌*◌, ◌<◌, ◌≤◌, Bool, true, false, length, get_or, Some, None, ℤ, pos, ◌+ℤ◌, ◌-ℤ◌, refl, ap, ◌∙◌, arith}
+use Rattle.std.specs.Prelude.{unsigned_abs, nat_lt, cond}
+use Rattle.std.proofs.lemmas.Bool.{lt-ltb, le-ltb, ltb-false}
 use Rattle.std.proofs.lemmas.List.FromFn.{get_or-map-range_with_len, length-map-range_with_len}
-use Rattle.std.proofs.lemmas.List.Sums.{sum_by_more, get_or-le-sum_by}
+use Rattle.std.proofs.lemmas.List.Sums.{get_or-le-sum_by}
 use Rattle.harmonics_text.specs.declared.book.Station.{Station}
 use Rattle.harmonics_text.specs.declared.book.Book.{Book}
 use Rattle.station_curve.specs.declared.fault.CurveFault.{CurveFault}
@@ -15,10 +12,7 @@ use Rattle.station_curve.specs.Waves.{Harmonic, amount_of, steepness_of}
 use Rattle.station_curve.specs.Limits.{most_amount, most_steepness}
 use Rattle.year_blend.specs.Places.{start_of}
 use Rattle.station_curve.specs.Schureman.{amplitude_of, speed_of, phase_of}
-use Rattle.station_curve.specs.Curves.{wave_of, waves_of, is_present, year_fault}
-
-zero_size : (z : ℤ) → unsigned_abs z ≡ 0 → z ≡ pos 0
-zero_size z h = omega (arith, ints, h)
+use Rattle.station_curve.specs.Curves.{wave_of, waves_of, year_fault}
 
 pub length-waves_of : (b : Book) (s : Station) (year : ℕ) → length (waves_of b s year) ≡ length b.constituents
 unfolding waves_of
@@ -27,26 +21,6 @@ length-waves_of b s year = length-map-range_with_len (wave_of b s year) 0 (lengt
 pub get_or-waves_of : (b : Book) (s : Station) (year k : ℕ) (d : Harmonic) → k < length b.constituents → get_or (waves_of b s year) k d ≡ wave_of b s year k
 unfolding waves_of
 get_or-waves_of b s year k d in_list = get_or-map-range_with_len (wave_of b s year) 0 (length b.constituents) k k d in_list (omega arith)
-
-pub all_waves : (b : Book) (s : Station) (year n : ℕ) → n ≡ length b.constituents → take n (waves_of b s year) ≡ waves_of b s year
-all_waves b s year n e = ap (λ k. take k (waves_of b s year)) (e ∙ sym (length-waves_of b s year)) ∙ take-length (waves_of b s year)
-
-pub amount_more : (b : Book) (s : Station) (year k amount size : ℕ) → k < length b.constituents → amount ≡ amount_of (take k (waves_of b s year)) → size ≡ unsigned_abs (amplitude_of b s year k) → amount + size ≡ amount_of (take (k + 1) (waves_of b s year))
-amount_more b s year k amount size in_list is_amount is_size =
-    let d = wave_of b s year k in
-    let more = sum_by_more (λ h. unsigned_abs h.amplitude) (waves_of b s year) k d (omega (arith, in_list, length-waves_of b s year)) in
-    let last : unsigned_abs (get_or (waves_of b s year) k d).amplitude ≡ size = ap (λ h. unsigned_abs h.amplitude) (get_or-waves_of b s year k d in_list) ∙ sym is_size in
-    omega (arith, more, last, is_amount)
-
-pub steepness_more : (b : Book) (s : Station) (year k steepness size speed : ℕ) → k < length b.constituents → steepness ≡ steepness_of (take k (waves_of b s year)) → size ≡ unsigned_abs (amplitude_of b s year k) → pos speed ≡ speed_of b k → steepness + size * speed ≡ steepness_of (take (k + 1) (waves_of b s year))
-steepness_more b s year k steepness size speed in_list is_steepness is_size is_speed =
-    let d = wave_of b s year k in
-    let more = sum_by_more (λ h. unsigned_abs h.amplitude * h.speed) (waves_of b s year) k d (omega (arith, in_list, length-waves_of b s year)) in
-    let speed_is : unsigned_abs (speed_of b k) ≡ speed = ap unsigned_abs (sym is_speed) in
-    let last : unsigned_abs (get_or (waves_of b s year) k d).amplitude * (get_or (waves_of b s year) k d).speed ≡ size * speed =
-    ap (λ h. unsigned_abs h.amplitude * h.speed) (get_or-waves_of b s year k d in_list)
-    ∙ ap (λ n. n * unsigned_abs (speed_of b k)) (sym is_size) ∙ ap (λ n. size * n) speed_is in
-    omega (arith, more, last, is_steepness)
 
 -- the limits
 pub fault_large : (b : Book) (s : Station) (year : ℕ) → most_amount < amount_of (waves_of b s year) → year_fault b s year ≡ Some (TooLarge (b.first_year +ℤ pos year))
@@ -88,24 +62,7 @@ wave_steepness b s year k in_list none =
     ap (λ h. unsigned_abs h.amplitude * h.speed) (get_or-waves_of b s year k d in_list) in
     omega (arith, one, is, (none_fault b s year none).1)
 
--- which of them are kept
-pub absent_more : (b : Book) (s : Station) (year k : ℕ) → k < length b.constituents → amplitude_of b s year k ≡ pos 0 → filter is_present (take (k + 1) (waves_of b s year)) ≡ filter is_present (take k (waves_of b s year))
-absent_more b s year k in_list zero' =
-    let d = wave_of b s year k in
-    let more = filter_more is_present (waves_of b s year) k d (omega (arith, in_list, length-waves_of b s year)) in
-    let absent : is_present (get_or (waves_of b s year) k d) ≡ false = ap is_present (get_or-waves_of b s year k d in_list) ∙ ap (λ z. not (nat_eq (unsigned_abs z) 0)) zero' in
-    more ∙ ap (λ t. filter is_present (take k (waves_of b s year)) ++ cond t (get_or (waves_of b s year) k d ∷ []) []) absent ∙ append-nil (filter is_present (take k (waves_of b s year)))
-
-pub present_more : (b : Book) (s : Station) (year k : ℕ) (wave : Harmonic) → k < length b.constituents → (amplitude_of b s year k ≡ pos 0 → ⊥) → wave ≡ wave_of b s year k → filter is_present (take (k + 1) (waves_of b s year)) ≡ filter is_present (take k (waves_of b s year)) ++ wave ∷ []
-present_more b s year k wave in_list some is =
-    let d = wave_of b s year k in
-    let more = filter_more is_present (waves_of b s year) k d (omega (arith, in_list, length-waves_of b s year)) in
-    let here = get_or-waves_of b s year k d in_list in
-    let size : nat_eq (unsigned_abs (amplitude_of b s year k)) 0 ≡ false = ne_eqb (unsigned_abs (amplitude_of b s year k)) 0 (λ e. some (zero_size (amplitude_of b s year k) e)) in
-    let present : is_present (get_or (waves_of b s year) k d) ≡ true = ap is_present here ∙ ap not size in
-    more ∙ ap (λ t. filter is_present (take k (waves_of b s year)) ++ cond t (get_or (waves_of b s year) k d ∷ []) []) present
-    ∙ ap (λ w. filter is_present (take k (waves_of b s year)) ++ w ∷ []) (here ∙ sym is)
-
+-- a wave by its parts
 pub is_wave : (b : Book) (s : Station) (year k : ℕ) (wave : Harmonic) (amplitude : ℤ) (speed phase : ℕ) → wave ≡ record { amplitude = amplitude; speed = speed; phase = phase } → amplitude ≡ amplitude_of b s year k → pos speed ≡ speed_of b k → phase ≡ phase_of b s year (start_of b.first_year year -ℤ pos 60) k → wave ≡ wave_of b s year k
 is_wave b s year k wave amplitude speed phase is is_amplitude is_speed is_phase =
     let speed_is : speed ≡ unsigned_abs (speed_of b k) = ap unsigned_abs is_speed in

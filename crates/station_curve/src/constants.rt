@@ -10,6 +10,7 @@ ghost use Rattle.station_curve.specs.Waves.{amount_of, steepness_of};
 ghost use Rattle.station_curve.specs.Limits.{most_amount, most_steepness};
 ghost use Rattle.station_curve.specs.Schureman.{speed_of, amplitude_of, phase_of};
 ghost use Rattle.station_curve.specs.Curves.{waves_of, is_present, year_fault};
+ghost use Rattle.station_curve.specs.Workings.Prepared.{present_in};
 
 use crate::fault::CurveFault;
 use crate::wave::Wave;
@@ -24,15 +25,41 @@ const MOST_AMOUNT: u64 = 1_000_000_000;
 /// The most that the amplitudes times the speeds of a year may sum to.
 const MOST_STEEPNESS: u128 = 100_000_000_000_000_000;
 
-/// Whether a year is within the limits.
-pub fn check_year(book: &SoundBook<'_>, station: &Station, year: u32) -> Result<(), CurveFault>
+/// The places of the constituents that a station has an amplitude for.
+pub fn present_places(
+    alloc: Global,
+    book: &SoundBook<'_>,
+    station: &Station,
+) -> Result<Vec<usize>, AllocError>
     requires station { IsStation (length book.now.constituents) station.now }
+    ensures places { IfOk result (λ places. places.items ≡ present_in book.now station.now) }
+    ensures few { IfOk result (λ places. length places.items ≤ 500) }
+{
+    let mut places = Vec::new(alloc);
+    for k in 0..count(book) {
+        if station.amplitude.as_slice()[k] != 0 {
+            places.push(k)?;
+        }
+    }
+    Ok(places)
+}
+
+/// Whether a year is within the limits, by the constituents that are present.
+pub fn check_year(
+    book: &SoundBook<'_>,
+    station: &Station,
+    present: &[usize],
+    year: u32,
+) -> Result<(), CurveFault>
+    requires station { IsStation (length book.now.constituents) station.now }
+    requires present { present.now ≡ present_in book.now station.now }
+    requires few { length present.now ≤ 500 }
     requires year { year < book.now.years }
     ensures { MatchResult result
         (λ _. year_fault book.now station.now year ≡ None)
         (λ fault. year_fault book.now station.now year ≡ Some fault) }
 {
-    let (amount, steepness) = sums(book, station, year);
+    let (amount, steepness) = sums(book, station, present, year);
     let year = calendar_year(book, year);
     if amount > MOST_AMOUNT {
         return Err(CurveFault::TooLarge { year });
@@ -61,15 +88,18 @@ fn count(book: &SoundBook<'_>) -> usize
 }
 
 /// The sum of the amplitudes' sizes in a year, and of each size times the speed.
-fn sums(book: &SoundBook<'_>, station: &Station, year: u32) -> (u64, u128)
+fn sums(book: &SoundBook<'_>, station: &Station, present: &[usize], year: u32) -> (u64, u128)
     requires station { IsStation (length book.now.constituents) station.now }
+    requires present { present.now ≡ present_in book.now station.now }
+    requires few { length present.now ≤ 500 }
     requires year { year < book.now.years }
     ensures amount { result.0 ≡ amount_of (waves_of book.now station.now year) }
     ensures steepness { result.1 ≡ steepness_of (waves_of book.now station.now year) }
 {
     let mut amount = 0;
     let mut steepness = 0;
-    for k in 0..count(book) {
+    for place in present {
+        let k = *place;
         let size = amplitude(book, station, year, k).unsigned_abs();
         amount += size;
         steepness += u128::from(size) * u128::from(speed(book, k));
@@ -82,15 +112,18 @@ pub fn year_waves(
     alloc: Global,
     book: &SoundBook<'_>,
     station: &Station,
+    present: &[usize],
     year: u32,
 ) -> Result<Vec<Wave>, AllocError>
     requires station { IsStation (length book.now.constituents) station.now }
+    requires present { present.now ≡ present_in book.now station.now }
     requires year { year < book.now.years }
     requires within { year_fault book.now station.now year ≡ None }
     ensures { IfOk result (λ waves. waves.items ≡ filter is_present (waves_of book.now station.now year)) }
 {
-    let mut waves = Vec::new(alloc);
-    for k in 0..count(book) {
+    let mut waves = Vec::with_capacity(alloc, present.len())?;
+    for place in present {
+        let k = *place;
         let amplitude = amplitude(book, station, year, k);
         if amplitude != 0 {
             waves.push(Wave::new(amplitude, speed(book, k), phase(book, station, year, k)))?;

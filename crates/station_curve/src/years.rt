@@ -6,7 +6,7 @@ ghost use Rattle.station_curve.specs.Curves.{first_fault};
 ghost use Rattle.station_curve.specs.Workings.Prepared.{AreReady};
 ghost use Rattle.station_curve.specs.declared.fault.CurveFault.TheVariants.{NoMemory};
 
-use crate::constants::{calendar_year, check_year, year_waves};
+use crate::constants::{calendar_year, check_year, present_places, year_waves};
 use crate::fault::CurveFault;
 use crate::wave::Wave;
 use crate::year_sums::{Sums, sums_of_waves};
@@ -62,14 +62,16 @@ pub fn years_of(
         (λ years. AreReady book.now station.now book.now.years years.items)
         (λ fault. (fault ≡ NoMemory) ⊎ (first_fault book.now station.now book.now.years ≡ Some fault)) }
 {
+    let places = present_places(alloc, book, station)?;
+    let present = places.as_slice();
     let mut years = Vec::new(alloc);
     for year in 0..book.get().years {
-        if let Err(fault) = check_year(book, station, year) {
+        if let Err(fault) = check_year(book, station, present, year) {
             return Err(fault);
         }
         let start = year_start(calendar_year(book, year));
         let end = year_start(calendar_year(book, year + 1));
-        let waves = year_waves(alloc, book, station, year)?;
+        let waves = year_waves(alloc, book, station, present, year)?;
         let sums = sums_of_waves(waves.as_slice());
         years.push(Year {
             start,

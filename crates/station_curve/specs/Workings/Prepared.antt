@@ -1,11 +1,20 @@
 -- The years of a book's station as a curve keeps them.
-use Rattle.std.specs.Prelude.{◌≡◌, ℕ, suc, ◌<◌, List, length, filter, None, slice_index_or}
+use Rattle.std.specs.Prelude.{◌≡◌, ℕ, suc, ◌<◌, ◌==◌, not, Bool, List, length, filter, None, pos, unsigned_abs, slice_index_or}
 use Rattle.harmonics_text.specs.declared.book.Station.{Station}
 use Rattle.harmonics_text.specs.declared.book.Book.{Book}
 use Rattle.year_blend.specs.Places.{start_of}
 use Rattle.station_curve.specs.declared.years.Year.{Year}
 use Rattle.station_curve.specs.Curves.{waves_of, is_present, first_fault}
+use Rattle.station_curve.specs.Schureman.{constituents_of}
 use Rattle.station_curve.specs.Sums.{sums_of}
+
+-- a constituent that the station has an amplitude for
+abbrev pub has_amplitude : Station → ℕ → Bool
+has_amplitude s k = not (unsigned_abs (slice_index_or s.amplitude k (pos 0)) == 0)
+
+-- the places of these
+abbrev pub present_in : Book → Station → List ℕ
+present_in b s = filter (has_amplitude s) (constituents_of b)
 
 -- the first years, that many, none of them beyond a limit
 pub record AreReady (b : Book) (s : Station) (count : ℕ) (years : List Year) : Type 0 where
