@@ -1,5 +1,5 @@
 -- The sine by a degree made ready: what is gained is too great by so little that only just past a whole billionth it may be of the one before.
-use Rattle.std.proofs.Common.{◌≡◌, ℕ, suc, ◌+◌, ◌-◌, ◌*◌, ◌/◌, ◌<◌, ◌≤◌, refl, ap, ◌∙◌, arith, ℤ, pos, negsuc, neg_ℤ, ◌+ℤ◌, ◌-ℤ◌, ◌*ℤ◌, ◌<ℤ◌, min, unsigned_abs}
+use Rattle.std.proofs.Common.{◌≡◌, ℕ, zero, suc, ◌+◌, ◌-◌, ◌*◌, ◌/◌, ◌<◌, ◌≤◌, refl, ap, ◌∙◌, arith, ℤ, pos, negsuc, neg_ℤ, ◌+ℤ◌, ◌-ℤ◌, ◌*ℤ◌, ◌<ℤ◌, min, unsigned_abs}
 use Rattle.std.specs.Int.{int_shr}
 use Rattle.std.proofs.lemmas.Int.{ints}
 use Rattle.std.proofs.lemmas.Nat.{mul-le}
@@ -7,12 +7,30 @@ use Rattle.fixed_sine.specs.Degrees.{bend_at, slope_at, IsReady}
 use Rattle.fixed_sine.specs.Sine.{half_of, isin_of}
 use Rattle.fixed_sine.specs.Table.{sine_at}
 use Rattle.fixed_sine.proofs.CircleLemmas.{isin_of-first, isin_of-second}
-use Rattle.fixed_sine.proofs.EstimateLemmas.{raised, multiplied}
 use Rattle.fixed_sine.proofs.QuarterLemmas.{minus_times}
 use Rattle.fixed_sine.proofs.RowLemmas.{half_of-row}
 use Rattle.fixed_sine.proofs.TableLemmas.{correction-size, IsRow}
 
--- a degree in numbers without a sign, each counted from one below all of its kind
+-- ---- signed numbers, counted from one below all of their kind
+
+raised : (z : ℤ) (b : ℕ) → unsigned_abs z ≤ b → z +ℤ pos b ≡ pos (unsigned_abs (z +ℤ pos b))
+raised z b h = omega (arith, ints)
+
+lifted : (x y n : ℕ) → n + x ≡ y → neg_ℤ (pos x) +ℤ pos y ≡ pos n
+lifted zero y n e = omega (arith, ints)
+lifted (suc x) y n e = omega (arith, ints)
+
+multiplied : (r b n : ℕ) (z : ℤ) → z +ℤ pos b ≡ pos n → (pos r *ℤ z) +ℤ pos (r * b) ≡ pos (r * n)
+multiplied r b n (pos a) e =
+    let sum : a + b ≡ n = omega (arith, ints) in
+    let product : r * (a + b) ≡ r * n = ap (λ k. r * k) sum in
+    ap pos (omega (arith, product))
+multiplied r b n (negsuc a) e =
+    let sum : n + suc a ≡ b = omega (arith, ints) in
+    let product : r * (n + suc a) ≡ r * b = ap (λ k. r * k) sum in
+    lifted (r * suc a) (r * b) (r * n) (omega (arith, product))
+
+-- a degree in numbers without a sign
 pub record IsCounted (r slope bend ready_slope ready_bend lost mean ready : ℕ) : Type 0 where
   pub under : mean * 18446744073709551616 + 1152921504606846976 * 1440000000000000000 ≤ ready * 1440000000000000000 + 43000000000000000 * 18446744073709551616
   pub near : 256 * (ready * 1440000000000000000 + 43000000000000000 * 18446744073709551616) ≤ 256 * (mean * 18446744073709551616 + 1152921504606846976 * 1440000000000000000) + (512 + r) * 1440000000000000000

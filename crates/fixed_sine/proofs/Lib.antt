@@ -3,5 +3,4 @@ pub mod QuarterLemmas
 pub mod CircleLemmas
 pub mod RateLemmas
 pub mod RowLemmas
-pub mod EstimateLemmas
 pub mod DegreeLemmas

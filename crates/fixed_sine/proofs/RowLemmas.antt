@@ -149,5 +149,5 @@ gentle k r sine size slope h small row =
     ]
 
 -- the sum in the code
-pub summed : (here gain z sine : ℤ) → here ≡ sine → sine +ℤ gain ≡ z → unsigned_abs gain ≤ 20000000 → unsigned_abs z ≤ 1000000000 → to_z w64 (of_z w64 (to_z w64 (of_z w64 here) +ℤ to_z w64 (of_z w64 gain))) ≡ z
+pub summed : (here gain z sine : ℤ) → here ≡ sine → sine +ℤ gain ≡ z → unsigned_abs gain ≤ 300000000 → unsigned_abs z ≤ 1000000000 → to_z w64 (of_z w64 (to_z w64 (of_z w64 here) +ℤ to_z w64 (of_z w64 gain))) ≡ z
 summed here gain z sine is_here sum small most = omega (arith, ints)

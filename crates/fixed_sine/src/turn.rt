@@ -11,7 +11,7 @@ ghost use Rattle.fixed_sine.specs.Turn.{turn_of, units_of};
 
 use crate::circle::CIRCLE;
 use crate::degrees::degree_at;
-use crate::sine::{UNITS, isin};
+use crate::sine::{UNITS, isin, product};
 
 /// A whole turn.
 const TURN: u128 = 1 << 64;
@@ -131,16 +131,6 @@ fn gain_over(r: u64, slope: i64) -> Gain
         whole,
         rest: rest_of(product, whole),
     }
-}
-
-/// `r` times a slope.
-fn product(r: u64, slope: i64) -> i128
-    requires part { r < degree }
-    requires slope { unsigned_abs slope ≤ 550000000000000000 }
-    ensures value { result ≡ pos r *ℤ slope }
-    ensures size { unsigned_abs result ≤ 330000000000000000000000000 }
-{
-    i128::from(r) * i128::from(slope)
 }
 
 /// So many 2^64ths, rounded down.
