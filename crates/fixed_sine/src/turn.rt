@@ -39,6 +39,7 @@ pub fn turn_of(units: u64) -> u64
 }
 
 /// The sine at the unit in which a part of a turn lies.
+#[inline]
 pub fn turn_sine(turn: u64) -> i64
     ensures value { result ≡ isin_of (units_of turn) }
     ensures size { unsigned_abs result ≤ 1000000000 }
@@ -47,13 +48,14 @@ pub fn turn_sine(turn: u64) -> i64
     let degree = degree_at(spot.degrees);
     let gain = gain_over(spot.r, mean_slope(degree.slope, degree.bend, spot.r));
     if gain.rest < UNSURE {
-        isin(place_of(spot))
+        written_sine(spot)
     } else {
         i64::from(degree.sine) + gain.whole
     }
 }
 
 /// The cosine at the unit in which a part of a turn lies.
+#[inline]
 pub fn turn_cosine(turn: u64) -> i64
     ensures value { result ≡ icos_of (units_of turn) }
     ensures size { unsigned_abs result ≤ 1000000000 }
@@ -79,6 +81,18 @@ fn spot_of(turn: u64) -> Spot
         degrees: (degrees / TURN) as usize,
         r: (degrees % TURN * u128::from(UNITS) / TURN) as u64,
     }
+}
+
+/// The sine at a spot, by its definition.
+#[cold]
+#[inline(never)]
+fn written_sine(spot: Spot) -> i64
+    requires degrees { spot.degrees < 360 }
+    requires part { spot.r < degree }
+    ensures value { result ≡ isin_of (degree * spot.degrees + spot.r) }
+    ensures size { unsigned_abs result ≤ 1000000000 }
+{
+    isin(place_of(spot))
 }
 
 /// The units of a spot.
