@@ -1,11 +1,11 @@
 //! A span of a station: which station a name means, and what is followed of it.
 //!
-//! [`find_station`] goes the way of every question about a station: its name, its unit, the span, the
-//! limits and the mark, and stops at the first refusal. What is found has curves ([`turn_curve`],
-//! [`slack_curve`], [`mark_curve`]), events ([`find_events`], or one at a time by [`merge_of`]), levels
-//! ([`level_at`], [`is_rising`]) and a highest water ([`find_highest`], [`judge_highest`]).
-//! `specs/Sites.antt` has the order of the refusals, and `specs/Following.antt` which curves are
-//! followed.
+//! [`find_station`] goes the way of every question about a span of a station: its name, its unit, the
+//! span, the limits and the mark, and stops at the first refusal; [`find_level`] asks for levels too,
+//! and [`find_known`] for no span. What is found has curves ([`turn_curve`], [`slack_curve`],
+//! [`mark_curve`]), events ([`find_events`], or one at a time by [`merge_of`]), levels ([`level_at`],
+//! [`is_rising`]) and a highest water ([`find_highest`], [`judge_highest`]). `specs/Sites.antt` has the
+//! order of the refusals, and `specs/Following.antt` which curves are followed.
 #![tactic(auto)]
 
 mod asked;

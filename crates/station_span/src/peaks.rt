@@ -23,7 +23,7 @@ use std::alloc::{AllocError, Global};
 use tide_fault::Refusal;
 
 /// The station of a name with a span of it that has a highest water, or the first refusal: the
-/// station, its unit, the span, the limits, a level.
+/// station, its unit, the span, the limits, the mark, a level.
 #[tactic(auto, unfolding(crate::specs::Peaks::highest_site))]
 pub fn find_level(
     alloc: Global,
