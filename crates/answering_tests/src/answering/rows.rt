@@ -48,6 +48,10 @@ pub const ANSWERS: &[(&str, &str)] = &[
         "tide certificate 2\nstation Flow\nbegin 2000-01-10T02:59Z\nend 2000-01-10T03:01Z\nmark none\ntrack turn\nq 2\ntrack slack\nt ebb 8727\ns\ndone\n",
     ),
     (
+        "certify|file=f|station=Outer|begin=2000-01-10T00:30Z|end=2000-01-10T00:38Z",
+        "tide certificate 2\nstation Outer\nbegin 2000-01-10T00:30Z\nend 2000-01-10T00:38Z\nmark none\ntrack turn\ns\ns\nq 2\nq 4\ndone\n",
+    ),
+    (
         "heights|file=f|station=Outer|begin=2000-01-10T00:30Z|end=2000-01-10T06:30Z|step=360",
         "Outer\n2000-01-10 00:30 UTC       2.50 feet\n2000-01-10 06:30 UTC      -1.50 feet\n",
     ),
@@ -183,6 +187,10 @@ pub const VERDICTS: &[(&str, &str)] = &[
     (
         "tide certificate 1\nstation Pier\nbegin 2000-01-10T05:59Z\nend 2000-01-10T06:01Z\nmark none\ntrack turn\ns\ns\ndone\n",
         "Rejected: track turn: cell 2 has the wrong step\n",
+    ),
+    (
+        "tide certificate 2\nstation Outer\nbegin 2000-01-10T00:30Z\nend 2000-01-10T00:38Z\nmark none\ntrack turn\ns\ns\nq 2\nq 4\ndone\n",
+        "Accepted\nOuter\n",
     ),
     (
         "tide certificate 2\nstation Nobody\nbegin 2000-01-10T05:59Z\nend 2000-01-10T06:01Z\nmark none\ntrack turn\ndone\n",

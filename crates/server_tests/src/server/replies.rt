@@ -39,6 +39,30 @@ const READ: &[(&str, &str, &str, &str)] = &[
         "Pier\n2000-01-11 05:29 +05:30       1.00 feet  High Tide\n",
     ),
     (
+        "/predict?station=Pier&begin=2000-01-10T23:59Z&end=2000-01-11T00:00Z&layout=csv&zone=%2B05:30",
+        "200 OK",
+        "text/csv",
+        "station,moment,local,event,level,units\nPier,2000-01-10T23:59Z,2000-01-11 05:29,High Tide,0.999962,feet\n",
+    ),
+    (
+        "/heights?station=Pier&begin=2000-01-10T00:00Z&end=2000-01-10T06:00Z&step=360&zone=%2B05:30",
+        "200 OK",
+        "text/plain",
+        "Pier\n2000-01-10 05:30 +05:30       1.00 feet\n2000-01-10 11:30 +05:30      -1.00 feet\n",
+    ),
+    (
+        "/calendar?station=Pier&begin=2000-01-10T00:00Z&end=2000-01-11T00:00Z&zone=%2B05:30",
+        "200 OK",
+        "text/plain",
+        "Pier\n2000-01-10  11:30 -1.00 Low Tide  17:29 1.00 High Tide  23:30 -1.00 Low Tide\n2000-01-11  05:29 1.00 High Tide\n",
+    ),
+    (
+        "/clock?station=Pier&zone=%2B05:30",
+        "200 OK",
+        "text/plain",
+        "Pier\nNow 2000-01-10 08:30 +05:30       0.00 feet  Falling\n2000-01-10 11:30 +05:30      -1.00 feet  Low Tide\n2000-01-10 17:29 +05:30       1.00 feet  High Tide\n2000-01-10 23:30 +05:30      -1.00 feet  Low Tide\n2000-01-11 05:29 +05:30       1.00 feet  High Tide\n",
+    ),
+    (
         "/predict?station=Pier&begin=2000-01-10T23:59Z&end=2000-01-11T00:00Z&zone=+05:30",
         "400 Bad Request",
         "text/plain",
