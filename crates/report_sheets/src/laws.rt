@@ -1,10 +1,18 @@
-//! What a page shows.
+//! What a page shows, and what three sheets write.
 
 ghost use Rattle.std.specs.Prelude.{◌≡◌, ◌≤◌, List, length, take};
 ghost use Rattle.curve_law.specs.declared.event.Event.{Event};
 ghost use Rattle.report_sheets.specs.declared.head.Head.{Head};
+ghost use Rattle.report_sheets.specs.Listings.{first_sheet};
 ghost use Rattle.report_sheets.specs.Pages.{page_of};
+ghost use Rattle.report_sheets.specs.Ranges.{range_sheet};
 ghost use Rattle.report_sheets.specs.Sheets.{SheetMeaning};
+ghost use Rattle.report_sheets.specs.Tallies.{tally_sheet};
+
+use crate::first_lines::FirstLinesPage;
+use crate::layout::Layout;
+use crate::ranges::RangesPage;
+use crate::tally::TallyPage;
 
 /// A sheet that takes all events shows all of them. One that is full shows exactly as many as it
 /// takes, and these are the first.
@@ -14,4 +22,11 @@ pub fn pages_show_the_first_events()
         → length events ≤ sheet.limit → page_of head events sheet ≡ sheet.layout head events }
     ensures first { (sheet : SheetMeaning) (head : Head) (events : List Event)
         → sheet.limit ≤ length events → (page_of head events sheet ≡ sheet.layout head (take sheet.limit events)) × (length (take sheet.limit events) ≡ sheet.limit) }
+{}
+
+/// A tally, a range and the first lines are the sheets that their definitions say.
+pub fn sheets_write_their_layouts()
+    ensures tally { ⟦<TallyPage as Layout>⟧.sheet ≡ tally_sheet }
+    ensures range { ⟦<RangesPage as Layout>⟧.sheet ≡ range_sheet }
+    ensures first { ⟦<FirstLinesPage as Layout>⟧.sheet ≡ first_sheet }
 {}

@@ -24,7 +24,7 @@ mod worked;
 pub use collected::Collected;
 pub use first_lines::{FirstLines, FirstLinesPage};
 pub use head::Head;
-pub use laws::pages_show_the_first_events;
+pub use laws::{pages_show_the_first_events, sheets_write_their_layouts};
 pub use layout::Layout;
 pub use pages::{fill, missing};
 pub use ranges::{Ranges, RangesPage};

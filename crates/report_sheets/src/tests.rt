@@ -216,5 +216,6 @@ fn unknown_words_are_missing(rt: HostRuntime) -> Result<(), Fail> {
     worked_pages();
     worked_words();
     pages_show_the_first_events();
+    sheets_write_their_layouts();
     Ok(())
 }
