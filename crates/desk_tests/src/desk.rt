@@ -279,6 +279,20 @@ fn each_file_has_its_place_in_the_order(rt: HostRuntime) -> Result<(), Fail> {
 }
 
 #[test]
+fn false_certificates_are_rejected(rt: HostRuntime) -> Result<(), Fail> {
+    let alloc = rt.alloc();
+    for &(words, text, told) in REJECTIONS {
+        let mut held = Vec::new(alloc);
+        held.push(named(alloc, "pier.txt", pier_with(alloc, 0, "")?)?)?;
+        let bytes = Bytes::from_vec(text.as_bytes().to_vec(alloc)?);
+        held.push(named(alloc, "cert", bytes)?)?;
+        let outcome = run_over_all(alloc, held, words, 4096, NONE)?;
+        assert_outcome(&rt, &outcome, 1, told, "");
+    }
+    Ok(())
+}
+
+#[test]
 fn files_have_limits(rt: HostRuntime) -> Result<(), Fail> {
     let alloc = rt.alloc();
     for (name, length, words, line) in [

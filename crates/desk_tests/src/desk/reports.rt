@@ -118,6 +118,26 @@ fn a_report_is_refused_in_its_order(rt: HostRuntime) -> Result<(), Fail> {
             "",
             "read fault\n",
         ),
+        // the clock before the station
+        (
+            13,
+            "Quay",
+            "tally",
+            Fails { clock: 1, ..NONE },
+            6,
+            "",
+            "read fault\n",
+        ),
+        (13, "Quay", "tally", NONE, 4, "", "refused: no station\n"),
+        (
+            15,
+            "0 knots",
+            "tally",
+            NONE,
+            0,
+            "Pier\n2 Max Flood\n2 Max Ebb\n2 Slack Flood Begins\n2 Slack Ebb Begins\n",
+            "",
+        ),
         (
             15,
             "0 knots^2",

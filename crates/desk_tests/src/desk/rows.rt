@@ -255,3 +255,19 @@ pub const LATE: &str =
 
 pub const OUT_OF_YEARS: &str =
     "refused: out of years: file has 1999-01-01T00:00Z to 2002-01-01T00:00Z\n";
+
+// Words, a certificate that is false, and what is told of it.
+pub const REJECTIONS: &[(&str, &str, &str)] = &[
+    (
+        "check|file=pier.txt|certificate=cert",
+        "tide certificate 2\nstation Pier\nbegin 2000-01-10T00:00Z\nend 2000-01-10T00:08Z\nmark none\n\
+         track turn\ns\ns\nq 2\nq 3\ndone\n",
+        "Rejected: track turn: cells cover 7 of 8 minutes\n",
+    ),
+    (
+        "peakcheck|file=pier.txt|certificate=cert",
+        "peak certificate 1\nstation Pier\nbegin 2000-01-10T00:00Z\nend 2000-01-10T00:04Z\n\
+         at 2000-01-10T00:01Z\nvalue 4147042074624000000000000000000\nm\nm\nm\nm\ndone\n",
+        "Rejected: cell 1 is above\n",
+    ),
+];
