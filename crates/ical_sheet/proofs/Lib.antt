@@ -5,3 +5,4 @@ mod LineLemmas
 mod PieceLemmas
 mod UnfoldingLemmas
 mod WorkedLemmas
+mod IdentifierLemmas

@@ -1,4 +1,4 @@
-//! What follows of lines, folded and unfolded.
+//! What follows of lines, folded and unfolded, and what the sheet writes.
 
 ghost use Rattle.std.specs.Prelude.{◌≡◌, ℕ, ◌<◌, List, ◌∷◌, ◌++◌, All, codes, drop, length, take};
 ghost use Rattle.std.specs.List.{flat_map};
@@ -6,8 +6,12 @@ ghost use Rattle.std.specs.Str.{IsUtf8};
 ghost use Rattle.curve_law.specs.declared.event.Event.{Event};
 ghost use Rattle.report_sheets.specs.declared.head.Head.{Head};
 ghost use Rattle.report_sheets.specs.Sheets.{IsHead};
-ghost use Rattle.ical_sheet.specs.Calendars.{IsNarrow, calendar_of, content_lines};
+ghost use Rattle.hex.specs.Hex.{IsBytes};
+ghost use Rattle.ical_sheet.specs.Calendars.{IsNarrow, calendar_of, content_lines, ical_sheet, uid_line};
 ghost use Rattle.ical_sheet.specs.Folding.{AreShort, IsContentLine, IsLongestPrefix, folded, further_pieces, physical_lines, prefix_length, unfolded};
+
+use crate::sheet::IcalPage;
+use report_sheets::Layout;
 
 /// A prefix that is taken is the longest one of so many octets that is text too, and so cuts no
 /// character. What follows the first piece is such a prefix of at most 74 octets, and then what
@@ -34,4 +38,16 @@ pub fn calendars_unfold()
         unfolded (calendar_of head events) ≡ flat_map (λ line. line ++ codes "\r\n") (content_lines head events) }
     ensures short { (head : Head) (events : List Event) → IsUtf8 head.name → IsHead head → All IsNarrow events →
         AreShort (physical_lines (calendar_of head events)) }
+{}
+
+/// A calendar is the sheet that its definition says.
+pub fn calendars_are_sheets()
+    ensures { ⟦<IcalPage as Layout>⟧.sheet ≡ ical_sheet }
+{}
+
+/// Events of which one has another minute, another kind or a station of another name have other
+/// identifiers.
+pub fn identifiers_tell_events_apart()
+    ensures { (name other : List ℕ) (event later : Event) → IsBytes name → IsBytes other → IsNarrow event → IsNarrow later →
+        uid_line name event ≡ uid_line other later → (name ≡ other) × (event.minute ≡ later.minute) × (event.kind ≡ later.kind) }
 {}

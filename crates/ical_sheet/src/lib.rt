@@ -18,7 +18,10 @@ mod worked;
 
 pub use escaping::escape;
 pub use folding::fold;
-pub use laws::{calendars_unfold, folded_lines_unfold, lines_are_cut_between_characters};
+pub use laws::{
+    calendars_are_sheets, calendars_unfold, folded_lines_unfold, identifiers_tell_events_apart,
+    lines_are_cut_between_characters,
+};
 pub use sheet::{IcalPage, IcalSheet};
 pub use unfolding::unfold;
 pub use worked::{worked_calendars, worked_escapes, worked_folds, worked_stamps, worked_unfolds};

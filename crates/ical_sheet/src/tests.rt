@@ -229,5 +229,7 @@ fn clocks_are_kept_within_the_years(rt: HostRuntime) -> Result<(), Fail> {
     folded_lines_unfold();
     calendars_unfold();
     lines_are_cut_between_characters();
+    calendars_are_sheets();
+    identifiers_tell_events_apart();
     Ok(())
 }
