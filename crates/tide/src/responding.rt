@@ -4,8 +4,8 @@ ghost use Rattle.std.specs.Prelude.{◌≡◌, ◌⊎◌, ℤ, Bool, IsTrue, IsO
 ghost use Rattle.named_files.specs.NoAnswers.{is_read_fault};
 ghost use Rattle.named_files.specs.Readings.{Folders};
 ghost use Rattle.tide_desk.specs.Answers.{AsksClock, HasFiles, NamesFile, allowed_by, answer_from, answer_of, asked_of};
-ghost use Rattle.tide_desk.specs.Outcomes.{EndsAs, IsFirm, IsSilent, IsUntouched, WentOn, outputs, sources};
-ghost use Rattle.tide_edge.specs.Clocks.{next_minute};
+ghost use Rattle.tide_desk.specs.Outcomes.{EndsAs, IsFirm, IsSilent, IsUntouched, WentOn, is_settled, outputs, sources};
+ghost use Rattle.tide_edge.specs.Clocks.{clock_after, next_minute};
 ghost use Rattle.tide_edge.specs.Whole.{ReadWithin};
 ghost use Rattle.tide_fault.specs.declared.status.Status.{Status};
 ghost use Rattle.tide_server.specs.Openings.{EndedBy, EndsAs as ServerEndsAs, TookNone, files_asked, handed, service_of, stock_from, stock_of};
@@ -57,6 +57,9 @@ pub fn respond<F: Files, D: Door, O: Sink, E: Sink, K: Clock>(
     ensures unasked { AsksAnswer words.now → ¬ (AsksClock (asked_of (map meaning sheets.items) words.now)) → clock.new ≡ clock.old }
     ensures asked_last { AsksAnswer words.now → IsTrue (F.state files.old).store.tells
         → ¬ (HasFiles (λ slot. (F.state files.old).store.folder) (asked_of (map meaning sheets.items) words.now)) → clock.new ≡ clock.old }
+    ensures asked_once { let asked = asked_of (map meaning sheets.items) words.now in
+        AsksAnswer words.now → IsTrue (F.state files.old).store.tells → AsksClock asked → HasFiles (λ slot. (F.state files.old).store.folder) asked
+        → IsTrue (is_settled result) → K.state clock.new ≡ clock_after false (K.state clock.old) }
     ensures same_door { AsksAnswer words.now → door.new ≡ door.old }
     ensures own_service { AsksService words.now → IsTrue (F.state files.old).store.tells
         → ServerEndsAs (IsTrue (F.state files.old).store.is_steady) (stock_of (F.state files.old).store.folder words.now) result

@@ -123,6 +123,10 @@ pub has_files : (folders : Folders) (asked : Result Question Fault) (question : 
 has_files folders asked question name is named read =
     let P : Option (List ℕ) → Type 0 = λ file. IsSomeAnd file (λ name. IsOk (files_in folders question name)) in rw is (subst P (sym named) read)
 
+pub files_named : (folders : Folders) (asked : Result Question Fault) (question : Question) (name : List ℕ) → asked ≡ Ok question → question.file ≡ Some name → HasFiles folders asked → IsOk (files_in folders question name)
+files_named folders asked question name is named has =
+    let P : Option (List ℕ) → Type 0 = λ file. IsSomeAnd file (λ name. IsOk (files_in folders question name)) in subst P named (rw is at has)
+
 pub names_file : (asked : Result Question Fault) (question : Question) (name : List ℕ) → asked ≡ Ok question → question.file ≡ Some name → NamesFile asked
 names_file asked question name is named =
     let P : Option (List ℕ) → Type 0 = λ file. IsSome file in rw is (subst P (sym named) refl)

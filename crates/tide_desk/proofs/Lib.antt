@@ -7,5 +7,6 @@ pub mod MemoryLemmas
 pub mod OutcomeLemmas
 pub mod PeakCertificateLemmas
 pub mod ReplyLemmas
+pub mod SettledLemmas
 pub mod SheetLemmas
 pub mod TableLemmas

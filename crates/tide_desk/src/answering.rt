@@ -8,6 +8,7 @@ ghost use Rattle.named_files.specs.Workings.Materials.{AreMaterials};
 ghost use Rattle.tide_answer.specs.Answers.{answered_alone};
 ghost use Rattle.tide_desk.specs.Answers.{AsksClock, HasFiles, NamesFile, allowed_by, answer_from, answer_of, answered_over, answered_with, asked_of, asks_clock, given_with, is_report, minute_for, refused_from};
 ghost use Rattle.tide_desk.specs.Outcomes.{IsFirm, WentOn, sources};
+ghost use Rattle.tide_desk.specs.Workings.Settled.{IsSettled};
 ghost use Rattle.tide_edge.specs.Clocks.{IsClockMinute, clock_after, next_minute};
 ghost use Rattle.decimal_text.specs.Expected.{Meets};
 
@@ -46,6 +47,9 @@ pub fn answer_words<F: Files, K: Clock>(
     ensures unasked { ¬ (AsksClock (asked_of (map meaning sheets.items) words.now)) → clock.new ≡ clock.old }
     ensures asked_last { IsTrue (F.state files.old).store.tells
         → ¬ (HasFiles (λ slot. (F.state files.old).store.folder) (asked_of (map meaning sheets.items) words.now)) → clock.new ≡ clock.old }
+    ensures asked_once { let asked = asked_of (map meaning sheets.items) words.now in
+        IsTrue (F.state files.old).store.tells → AsksClock asked → HasFiles (λ slot. (F.state files.old).store.folder) asked
+        → IfErr result IsSettled → K.state clock.new ≡ clock_after false (K.state clock.old) }
 {
     let question = read_words(alloc, words, &sheets)?;
     let sound = SoundQuestion::new(&question);
@@ -86,6 +90,9 @@ fn answer_over<F: Files, K: Clock>(
     ensures unasked { ¬ (IsTrue (asks_clock question.now.command)) → clock.new ≡ clock.old }
     ensures asked_last { IsTrue (F.state files.old).store.tells
         → ¬ (IsOk (files_in (λ slot. (F.state files.old).store.folder) question.now name.now)) → clock.new ≡ clock.old }
+    ensures asked_once { IsTrue (F.state files.old).store.tells → IsTrue (asks_clock question.now.command)
+        → IsOk (files_in (λ slot. (F.state files.old).store.folder) question.now name.now)
+        → IfErr result IsSettled → K.state clock.new ≡ clock_after false (K.state clock.old) }
 {
     let read = read_files(alloc, files, question, name)?;
     let now = read_minute(clock, question)?;

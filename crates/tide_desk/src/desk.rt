@@ -1,11 +1,11 @@
 //! One run, from the words to the status.
 
-ghost use Rattle.std.specs.Prelude.{◌≡◌, ◌⊎◌, ℤ, Bool, IsTrue, if◌then◌else◌, map};
+ghost use Rattle.std.specs.Prelude.{◌≡◌, ◌⊎◌, ℤ, Bool, false, IsTrue, if◌then◌else◌, map};
 ghost use Rattle.named_files.specs.NoAnswers.{is_read_fault};
 ghost use Rattle.named_files.specs.Readings.{Folders};
 ghost use Rattle.tide_desk.specs.Answers.{AsksClock, HasFiles, NamesFile, allowed_by, answer_from, answer_of, asked_of};
-ghost use Rattle.tide_desk.specs.Outcomes.{EndsAs, IsFirm, IsSilent, IsUntouched, WentOn, outputs, sources};
-ghost use Rattle.tide_edge.specs.Clocks.{next_minute};
+ghost use Rattle.tide_desk.specs.Outcomes.{EndsAs, IsFirm, IsSilent, IsUntouched, WentOn, is_settled, outputs, sources};
+ghost use Rattle.tide_edge.specs.Clocks.{clock_after, next_minute};
 ghost use Rattle.tide_fault.specs.declared.status.Status.{Status};
 
 use crate::answering::answer_words;
@@ -50,6 +50,9 @@ pub fn run<F: Files, O: Sink, E: Sink, K: Clock>(
     ensures unasked { ¬ (AsksClock (asked_of (map meaning sheets.items) words.now)) → clock.new ≡ clock.old }
     ensures asked_last { IsTrue (F.state files.old).store.tells
         → ¬ (HasFiles (λ slot. (F.state files.old).store.folder) (asked_of (map meaning sheets.items) words.now)) → clock.new ≡ clock.old }
+    ensures asked_once { let asked = asked_of (map meaning sheets.items) words.now in
+        IsTrue (F.state files.old).store.tells → AsksClock asked → HasFiles (λ slot. (F.state files.old).store.folder) asked
+        → IsTrue (is_settled result) → K.state clock.new ≡ clock_after false (K.state clock.old) }
 {
     match answer_words(alloc, words, files, clock, sheets) {
         Ok(reply) => match reply.write(out) {

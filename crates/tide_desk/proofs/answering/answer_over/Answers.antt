@@ -8,6 +8,7 @@ use Rattle.named_files.proofs.ReadingLemmas.{excuses_weaker, failed_at, meets_at
 use Rattle.tide_desk.specs.Answers.{answered_over, asks_clock}
 use Rattle.tide_desk.specs.Outcomes.{IsFirm, sources}
 use Rattle.tide_desk.proofs.AnsweringLemmas.{clock_rose, went_asking, went_reading}
+use Rattle.tide_desk.proofs.SettledLemmas.{never, unread_unsettled}
 use Rattle.tide_desk.proofs.answering.answer_over.Goals as goal
 
 pub returns-in_err-read-clause-own : goal.returns-in_err-read-clause-own
@@ -91,3 +92,16 @@ returns-clause-reads g c =
 
 pub returns-clause-asked_last : goal.returns-clause-asked_last
 returns-clause-asked_last g c = λ t unread. absurd (unread (rw (c.in_ok-read.ensures.own t) (search rules)))
+
+pub returns-in_err-read-clause-asked_once : goal.returns-in_err-read-clause-asked_once
+returns-in_err-read-clause-asked_once g c =
+    λ t asks ok settled. let p = err_from_is_err_and c.from_residual.result c.from_residual.ensures.1 in
+    absurd (unread_unsettled _ _ _ (c.in_err-read.ensures.own t) ok (rw (p.1, p.2) at settled))
+
+pub returns-in_err-now-clause-asked_once : goal.returns-in_err-now-clause-asked_once
+returns-in_err-now-clause-asked_once g c =
+    λ t asks ok settled. let p = err_from_is_err_and c.from_residual-in_err-now.result c.from_residual-in_err-now.ensures.1 in
+    never (rw (p.1, p.2, c.in_err-now.ensures.unread) at settled)
+
+pub returns-clause-asked_once : goal.returns-clause-asked_once
+returns-clause-asked_once g c = λ t asks ok settled. rw asks at c.in_ok-now.ensures.time

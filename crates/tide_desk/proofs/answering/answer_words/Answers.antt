@@ -3,7 +3,9 @@ use Rattle.std.specs.Prelude.{pos}
 use Rattle.named_files.specs.NoAnswers.{reading_failed}
 use Rattle.named_files.proofs.ReadingLemmas.{failed_at}
 use Rattle.tide_desk.specs.Outcomes.{sources}
-use Rattle.tide_desk.proofs.AnsweringLemmas.{has_files, meets_alone, meets_named, meets_unasked, names_file, went_by_words, went_nowhere}
+use Rattle.tide_desk.proofs.AnsweringLemmas.{files_named, has_files, meets_alone, meets_named, meets_unasked, names_file, went_by_words, went_nowhere}
+use Rattle.std.proofs.lemmas.Result.{err_from_is_err_and}
+use Rattle.tide_desk.proofs.SettledLemmas.{nameless_unread, unasked_unsettled}
 use Rattle.tide_desk.proofs.answering.answer_words.Goals as goal
 
 pub returns-in_err-question-clause-own : goal.returns-in_err-question-clause-own
@@ -70,3 +72,17 @@ returns-in-None-clause-some g c = (
   meets_alone (Unit {0}) _ _ _ c.args.words.now c.in_ok-question.question c.answer_without.result c.in_ok-question.ensures.exact c.in-None.is
       (rw c.new-sound.ensures at c.answer_without.ensures.exact),
 )
+
+pub returns-in_err-question-clause-asked_once : goal.returns-in_err-question-clause-asked_once
+returns-in_err-question-clause-asked_once g c =
+    λ t asks has settled. let p = err_from_is_err_and c.from_residual.result c.from_residual.ensures.1 in
+    absurd (unasked_unsettled _ _ c.in_err-question.ensures.exact asks (rw (p.1, p.2) at settled))
+
+pub returns-in-Some-clause-asked_once : goal.returns-in-Some-clause-asked_once
+returns-in-Some-clause-asked_once g c =
+    λ t asks has settled. (rw c.new-sound.ensures at c.answer_over.ensures.asked_once) t (rw c.in_ok-question.ensures.exact at asks)
+    (files_named (λ slot. (g.F.Files.state c.args.files.now).store.folder) _ c.in_ok-question.question c.in-Some.name c.in_ok-question.ensures.exact c.in-Some.is has) settled
+
+pub returns-in-None-clause-asked_once : goal.returns-in-None-clause-asked_once
+returns-in-None-clause-asked_once g c =
+    λ t asks has settled. absurd (nameless_unread (λ slot. (g.F.Files.state c.args.files.now).store.folder) _ c.in_ok-question.question c.in_ok-question.ensures.exact c.in-None.is has)

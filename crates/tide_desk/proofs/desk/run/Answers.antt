@@ -2,6 +2,7 @@ use Rattle.std.proofs.Common.{inl, sym}
 use Rattle.tide_desk.specs.Outcomes.{outputs}
 use Rattle.tide_edge.proofs.WritingLemmas.{put_none}
 use Rattle.tide_desk.proofs.OutcomeLemmas.{ends_told, ends_own, ends_whole, own_excused}
+use Rattle.tide_desk.proofs.SettledLemmas.{settled_told}
 use Rattle.tide_desk.proofs.desk.run.Goals as goal
 
 pub returns-in-Ok-write-clause-own_files : goal.returns-in-Ok-write-clause-own_files
@@ -49,3 +50,7 @@ returns-clause-some_files g c =
 
 pub returns-clause-reads : goal.returns-clause-reads
 returns-clause-reads g c = rw c.tell.ensures.read c.in-Err.ensures.reads
+
+pub returns-clause-asked_once : goal.returns-clause-asked_once
+returns-clause-asked_once g c =
+    λ t asks has settled. c.in-Err.ensures.asked_once t asks has (settled_told c.in-Err.none c.tell.result _ _ c.tell.ensures.told settled)

@@ -1,0 +1,84 @@
+-- What is told where reading has failed or memory is wanting, and what isn't.
+use Rattle.std.proofs.Common.{◌≡◌, ◌⊎◌, ◌∙◌, Bool, true, false, cond, Option, List, ℕ, None, Result, Ok, Err, inl, inr, refl, sym, subst}
+use Rattle.std.specs.Bool.{IsTrue}
+use Rattle.std.specs.Prelude.{IsOk}
+use Rattle.std.specs.Option.{IsSomeAnd}
+use Rattle.decimal_text.specs.Expected.{Excuses, Excused, Source, memory, given}
+use Rattle.question.specs.declared.fault.AskFault.TheVariants as ask
+use Rattle.question.specs.declared.question.Question.{Question}
+use Rattle.harmonics_text.specs.declared.fault.BookFault.TheVariants as form
+use Rattle.station_table.specs.declared.fault.OffsetFault.TheVariants as table
+use Rattle.tide_edge.specs.SinkStates.{SinkState}
+use Rattle.tide_fault.specs.declared.fault.Fault.{Fault}
+use Rattle.tide_fault.specs.declared.fault.Fault.TheVariants.{Ask, NoSheet, TooLong, Book, Offsets, BadZone, Refused}
+use Rattle.tide_fault.specs.declared.refusal.Refusal.TheVariants as refusals
+use Rattle.tide_fault.specs.declared.status.Status.{Status}
+use Rattle.tide_fault.specs.Faults.{wants_memory as fault_wants_memory}
+use Rattle.named_files.specs.declared.no_answer.NoAnswer.{NoAnswer}
+use Rattle.named_files.specs.declared.no_answer.NoAnswer.TheVariants.{Unread, Told}
+use Rattle.named_files.specs.declared.no_answer.NoAnswer.TheVariants as none_of
+use Rattle.named_files.specs.NoAnswers.{source_of}
+use Rattle.named_files.specs.Readings.{Folders, files_in}
+use Rattle.named_files.specs.Telling.{Tells}
+use Rattle.tide_desk.specs.Answers.{AsksClock, HasFiles}
+use Rattle.tide_desk.specs.Outcomes.{is_settled}
+use Rattle.tide_desk.specs.Workings.Settled.{IsSettled}
+
+pub never : {G : Type 0} → false ≡ true → G
+never is = cc
+
+-- it is given by what was read or asked
+settled_given : (none : NoAnswer) → IsSettled none → source_of none ≡ given
+settled_given Unread settled = never settled
+settled_given (Told (Ask ask.NoMemory)) settled = never settled
+settled_given (Told (Ask _)) settled = refl
+settled_given (Told (NoSheet word)) settled = refl
+settled_given (Told (TooLong slot)) settled = refl
+settled_given (Told (Book form.NoMemory)) settled = never settled
+settled_given (Told (Book (form.At line why))) settled = refl
+settled_given (Told (Offsets table.NoMemory)) settled = never settled
+settled_given (Told (Offsets (table.At row why))) settled = refl
+settled_given (Told BadZone) settled = refl
+settled_given (Told (Refused refusals.NoMemory)) settled = never settled
+settled_given (Told (Refused _)) settled = refl
+settled_given (none_of.Refused refusals.NoMemory rows) settled = never settled
+settled_given (none_of.Refused _ rows) settled = refl
+
+-- and so it is the expected fault
+settled_expected : {A : Type 0} (firm : Type 0) (expected : Result A NoAnswer) (none : NoAnswer) → Excuses (source_of none) firm expected none → IsSettled none → expected ≡ Err none
+settled_expected firm expected none excuses settled =
+    subst (λ source. Excuses source firm expected none) (settled_given none settled) excuses
+
+no_value : {A E : Type 0} (expected : Result A E) (fault : E) → expected ≡ Err fault → IsOk expected → ⊥
+no_value (Ok value) fault is ok = cc
+no_value (Err other) fault is ok = never ok
+
+-- where a file can be read it isn't told
+pub unread_unsettled : {A : Type 0} (firm : Type 0) (expected : Result A NoAnswer) (none : NoAnswer) → Excuses (source_of none) firm expected none → IsOk expected → IsSettled none → ⊥
+unread_unsettled firm expected none excuses ok settled =
+    no_value expected none (settled_expected firm expected none excuses settled) ok
+
+-- where words ask for the clock it isn't told of them
+memory_of : (b : Bool) → cond b memory given ≡ given → b ≡ false
+memory_of true is = cc
+memory_of false is = refl
+
+pub unasked_unsettled : (asked : Result Question Fault) (fault : Fault) → Excused (fault_wants_memory fault) asked fault → AsksClock asked → IsSettled (Told fault) → ⊥
+unasked_unsettled (Ok question) fault excused asks settled =
+    let given_one = memory_of (fault_wants_memory fault) (settled_given (Told fault) settled) in
+    let is : Ok question ≡ Err fault = rw given_one at excused in cc
+unasked_unsettled (Err other) fault excused asks settled = asks
+
+-- a question that names no file has none that can be read
+pub nameless_unread : (folders : Folders) (asked : Result Question Fault) (question : Question) → asked ≡ Ok question → question.file ≡ None → HasFiles folders asked → ⊥
+nameless_unread folders asked question is none has =
+    let P : Option (List ℕ) → Type 0 = λ file. IsSomeAnd file (λ name. IsOk (files_in folders question name)) in
+    subst P none (rw is at has)
+
+-- what is told goes with its status
+pub settled_told : (none : NoAnswer) (status : Status) (before after : SinkState) → Tells none status before after → IsTrue (is_settled status) → IsSettled none
+settled_told none status before after told settled =
+    elim told [
+      | inl t ↦ rw t.0 at settled
+      | inr t ↦ never (rw t.0 at settled)
+    ]
