@@ -3,7 +3,7 @@ use Rattle.std.proofs.Common.{◌≡◌, ℕ, zero, suc, ◌+◌, ◌-◌, ◌*�
 use Rattle.std.specs.Int.{int_shr}
 use Rattle.std.proofs.lemmas.Int.{ints}
 use Rattle.std.proofs.lemmas.Nat.{mul-le}
-use Rattle.fixed_sine.specs.Degrees.{bend_at, slope_at, IsReady}
+use Rattle.fixed_sine.specs.Workings.Degrees.{bend_at, slope_at, IsReady}
 use Rattle.fixed_sine.specs.Sine.{half_of, isin_of}
 use Rattle.fixed_sine.specs.Table.{sine_at}
 use Rattle.fixed_sine.proofs.CircleLemmas.{isin_of-first, isin_of-second}

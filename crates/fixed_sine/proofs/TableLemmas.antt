@@ -6,7 +6,7 @@ use Rattle.std.proofs.lemmas.Bool.Decides.{Decides-int_eq}
 use Rattle.std.proofs.lemmas.Int.{ints, to_z-of_z, fits_signed_from_abs}
 use Rattle.fixed_sine.specs.declared.degrees.TheConstants.{DEGREES}
 use Rattle.fixed_sine.specs.declared.table.TheConstants.{ROWS}
-use Rattle.fixed_sine.specs.Degrees.{bend_at, slope_at, IsReady}
+use Rattle.fixed_sine.specs.Workings.Degrees.{bend_at, slope_at, IsReady}
 use Rattle.fixed_sine.specs.Table.{sines, sine_at, rise, correction}
 
 le_from_test : (a b : ℤ) → int_le a b ≡ true → a ≤ℤ b

@@ -3,4 +3,4 @@ pub mod Table
 pub mod Sine
 pub mod Rate
 pub mod Turn
-pub mod Degrees
+pub mod Workings

@@ -2,7 +2,7 @@
 
 ghost use Rattle.std.specs.Prelude.{◌≡◌, ◌<◌, ◌≤◌, ◌-◌, pos, neg_ℤ, ◌-ℤ◌, unsigned_abs};
 ghost use Rattle.fixed_sine.specs.Table.{sine_at};
-ghost use Rattle.fixed_sine.specs.Degrees.{slope_at, bend_at, IsReady};
+ghost use Rattle.fixed_sine.specs.Workings.Degrees.{slope_at, bend_at, IsReady};
 
 /// A whole number of degrees.
 #[derive(Clone, Copy)]

@@ -1,7 +1,8 @@
 //! The highest water of a span, and the certificate of it.
 //!
 //! A [`Peak`] is the least minute that has a curve's greatest value, that value, and cells that show
-//! it: those in which the curve's rate leaves no room for a value as great, and single minutes.
+//! it: those in which the curve's rate leaves no room for a greater value, nor before that minute for
+//! one as great, and single minutes.
 //! [`find_peak`] finds one and [`check_peak`] checks one that anybody wrote, as the text that
 //! [`write_peak`] writes and [`read_peak`] reads. `specs/` has each of them.
 #![tactic(auto)]

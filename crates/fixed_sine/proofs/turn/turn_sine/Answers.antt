@@ -1,7 +1,7 @@
 use Rattle.std.proofs.Common.{FitsSigned, rules, ◌≡◌, ◌+◌, ◌-◌, ◌*◌, inl, inr, ap, ◌∙◌, w32, w64, arith, ℤ, pos, ◌-ℤ◌, ◌*ℤ◌, ◌+ℤ◌}
 use Rattle.std.proofs.lemmas.Bool.{cases_lt}
 use Rattle.std.proofs.lemmas.Int.{to_z-of_z}
-use Rattle.fixed_sine.specs.Degrees.{IsReady}
+use Rattle.fixed_sine.specs.Workings.Degrees.{IsReady}
 use Rattle.fixed_sine.specs.Sine.{isin_of}
 use Rattle.fixed_sine.specs.Turn.{units_of}
 use Rattle.fixed_sine.proofs.CircleLemmas.{isin_of_size}
