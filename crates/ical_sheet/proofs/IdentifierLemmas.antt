@@ -1,10 +1,11 @@
 -- The lines that tell events apart.
-use Rattle.std.proofs.Common.{◌≡◌, ◌∙◌, ℕ, suc, ◌<◌, ◌^◌, ◌==◌, true, false, if◌then◌else◌, List, [], ◌∷◌, ◌++◌, length, take, drop, slice_index, codes, decimal, ℤ, pos, negsuc, unsigned_abs, Ok, refl, sym, ap, rules, append_assoc, append-nil}
+use Rattle.std.proofs.Common.{◌≡◌, ◌∙◌, ℕ, suc, ◌<◌, ◌^◌, ◌==◌, ◌&&◌, Bool, true, false, if◌then◌else◌, List, [], ◌∷◌, ◌++◌, length, take, drop, slice_index, codes, decimal, ℤ, pos, negsuc, unsigned_abs, refl, sym, ap, rules, arith, append_assoc, append-nil}
 use Rattle.std.specs.Char.{is_ascii_digit}
 use Rattle.std.specs.List.{list_all, prefix_len}
 use Rattle.std.specs.Str.Parse.{digits_value, starts_with_minus}
 use Rattle.std.proofs.Math.Nat.{div-one, suc_inj}
 use Rattle.std.proofs.Math.Seq.{take-append_seam, drop-append_seam}
+use Rattle.std.proofs.lemmas.Bool.Decides.{nat_tests}
 use Rattle.std.proofs.lemmas.Fmt.{decimal_nonempty, digits_decimal, digits_value-decimal}
 use Rattle.std.proofs.lemmas.List.{append_cancel_left, append_cancel_right}
 use Rattle.std.proofs.lemmas.Str.Parse.{IsNumeralModel, numerals_by_value}
@@ -12,12 +13,30 @@ use Rattle.curve_law.specs.declared.event.Event.{Event}
 use Rattle.curve_law.specs.declared.kind.Kind.{Kind}
 use Rattle.curve_law.specs.declared.kind.Kind.TheVariants.{High, Low, FloodBegins, EbbBegins, MarkRising, MarkFalling}
 use Rattle.decimal_text.specs.Writing.{minus_of, write_of}
-use Rattle.decimal_text.proofs.RoundTrip.{prefix_len-append, unsigned_front}
 use Rattle.hex.specs.Hex.{IsBytes, decode_of, encode_lower}
 use Rattle.hex.proofs.HexLemmas.{decode_of-encode_lower}
 use Rattle.ical_sheet.specs.Calendars.{IsNarrow, number_of, uid_line}
 
 -- ---- the parts of a text
+
+first_of : (a b : Bool) → (a && b) ≡ true → a ≡ true
+first_of true b h = refl
+first_of false b h = h
+
+rest_of : (a b : Bool) → (a && b) ≡ true → b ≡ true
+rest_of true b h = h
+rest_of false b h = cc
+
+digits-counted : (w rest : List ℕ) → list_all is_ascii_digit w ≡ true → prefix_len is_ascii_digit rest ≡ 0 → prefix_len is_ascii_digit (w ++ rest) ≡ length w
+digits-counted [] rest h none = none
+digits-counted (c ∷ w) rest h none =
+    simp (first_of (is_ascii_digit c) (list_all is_ascii_digit w) h, digits-counted w rest (rest_of (is_ascii_digit c) (list_all is_ascii_digit w) h) none) (omega arith)
+
+digits-unsigned : (w rest : List ℕ) → 0 < length w → list_all is_ascii_digit w ≡ true → starts_with_minus (w ++ rest) ≡ false
+digits-unsigned [] rest some h = absurd (omega arith)
+digits-unsigned (c ∷ w) rest some h =
+    let digit = first_of (is_ascii_digit c) (list_all is_ascii_digit w) h in
+    grind (arith, nat_tests)
 
 numerals : IsNumeralModel (λ ds. list_all is_ascii_digit ds ≡ true) (digits_value 10)
 numerals = numerals_by_value _ (search rules)
@@ -27,7 +46,7 @@ digits-same : (w v rest more : List ℕ) → list_all is_ascii_digit w ≡ true 
     → prefix_len is_ascii_digit rest ≡ 0 → prefix_len is_ascii_digit more ≡ 0 → w ++ rest ≡ v ++ more → (w ≡ v) × (rest ≡ more)
 digits-same w v rest more p q none nor same =
     let count : length w ≡ length v =
-    sym (prefix_len-append w rest p none) ∙ ap (prefix_len is_ascii_digit) same ∙ prefix_len-append v more q nor in (
+    sym (digits-counted w rest p none) ∙ ap (prefix_len is_ascii_digit) same ∙ digits-counted v more q nor in (
       sym (take-append_seam w rest) ∙ ap (take (length w)) same ∙ ap (λ k. take k (v ++ more)) count ∙ take-append_seam v more,
       sym (drop-append_seam w rest) ∙ ap (drop (length w)) same ∙ ap (λ k. drop k (v ++ more)) count ∙ drop-append_seam v more,
     )
@@ -40,7 +59,7 @@ sizes-same a b rest more small low same =
     )
 
 no_minus : (n : ℕ) (rest : List ℕ) → n < 2 ^ 64 → starts_with_minus (decimal n ++ rest) ≡ false
-no_minus n rest small = (unsigned_front (decimal n) rest (decimal_nonempty n small) (digits_decimal numerals n small)).0
+no_minus n rest small = digits-unsigned (decimal n) rest (decimal_nonempty n small) (digits_decimal numerals n small)
 
 minutes-same : (z k : ℤ) (rest more : List ℕ) → unsigned_abs z < 2 ^ 64 → unsigned_abs k < 2 ^ 64
     → minus_of z ++ (decimal (unsigned_abs z) ++ 45 ∷ rest) ≡ minus_of k ++ (decimal (unsigned_abs k) ++ 45 ∷ more) → (z ≡ k) × (rest ≡ more)
@@ -61,6 +80,7 @@ kind_at octet =
     else if octet == 51 then EbbBegins else if octet == 52 then MarkRising else MarkFalling
 
 kind-first : (kind : Kind) (rest : List ℕ) → kind_at (slice_index (number_of kind ++ rest) 0) ≡ kind
+unfolding kind_at
 kind-first High rest = refl
 kind-first Low rest = refl
 kind-first FloodBegins rest = refl
