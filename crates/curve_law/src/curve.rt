@@ -1,17 +1,20 @@
 //! A value at each minute, and how fast it may change.
 
-ghost use Rattle.std.specs.Prelude.{◌≡◌, ℕ, ◌+◌, ◌^◌, ◌<◌};
-ghost use Rattle.curve_law.specs.Meaning.{Meaning, IsMinute, IsCell, IsLawful};
+ghost use Rattle.std.specs.Prelude.{◌≡◌, ℕ, ◌+◌, ◌^◌, ◌<◌, ◌≤◌, pos};
+ghost use Rattle.curve_law.specs.Meaning.{Meaning, IsMinute, IsCell, IsNear, IsLawful};
 
 use crate::kind::Kind;
 
 /// A track that is asked minute by minute, and that knows how fast its value may change.
 ///
 /// Minutes are counted from 1970-01-01T00:00Z. What a curve means never changes; it counts how many
-/// values it was asked for.
+/// values it was asked for, exact and near ones.
 pub trait Curve {
     /// The minutes, values, levels, kinds and rates that it tells.
     ghost meaning: { Self → Meaning };
+
+    /// How far a near value may be from the value.
+    ghost error: { Self → ℕ };
 
     /// How many values it was asked for.
     ghost count: { Self → ℕ };
@@ -24,13 +27,33 @@ pub trait Curve {
     fn last(&self) -> i64
         ensures { result ≡ (meaning self.now).last };
 
-    /// The value at a minute, below 10^37 in size. It is the one call that counts.
+    /// The value at a minute, below 10^37 in size. This call counts.
     fn value(&mut self, m: i64) -> i128
         requires minute { IsMinute (meaning self.old) m }
         requires few { count self.old < 2 ^ 63 }
         ensures value { result ≡ (meaning self.old).track.value m }
         ensures counted { count self.new ≡ count self.old + 1 }
-        ensures same { meaning self.new ≡ meaning self.old };
+        ensures same { meaning self.new ≡ meaning self.old }
+        ensures same_error { error self.new ≡ error self.old };
+
+    /// A number near the value at a minute, which may be told sooner. This call counts too.
+    fn near_value(&mut self, m: i64) -> i128
+        requires minute { IsMinute (meaning self.old) m }
+        requires few { count self.old < 2 ^ 63 }
+        ensures near { IsNear (meaning self.old) (error self.old) m result }
+        ensures counted { count self.new ≡ count self.old + 1 }
+        ensures same { meaning self.new ≡ meaning self.old }
+        ensures same_error { error self.new ≡ error self.old };
+
+    /// The value at a minute of which a near value was told. It isn't counted again.
+    fn exact_value(&self, m: i64, near: i128) -> i128
+        requires minute { IsMinute (meaning self.now) m }
+        requires near { IsNear (meaning self.now) (error self.now) m near }
+        ensures { result ≡ (meaning self.now).track.value m };
+
+    /// How far a near value may be from the value, at most 10^36.
+    fn error(&self) -> i128
+        ensures { result ≡ pos (error self.now) };
 
     /// How much the value changes at most in each of `n` minutes from `a` on, from 1 to 1,024
     /// minutes, where the curve can tell. 1,024 times a rate is below 5*10^37.
@@ -51,10 +74,13 @@ pub trait Curve {
     fn falling(&self) -> Kind
         ensures { result ≡ (meaning self.now).track.falling };
 
-    /// How many values it was asked for.
+    /// How many values it was asked for, exact and near ones.
     fn evaluations(&self) -> u64
         ensures { result ≡ count self.now };
 
     /// A rate is a bound on each step, and all numbers are within their limits.
     ghost lawful: { (curve : Self) → IsLawful (meaning curve) };
+
+    /// No near value is too far from the value for sums of such.
+    ghost narrow: { (curve : Self) → error curve ≤ 10 ^ 36 };
 }

@@ -13,6 +13,7 @@ mod event;
 mod events;
 mod kind;
 mod laws;
+mod near;
 mod passing;
 mod point;
 mod quiet;
@@ -36,8 +37,9 @@ pub use laws::{
     events_pass_zero, plain_list_of_one_minute, plain_list_of_quiet_minutes,
     plain_list_of_two_spans,
 };
+pub use near::{is_quiet_near, unit_cell_near};
 pub use passing::kind_after;
-pub use point::{Point, point_at};
+pub use point::{Point, near_point_at, point_at};
 pub use quiet::{MOST_MINUTES, is_quiet, most_change, unit_cell};
 pub use tracks::Tracks;
 pub use verdict::Verdict;

@@ -1,11 +1,11 @@
 //! A minute and the value there.
 
 ghost use Rattle.std.specs.Prelude.{◌≡◌, ◌+◌, ◌^◌, ◌<◌};
-ghost use Rattle.curve_law.specs.Meaning.{IsMinute};
+ghost use Rattle.curve_law.specs.Meaning.{IsMinute, IsNear};
 
 use crate::curve::Curve;
 
-/// A minute, and a curve's value there.
+/// A minute, and a curve's value there, or one near it.
 #[derive(Clone, Copy, Debug, Default)]
 pub struct Point {
     pub minute: i64,
@@ -19,9 +19,26 @@ pub fn point_at<C: Curve>(curve: &mut C, minute: i64) -> Point
     ensures point { result ≡ record { minute = minute; value = (C.meaning curve.old).track.value minute } }
     ensures counted { C.count curve.new ≡ C.count curve.old + 1 }
     ensures same { C.meaning curve.new ≡ C.meaning curve.old }
+    ensures same_error { C.error curve.new ≡ C.error curve.old }
 {
     Point {
         minute,
         value: curve.value(minute),
+    }
+}
+
+/// A point near that of a curve at a minute.
+pub fn near_point_at<C: Curve>(curve: &mut C, minute: i64) -> Point
+    requires minute { IsMinute (C.meaning curve.old) minute }
+    requires few { C.count curve.old < 2 ^ 63 }
+    ensures minute { result.minute ≡ minute }
+    ensures near { IsNear (C.meaning curve.old) (C.error curve.old) minute result.value }
+    ensures counted { C.count curve.new ≡ C.count curve.old + 1 }
+    ensures same { C.meaning curve.new ≡ C.meaning curve.old }
+    ensures same_error { C.error curve.new ≡ C.error curve.old }
+{
+    Point {
+        minute,
+        value: curve.near_value(minute),
     }
 }

@@ -51,7 +51,8 @@ pub fn unit_cell<C: Curve>(curve: &C, a: i64, value: i128, next_value: i128) -> 
     cell_of_sides(curve, a, value > 0, next_value > 0)
 }
 
-fn cell_of_sides<C: Curve>(curve: &C, a: i64, is_above: bool, is_above_next: bool) -> Cell
+/// The cell of the single minute `a`, by the sides at it and at the next minute.
+pub fn cell_of_sides<C: Curve>(curve: &C, a: i64, is_above: bool, is_above_next: bool) -> Cell
     requires minute { IsMinute (C.meaning curve.now) a }
     requires side { is_above ≡ side_at (C.meaning curve.now).track a }
     requires next_side { is_above_next ≡ side_at (C.meaning curve.now).track (a +ℤ pos 1) }

@@ -39,3 +39,6 @@ ripple-lawful = record {
   values = λ m minute. ripple-value _;
   rates = λ a n rate cell is. cc;
 }
+
+pub one_is_narrow : 1 ≤ 10 ^ 36
+one_is_narrow = omega arith

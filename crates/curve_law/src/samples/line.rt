@@ -6,7 +6,7 @@ use crate::curve::Curve;
 use crate::kind::Kind;
 
 /// A value that rises or falls by 1 each minute, over the minutes from -1,000,000 to 1,000,000. Its
-/// level is the minute, and its rate may be greater than it need be.
+/// level is the minute, its rate may be greater than it need be, and a near value is 1 too high.
 #[derive(Debug, Drop)]
 pub struct Line {
     start: i64,
@@ -40,13 +40,17 @@ impl Line {
 
 impl Curve for Line {
     ghost use Rattle.curve_law.specs.Samples.{line};
-    ghost use Rattle.curve_law.specs.Workings.SampleLaws.{line-lawful};
+    ghost use Rattle.curve_law.specs.Workings.SampleLaws.{line-lawful, one_is_narrow};
 
     ghost meaning = { λ l. line l.start l.falls l.rate };
+
+    ghost error = { λ _. 1 };
 
     ghost count = { λ l. l.asked };
 
     ghost lawful = { λ l. line-lawful l.start l.falls l.rate l.near l.gentle l.small };
+
+    ghost narrow = { λ _. one_is_narrow };
 
     fn first(&self) -> i64 {
         -1_000_000
@@ -59,6 +63,19 @@ impl Curve for Line {
     fn value(&mut self, m: i64) -> i128 {
         self.asked += 1;
         height(self.start, self.falls, m) as i128
+    }
+
+    fn near_value(&mut self, m: i64) -> i128 {
+        self.asked += 1;
+        height(self.start, self.falls, m) as i128 + 1
+    }
+
+    fn exact_value(&self, m: i64, _near: i128) -> i128 {
+        height(self.start, self.falls, m) as i128
+    }
+
+    fn error(&self) -> i128 {
+        1
     }
 
     fn rate(&self, _a: i64, _n: u32) -> Option<i128> {

@@ -1,11 +1,13 @@
 //! A value that changes side after each minute.
 
-ghost use Rattle.std.specs.Prelude.{◌≡◌};
+ghost use Rattle.std.specs.Prelude.{◌≡◌, ◌≤◌, unsigned_abs};
+ghost use Rattle.curve_law.specs.Samples.{ripple};
 
 use crate::curve::Curve;
 use crate::kind::Kind;
 
-/// 1 at even minutes and -1 at odd ones, from -1,000,000 to 1,000,000, with no rate.
+/// 1 at even minutes and -1 at odd ones, from -1,000,000 to 1,000,000, with no rate. A near value is
+/// 0, which tells nothing.
 #[derive(Debug, Default, Drop)]
 pub struct Ripple {
     asked: u64,
@@ -25,13 +27,17 @@ impl Ripple {
 
 impl Curve for Ripple {
     ghost use Rattle.curve_law.specs.Samples.{ripple};
-    ghost use Rattle.curve_law.specs.Workings.SampleLaws.{ripple-lawful};
+    ghost use Rattle.curve_law.specs.Workings.SampleLaws.{ripple-lawful, one_is_narrow};
 
     ghost meaning = { λ _. ripple };
+
+    ghost error = { λ _. 1 };
 
     ghost count = { λ r. r.asked };
 
     ghost lawful = { λ _. ripple-lawful };
+
+    ghost narrow = { λ _. one_is_narrow };
 
     fn first(&self) -> i64 {
         -1_000_000
@@ -43,7 +49,20 @@ impl Curve for Ripple {
 
     fn value(&mut self, m: i64) -> i128 {
         self.asked += 1;
-        if m.rem_euclid(2) == 0 { 1 } else { -1 }
+        wave(m)
+    }
+
+    fn near_value(&mut self, _m: i64) -> i128 {
+        self.asked += 1;
+        0
+    }
+
+    fn exact_value(&self, m: i64, _near: i128) -> i128 {
+        wave(m)
+    }
+
+    fn error(&self) -> i128 {
+        1
     }
 
     fn rate(&self, _a: i64, _n: u32) -> Option<i128> {
@@ -65,4 +84,12 @@ impl Curve for Ripple {
     fn evaluations(&self) -> u64 {
         self.asked
     }
+}
+
+/// The value at a minute.
+fn wave(m: i64) -> i128
+    ensures value { result ≡ ripple.track.value m }
+    ensures size { unsigned_abs result ≤ 1 }
+{
+    if m.rem_euclid(2) == 0 { 1 } else { -1 }
 }

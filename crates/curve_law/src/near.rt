@@ -1,0 +1,121 @@
+//! Which cell lies between two near values. Where they leave it open, the values are taken.
+
+ghost use Rattle.std.specs.Prelude.{◌≡◌, ◌*◌, ◌+◌, ◌^◌, ◌<◌, ◌≤◌, ℤ, pos, ◌+ℤ◌, ◌-ℤ◌, ◌*ℤ◌, ◌≤ℤ◌, ◌<ℤ◌, int_lt, unsigned_abs, IfSome, if◌then◌else◌};
+ghost use Rattle.curve_law.specs.Meaning.{IsMinute, IsNear, IsSpan};
+ghost use Rattle.curve_law.specs.Track.{side_at};
+ghost use Rattle.curve_law.specs.Cover.{is_quiet, unit_cell};
+ghost use Rattle.curve_law.specs.declared.quiet.TheConstants.{MOST_MINUTES};
+ghost use Rattle.curve_law.specs.Workings.Near.{IsFar};
+
+use crate::cell::Cell;
+use crate::curve::Curve;
+use crate::quiet::{MOST_MINUTES, cell_of_sides, is_quiet, most_change, unit_cell};
+
+/// Whether the `n` minutes from `a` on are a quiet cell, by near values at both ends.
+pub fn is_quiet_near<C: Curve>(curve: &C, a: i64, n: u32, near: i128, end_near: i128) -> bool
+    requires span { IsSpan (C.meaning curve.now) a n }
+    requires few { n ≤ MOST_MINUTES }
+    requires near { IsNear (C.meaning curve.now) (C.error curve.now) a near }
+    requires end_near { IsNear (C.meaning curve.now) (C.error curve.now) (a +ℤ pos n) end_near }
+    ensures { result ≡ is_quiet (C.meaning curve.now) a n }
+{
+    match quiet_as_told(curve, a, n, near, end_near) {
+        Some(quiet) => quiet,
+        None => is_quiet_exactly(curve, a, n, near, end_near),
+    }
+}
+
+/// The cell of the single minute `a`, by near values at it and at the next minute.
+pub fn unit_cell_near<C: Curve>(curve: &C, a: i64, near: i128, next_near: i128) -> Cell
+    requires span { IsSpan (C.meaning curve.now) a 1 }
+    requires near { IsNear (C.meaning curve.now) (C.error curve.now) a near }
+    requires next_near { IsNear (C.meaning curve.now) (C.error curve.now) (a +ℤ pos 1) next_near }
+    ensures { result ≡ unit_cell (C.meaning curve.now).track a }
+{
+    let error = curve.error();
+    match (side_of(near, error), side_of(next_near, error)) {
+        (Some(is_above), Some(is_above_next)) => cell_of_sides(curve, a, is_above, is_above_next),
+        _ => unit_cell_exactly(curve, a, near, next_near),
+    }
+}
+
+/// Whether a cell is quiet, where near values tell.
+fn quiet_as_told<C: Curve>(curve: &C, a: i64, n: u32, near: i128, end_near: i128) -> Option<bool>
+    requires span { IsSpan (C.meaning curve.now) a n }
+    requires few { n ≤ MOST_MINUTES }
+    requires near { IsNear (C.meaning curve.now) (C.error curve.now) a near }
+    requires end_near { IsNear (C.meaning curve.now) (C.error curve.now) (a +ℤ pos n) end_near }
+    ensures { IfSome result (λ quiet. is_quiet (C.meaning curve.now) a n ≡ quiet) }
+{
+    let error = curve.error();
+    if side_of(near, error)? != side_of(end_near, error)? || n < 2 {
+        return Some(false);
+    }
+    match curve.rate(a, n) {
+        Some(rate) => passes(near + end_near, 2 * error, most_change(rate, n)),
+        None => Some(false),
+    }
+}
+
+#[cold]
+#[inline(never)]
+fn is_quiet_exactly<C: Curve>(curve: &C, a: i64, n: u32, near: i128, end_near: i128) -> bool
+    requires span { IsSpan (C.meaning curve.now) a n }
+    requires few { n ≤ MOST_MINUTES }
+    requires near { IsNear (C.meaning curve.now) (C.error curve.now) a near }
+    requires end_near { IsNear (C.meaning curve.now) (C.error curve.now) (a +ℤ pos n) end_near }
+    ensures { result ≡ is_quiet (C.meaning curve.now) a n }
+{
+    let value = curve.exact_value(a, near);
+    let end_value = curve.exact_value(a + i64::from(n), end_near);
+    is_quiet(curve, a, n, value, end_value)
+}
+
+#[cold]
+#[inline(never)]
+fn unit_cell_exactly<C: Curve>(curve: &C, a: i64, near: i128, next_near: i128) -> Cell
+    requires span { IsSpan (C.meaning curve.now) a 1 }
+    requires near { IsNear (C.meaning curve.now) (C.error curve.now) a near }
+    requires next_near { IsNear (C.meaning curve.now) (C.error curve.now) (a +ℤ pos 1) next_near }
+    ensures { result ≡ unit_cell (C.meaning curve.now).track a }
+{
+    let value = curve.exact_value(a, near);
+    let next_value = curve.exact_value(a + 1, next_near);
+    unit_cell(curve, a, value, next_value)
+}
+
+/// The side of 0 of each value that is near, where they have one.
+fn side_of(near: i128, error: i128) -> Option<bool>
+    requires near { unsigned_abs near < 2 * 10 ^ 37 }
+    requires least { pos 0 ≤ℤ error }
+    requires most { error ≤ℤ pos (10 ^ 36) }
+    ensures { IfSome result (λ side. (value : ℤ) → unsigned_abs (near -ℤ value) ≤ unsigned_abs error
+        → int_lt (pos 0) value ≡ side) }
+{
+    if near > error {
+        Some(true)
+    } else if near + error <= 0 {
+        Some(false)
+    } else {
+        None
+    }
+}
+
+/// Whether each sum that is near is greater than so much, whatever its sign, or each is smaller.
+fn passes(near: i128, error: i128, most: i128) -> Option<bool>
+    requires near { unsigned_abs near < 4 * 10 ^ 37 }
+    requires least { pos 0 ≤ℤ error }
+    requires few { error ≤ℤ pos (2 * 10 ^ 36) }
+    requires most { unsigned_abs most < 5 * 10 ^ 37 }
+    ensures { IfSome result (λ far. (sum : ℤ) → unsigned_abs (near -ℤ sum) ≤ unsigned_abs error
+        → IsFar most sum far) }
+{
+    let size = near.abs();
+    if size - error > most {
+        Some(true)
+    } else if size + error < most {
+        Some(false)
+    } else {
+        None
+    }
+}
