@@ -1,40 +1,43 @@
-//! What lies between two points.
+//! What lies between two points at which near values are known.
 
 ghost use Rattle.std.specs.Prelude.{◌≡◌, ◌+◌, ◌/◌, ◌≤◌, ◌<◌, ◌^◌, ℤ, pos, neg_ℤ, ◌+ℤ◌, ◌-ℤ◌, ◌≤ℤ◌, ◌<ℤ◌, unsigned_abs, min, IfSome, IfNone};
+ghost use Rattle.curve_law.specs.Meaning.{IsNear};
 ghost use Rattle.interval_search.specs.Workings.Ahead.{minutes_to, IsPiece, IsSplit};
 
-use curve_law::{Cell, Curve, MOST_MINUTES, Point, is_quiet, point_at, unit_cell};
+use curve_law::{Cell, Curve, MOST_MINUTES, Point, is_quiet_near, near_point_at, unit_cell_near};
 
 /// The one cell of the minutes between two points, or none where they have to be halved.
 pub fn cell_between<C: Curve>(curve: &C, begin: Point, end: Point) -> Option<Cell>
-    requires { IsPiece (C.meaning curve.now) begin end }
+    requires { IsPiece (C.meaning curve.now) (C.error curve.now) begin end }
     ensures { IsSplit (C.meaning curve.now) begin.minute (minutes_to begin.minute end.minute) result }
 {
     let n = minutes_to(begin.minute, end.minute);
     if n == 1 {
-        return Some(unit_cell(curve, begin.minute, begin.value, end.value));
+        return Some(unit_cell_near(curve, begin.minute, begin.value, end.value));
     }
-    if is_quiet(curve, begin.minute, n, begin.value, end.value) {
+    if is_quiet_near(curve, begin.minute, n, begin.value, end.value) {
         Some(Cell::Quiet(n))
     } else {
         None
     }
 }
 
-/// The point where the second half of a piece begins; the first half is the shorter one. The curve,
-/// which was asked for fewer than 2^63 values, is asked for one more.
+/// A point near that where the second half of a piece begins; the first half is the shorter one. The
+/// curve, which was asked for fewer than 2^63 values, is asked for one more.
 pub fn middle<C: Curve>(curve: &mut C, begin: Point, end: Point) -> Point
-    requires piece { IsPiece (C.meaning curve.old) begin end }
+    requires piece { IsPiece (C.meaning curve.old) (C.error curve.old) begin end }
     requires few { C.count curve.old < 2 ^ 63 }
     ensures minute { result.minute ≡ begin.minute +ℤ pos (minutes_to begin.minute end.minute / 2) }
-    ensures value { result.value ≡ (C.meaning curve.old).track.value result.minute }
+    ensures near { IsNear (C.meaning curve.old) (C.error curve.old) result.minute result.value }
     ensures counted { C.count curve.new ≡ C.count curve.old + 1 }
     ensures same { C.meaning curve.new ≡ C.meaning curve.old }
+    ensures same_error { C.error curve.new ≡ C.error curve.old }
 {
-    point_at(curve, halfway(begin.minute, end.minute))
+    near_point_at(curve, halfway(begin.minute, end.minute))
 }
 
-fn halfway(begin: i64, end: i64) -> i64
+/// Where the second half of a piece begins.
+pub fn halfway(begin: i64, end: i64) -> i64
     requires some { begin <ℤ end }
     requires few { end ≤ℤ (begin +ℤ pos MOST_MINUTES) }
     ensures { result ≡ begin +ℤ pos (minutes_to begin end / 2) }

@@ -1,5 +1,6 @@
-use Rattle.std.proofs.Common.{w64, FitsSigned, rules, sym, ap, ◌∙◌}
-use Rattle.std.proofs.lemmas.Int.{to_z-of_z}
+use Rattle.std.proofs.Common.{◌≡◌, pos, ◌+ℤ◌, w64, FitsSigned, rules, sym, ap, ◌∙◌, arith}
+use Rattle.std.proofs.lemmas.Int.{ints, to_z-of_z}
+use mir.Syntax.{w128}
 use Rattle.curve_law.specs.Cover.{split}
 use Rattle.curve_law.proofs.CoverLemmas.{split-quiet}
 use Rattle.interval_search.proofs.AheadLemmas.{split-unit}
@@ -10,14 +11,30 @@ returns-then-n-eq1 g c =
     let begin : FitsSigned w64 c.args.begin.minute = search rules in
     let end : FitsSigned w64 c.args.end.minute = search rules in
     let n = simp to_z-of_z at c.minutes_to-n.ensures in
-    let cell = simp to_z-of_z at c.unit_cell.ensures in
-    split-unit (g.C.Curve.meaning c.args.curve.now) c.args.begin.minute _ c.unit_cell.result (sym n ∙ c.if-n-eq1.true) cell
+    let cell = simp to_z-of_z at c.unit_cell_near.ensures in
+    split-unit (g.C.Curve.meaning c.args.curve.now) c.args.begin.minute _ c.unit_cell_near.result (sym n ∙ c.if-n-eq1.true) cell
 
-pub returns-then-is_quiet : goal.returns-then-is_quiet
-returns-then-is_quiet g c =
+pub returns-then-is_quiet_near : goal.returns-then-is_quiet_near
+returns-then-is_quiet_near g c =
     let begin : FitsSigned w64 c.args.begin.minute = search rules in
     let end : FitsSigned w64 c.args.end.minute = search rules in
     let n = simp to_z-of_z at c.minutes_to-n.ensures in
-    let quiet = simp to_z-of_z at c.is_quiet.ensures in
+    let quiet = simp to_z-of_z at c.is_quiet_near.ensures in
     ap (split (g.C.Curve.meaning c.args.curve.now) c.args.begin.minute) (sym n)
-    ∙ split-quiet (g.C.Curve.meaning c.args.curve.now) c.args.begin.minute c.minutes_to-n.result (sym quiet ∙ c.if-is_quiet.true)
+    ∙ split-quiet (g.C.Curve.meaning c.args.curve.now) c.args.begin.minute c.minutes_to-n.result (sym quiet ∙ c.if-is_quiet_near.true)
+
+pub unit_cell_near-requires-clause-next_near : goal.unit_cell_near-requires-clause-next_near
+unit_cell_near-requires-clause-next_near g c =
+    let begin : FitsSigned w64 c.args.begin.minute = search rules in
+    let value : FitsSigned w128 c.args.end.value = search rules in
+    let one = simp to_z-of_z at c.minutes_to-n.ensures in
+    let end : c.args.begin.minute +ℤ pos 1 ≡ c.args.end.minute = omega (arith, ints, one, c.if-n-eq1.true, c.requires.some) in
+    rw (to_z-of_z w64 c.args.begin.minute begin, to_z-of_z w128 c.args.end.value value, end) c.requires.end_near
+
+pub is_quiet_near-requires-clause-end_near : goal.is_quiet_near-requires-clause-end_near
+is_quiet_near-requires-clause-end_near g c =
+    let begin : FitsSigned w64 c.args.begin.minute = search rules in
+    let value : FitsSigned w128 c.args.end.value = search rules in
+    let n = simp to_z-of_z at c.minutes_to-n.ensures in
+    let end : c.args.begin.minute +ℤ pos c.minutes_to-n.result ≡ c.args.end.minute = omega (arith, ints, n, c.requires.some) in
+    rw (to_z-of_z w64 c.args.begin.minute begin, to_z-of_z w128 c.args.end.value value, end) c.requires.end_near
