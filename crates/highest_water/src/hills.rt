@@ -52,13 +52,17 @@ impl Hills {
 
 impl Curve for Hills {
     ghost use Rattle.highest_water.specs.Samples.{hills};
-    ghost use Rattle.highest_water.specs.Workings.SampleLaws.{hills-lawful};
+    ghost use Rattle.highest_water.specs.Workings.SampleLaws.{hills-lawful, none_is_narrow};
 
     ghost meaning = { λ h. hills h.first.at h.first.value h.second.at h.second.value h.rate };
+
+    ghost error = { λ _. 0 };
 
     ghost count = { λ h. h.asked };
 
     ghost lawful = { λ h. hills-lawful h.first.at h.first.value h.second.at h.second.value h.rate h.near h.low h.second_near h.second_low h.gentle h.small };
+
+    ghost narrow = { λ _. none_is_narrow };
 
     fn first(&self) -> i64 {
         -1_000_000
@@ -71,6 +75,18 @@ impl Curve for Hills {
     fn value(&mut self, m: i64) -> i128 {
         self.asked += 1;
         i128::from(height(self.first, m).max(height(self.second, m)))
+    }
+
+    fn near_value(&mut self, m: i64) -> i128 {
+        self.value(m)
+    }
+
+    fn exact_value(&self, _m: i64, near: i128) -> i128 {
+        near
+    }
+
+    fn error(&self) -> i128 {
+        0
     }
 
     fn rate(&self, _a: i64, _n: u32) -> Option<i128> {

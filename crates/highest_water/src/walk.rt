@@ -7,9 +7,9 @@ ghost use Rattle.highest_water.specs.Covers.{peak_split, peak_cover};
 ghost use Rattle.highest_water.specs.Workings.Walk.{cells_ahead, Stands, StepsTo};
 
 use crate::peak_cell::PeakCell;
-use crate::piece::cell_between;
+use crate::piece::{cell_between, middle};
 use curve_law::{Curve, Point, point_at};
-use interval_search::{Waiting, block_end, middle};
+use interval_search::{Waiting, block_end};
 
 /// A cell, and the point where it ends.
 #[derive(Clone, Copy, Debug)]

@@ -40,3 +40,6 @@ hills-lawful at top other_at other_top rate near low other_near other_low gentle
       let same = same_rate rate told is in
       record { small = omega (arith, ints); steps = λ k few. rw (← same) (hills-step at top other_at other_top rate (a +ℤ pos k) gentle) };
 }
+
+pub none_is_narrow : 0 ≤ 10 ^ 36
+none_is_narrow = omega arith

@@ -1,7 +1,9 @@
-use Rattle.std.proofs.Common.{w64, FitsSigned, rules, sym, ap, ◌∙◌}
-use Rattle.std.proofs.lemmas.Int.{to_z-of_z}
+use Rattle.std.proofs.Common.{◌≡◌, pos, ◌+ℤ◌, w64, FitsSigned, rules, sym, ap, ◌∙◌, arith}
+use Rattle.std.proofs.lemmas.Int.{ints, to_z-of_z}
+use mir.Syntax.{w128}
 use Rattle.highest_water.specs.Covers.{peak_split}
 use Rattle.highest_water.proofs.CoverLemmas.{split-single, split-under}
+use Rattle.highest_water.proofs.WalkLemmas.{near-exact}
 use Rattle.highest_water.proofs.piece.cell_between.Goals as goal
 
 pub returns-then-n-eq1 : goal.returns-then-n-eq1
@@ -18,3 +20,12 @@ returns-then-is_under g c =
     let n = simp to_z-of_z at c.minutes_to-n.ensures in
     ap (peak_split (g.C.Curve.meaning c.args.curve.now) c.args.highest.minute c.args.highest.value c.args.begin.minute) (sym n)
     ∙ split-under (g.C.Curve.meaning c.args.curve.now) c.args.highest.minute c.args.highest.value c.args.begin.minute c.minutes_to-n.result (sym c.is_under.ensures ∙ c.if-is_under.true)
+
+pub is_under-requires-clause-end_value : goal.is_under-requires-clause-end_value
+is_under-requires-clause-end_value g c =
+    let begin : FitsSigned w64 c.args.begin.minute = search rules in
+    let end : FitsSigned w64 c.args.end.minute = search rules in
+    let value : FitsSigned w128 c.args.end.value = search rules in
+    let n = simp to_z-of_z at c.minutes_to-n.ensures in
+    let there : c.args.begin.minute +ℤ pos c.minutes_to-n.result ≡ c.args.end.minute = omega (arith, ints, n, c.requires.piece.some) in
+    rw (to_z-of_z w128 c.args.end.value value, there) (near-exact c.args.end.value _ c.requires.piece.end_near)
