@@ -1,6 +1,6 @@
 //! The chords of the sine over whole degrees, all round the circle.
 
-ghost use Rattle.std.specs.Prelude.{◌≡◌, ◌×◌, ◌<◌, ◌≤◌, ◌-◌, pos, neg_ℤ, unsigned_abs};
+ghost use Rattle.std.specs.Prelude.{◌≡◌, ◌<◌, ◌≤◌, ◌-◌, pos, neg_ℤ, unsigned_abs};
 ghost use Rattle.fixed_sine.specs.Table.{sine_at, rise};
 
 /// A chord of the sine over a degree.
