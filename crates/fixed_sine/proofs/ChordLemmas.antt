@@ -1,5 +1,5 @@
 -- The sine by a chord: the table's rows, and how far the chord is from the sine over its degree.
-use Rattle.std.proofs.Common.{◌≡◌, ℕ, suc, ◌+◌, ◌-◌, ◌*◌, ◌/◌, ◌<◌, ◌≤◌, Bool, true, ◌&&◌, nat_le, min, inl, inr, refl, sym, ap, ◌∙◌, arith, ℤ, pos, negsuc, neg_ℤ, ◌+ℤ◌, ◌-ℤ◌, ◌*ℤ◌, ◌≤ℤ◌, ◌<ℤ◌, unsigned_abs, get_or, to_z, of_z, w32, w64}
+use Rattle.std.proofs.Common.{◌≡◌, ℕ, suc, ◌+◌, ◌-◌, ◌*◌, ◌/◌, ◌<◌, ◌≤◌, Bool, true, ◌&&◌, nat_le, min, inl, inr, refl, sym, ap, ◌∙◌, arith, ℤ, pos, negsuc, neg_ℤ, ◌+ℤ◌, ◌-ℤ◌, ◌*ℤ◌, unsigned_abs, get_or, to_z, of_z, w32, w64}
 use Rattle.std.specs.Int.{int_shr}
 use Rattle.std.specs.Ordering.{int_eq}
 use Rattle.std.proofs.lemmas.Bool.{agree_below_at, leb-true, and_parts, cases_lt}
@@ -111,17 +111,19 @@ rising-near : (p r w bent s n g : ℕ) → IsSpot p r w bent s n
     → g * 4294967296 + p * 17452406 ≤ p * w + 17452406 * 4294967296
     → p * w + 17452406 * 4294967296 < g * 4294967296 + 4294967296 + p * 17452406
     → (s + g ≤ n / 1440000000000000000 + 17452406 + 38100) × (n / 1440000000000000000 + 17452406 ≤ s + g + 38100)
-rising-near p r w bent s n g spot under over =
-    (omega (arith, spot.few, spot.few_bent, spot.number, spot.part.least, spot.part.most, spot.times_least, spot.times_most, under, over),
-     omega (arith, spot.few, spot.few_bent, spot.number, spot.part.least, spot.part.most, spot.times_least, spot.times_most, under, over))
+rising-near p r w bent s n g spot under over = (
+  omega (arith, spot.few, spot.few_bent, spot.number, spot.part.least, spot.part.most, spot.times_least, spot.times_most, under, over),
+  omega (arith, spot.few, spot.few_bent, spot.number, spot.part.least, spot.part.most, spot.times_least, spot.times_most, under, over),
+)
 
 falling-near : (p r w bent s n g : ℕ) → IsSpot p r w bent s n
     → g * 4294967296 + p * w ≤ p * 17452406 + 17452406 * 4294967296
     → p * 17452406 + 17452406 * 4294967296 < g * 4294967296 + 4294967296 + p * w
     → (n / 1440000000000000000 + g ≤ s + 17452406 + 38100) × (s + 17452406 ≤ n / 1440000000000000000 + g + 38100)
-falling-near p r w bent s n g spot under over =
-    (omega (arith, spot.few, spot.few_bent, spot.number, spot.part.least, spot.part.most, spot.times_least, spot.times_most, under, over),
-     omega (arith, spot.few, spot.few_bent, spot.number, spot.part.least, spot.part.most, spot.times_least, spot.times_most, under, over))
+falling-near p r w bent s n g spot under over = (
+  omega (arith, spot.few, spot.few_bent, spot.number, spot.part.least, spot.part.most, spot.times_least, spot.times_most, under, over),
+  omega (arith, spot.few, spot.few_bent, spot.number, spot.part.least, spot.part.most, spot.times_least, spot.times_most, under, over),
+)
 
 -- ---- the same for the signed numbers
 

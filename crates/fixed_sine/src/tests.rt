@@ -95,6 +95,10 @@ fn sines_and_cosines_by_chords(rt: HostRuntime) {
         assert!(rt; place < CIRCLE as u64);
         let turn = turn_of(place);
         assert_eq!(rt; chord_sine(turn), sine, "the sine by a chord at {place}");
-        assert_eq!(rt; chord_cosine(turn), cosine, "the cosine by a chord at {place}");
+        assert_eq!(rt;
+            chord_cosine(turn),
+            cosine,
+            "the cosine by a chord at {place}"
+        );
     }
 }

@@ -1,4 +1,4 @@
-use Rattle.std.proofs.Common.{FitsSigned, rules, ◌≡◌, ◌<◌, ◌≤◌, ◌+◌, ◌-◌, ◌*◌, ◌/◌, ◌%◌, ◌^◌, inl, inr, sym, ap, ◌∙◌, w32, w64, arith, unsigned_abs, ◌+ℤ◌, ◌-ℤ◌, pos, ◌*ℤ◌}
+use Rattle.std.proofs.Common.{FitsSigned, rules, ◌≡◌, ◌<◌, ◌≤◌, ◌+◌, ◌-◌, ◌*◌, ◌/◌, ◌%◌, inl, inr, ◌∙◌, w32, arith, unsigned_abs, ◌+ℤ◌, ◌-ℤ◌, pos, ◌*ℤ◌}
 use Rattle.std.specs.Int.{int_shr}
 use Rattle.std.proofs.lemmas.Bool.{cases_lt}
 use Rattle.std.proofs.lemmas.Int.{to_z-of_z}
