@@ -13,14 +13,14 @@ use Rattle.fixed_sine.proofs.TableLemmas.{correction-size, IsRow}
 
 -- ---- signed numbers, counted from one below all of their kind
 
-raised : (z : ℤ) (b : ℕ) → unsigned_abs z ≤ b → z +ℤ pos b ≡ pos (unsigned_abs (z +ℤ pos b))
+pub raised : (z : ℤ) (b : ℕ) → unsigned_abs z ≤ b → z +ℤ pos b ≡ pos (unsigned_abs (z +ℤ pos b))
 raised z b h = omega (arith, ints)
 
 lifted : (x y n : ℕ) → n + x ≡ y → neg_ℤ (pos x) +ℤ pos y ≡ pos n
 lifted zero y n e = omega (arith, ints)
 lifted (suc x) y n e = omega (arith, ints)
 
-multiplied : (r b n : ℕ) (z : ℤ) → z +ℤ pos b ≡ pos n → (pos r *ℤ z) +ℤ pos (r * b) ≡ pos (r * n)
+pub multiplied : (r b n : ℕ) (z : ℤ) → z +ℤ pos b ≡ pos n → (pos r *ℤ z) +ℤ pos (r * b) ≡ pos (r * n)
 multiplied r b n (pos a) e =
     let sum : a + b ≡ n = omega (arith, ints) in
     let product : r * (a + b) ≡ r * n = ap (λ k. r * k) sum in
@@ -120,11 +120,11 @@ turned r c slope =
     let other : neg_ℤ slope -ℤ neg_ℤ (pos (r * c)) ≡ neg_ℤ (slope -ℤ pos (r * c)) = omega (arith, ints) in
     rw (minus_times r c, other) (minus (slope -ℤ pos (r * c)) r)
 
-sine_at-size : (k : ℕ) → pos (unsigned_abs (sine_at (pos k))) ≡ sine_at (pos k)
+pub sine_at-size : (k : ℕ) → pos (unsigned_abs (sine_at (pos k))) ≡ sine_at (pos k)
 unfolding sine_at
 sine_at-size k = refl
 
-row-at : (k : ℕ) → k < 180 → IsRow k (slope_at k) (unsigned_abs (sine_at (pos k))) (bend_at k)
+pub row-at : (k : ℕ) → k < 180 → IsRow k (slope_at k) (unsigned_abs (sine_at (pos k))) (bend_at k)
 row-at k h =
     record {
       steep = refl;

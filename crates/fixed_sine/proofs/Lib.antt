@@ -4,3 +4,4 @@ pub mod CircleLemmas
 pub mod RateLemmas
 pub mod RowLemmas
 pub mod DegreeLemmas
+pub mod ChordLemmas

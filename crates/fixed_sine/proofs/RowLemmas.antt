@@ -108,7 +108,7 @@ half-fallen k j r sine size slope e h small row =
     let top : 1440000000000000000 * (s + u) ≡ 1440000000000000000 * sine = ap (λ n. 1440000000000000000 * n) (sym row.here) in
     taken _ (r * m) _ _ (ap (λ n. n + r * m) number ∙ whole ∙ top) (ap (λ z. pos r *ℤ z) steep ∙ minus_times r m)
 
-half_num-row : (k r sine size : ℕ) (slope : ℤ) → k < 180 → r < 600000000 → IsRow k slope sine size → pos (half_num (600000000 * k + r)) ≡ pos (1440000000000000000 * sine) +ℤ (pos r *ℤ (slope -ℤ pos (r * size)))
+pub half_num-row : (k r sine size : ℕ) (slope : ℤ) → k < 180 → r < 600000000 → IsRow k slope sine size → pos (half_num (600000000 * k + r)) ≡ pos (1440000000000000000 * sine) +ℤ (pos r *ℤ (slope -ℤ pos (r * size)))
 half_num-row k r sine size slope h small row =
     elim (cases_lt k 90) [
       | inl first ↦ half-risen k r sine size slope first small (risen k sine size slope first row)

@@ -76,3 +76,29 @@ fn sines_and_cosines_of_turns(rt: HostRuntime) {
         assert_eq!(rt; turn_cosine(turn), cosine, "the cosine at {place}");
     }
 }
+
+/// At whole degrees the table's sines, and half way the mean of two of them, rounded down.
+#[test]
+fn sines_and_cosines_by_chords(rt: HostRuntime) {
+    let rows = [
+        (0, 0, 1_000_000_000),
+        (300_000_000, 8_726_203, 999_923_847),
+        (8_700_000_000, 250_370_470, 968_110_776),
+        (18_000_000_000, 500_000_000, 866_025_404),
+        (54_000_000_000, 1_000_000_000, 0),
+        (107_700_000_000, 8_726_203, -999_923_848),
+        (108_300_000_000, -8_726_203, -999_923_848),
+        (162_000_000_000, -1_000_000_000, 0),
+        (215_700_000_000, -8_726_203, 999_923_847),
+    ];
+    for (place, sine, cosine) in rows {
+        assert!(rt; place < CIRCLE as u64);
+        let turn = turn_of(place);
+        assert_eq!(rt; chord_sine(turn), sine, "the sine by a chord at {place}");
+        assert_eq!(rt;
+            chord_cosine(turn),
+            cosine,
+            "the cosine by a chord at {place}"
+        );
+    }
+}

@@ -14,10 +14,10 @@ use crate::degrees::degree_at;
 use crate::sine::{UNITS, isin, product};
 
 /// A whole turn.
-const TURN: u128 = 1 << 64;
+pub const TURN: u128 = 1 << 64;
 
 /// A quarter of a turn.
-const QUARTER_TURN: u64 = 1 << 62;
+pub const QUARTER_TURN: u64 = 1 << 62;
 
 /// A unit of the circle has 2^52 / `SHARE` of the turn's 2^64ths.
 const SHARE: u64 = CIRCLE as u64 / 4096;

@@ -2,9 +2,10 @@
 
 ghost use Rattle.std.specs.Prelude.{◌≡◌, ◌*◌, ◌^◌, ◌≤◌, pos, ◌+ℤ◌, ◌-ℤ◌, ◌*ℤ◌, ◌≤ℤ◌, unsigned_abs};
 ghost use Rattle.fixed_sine.specs.Circle.{radian};
+ghost use Rattle.fixed_sine.specs.Turn.{chord_error};
 ghost use Rattle.year_blend.specs.Weights.{total_weight, weight_slope_of, IsNearNewYear};
 
-use fixed_sine::RADIAN;
+use fixed_sine::{CHORD_ERROR, RADIAN};
 use year_blend::{TOTAL_WEIGHT, weight_slope};
 
 /// A value by its weight.
@@ -47,4 +48,21 @@ fn weight_rise(x: i64) -> i64
     ensures size { unsigned_abs result ≤ 64800000 * radian }
 {
     weight_slope(x) * RADIAN
+}
+
+/// A value by all of the weight.
+pub fn by_full_weight(value: i128) -> i128
+    requires { unsigned_abs value ≤ 2 * 10 ^ 26 }
+    ensures { result ≡ pos total_weight *ℤ value }
+{
+    i128::from(TOTAL_WEIGHT) * value
+}
+
+/// How far a sum of chords may be from the sum of the sines, by the sum of the sizes that they are
+/// multiplied by, in the unit of a blend.
+pub fn error_of(size: i128) -> i128
+    requires { unsigned_abs size ≤ 10 ^ 17 }
+    ensures { result ≡ pos (total_weight * chord_error) *ℤ size }
+{
+    i128::from(TOTAL_WEIGHT) * i128::from(CHORD_ERROR) * size
 }

@@ -10,9 +10,10 @@ ghost use Rattle.year_blend.specs.Places.{InDomain};
 ghost use Rattle.year_blend.specs.Stretches.{stretch_of};
 ghost use Rattle.year_blend.specs.Weights.{total_weight};
 
-use crate::blend::{drift, mixed, weighted};
+use crate::blend::{by_full_weight, drift, error_of, mixed, weighted};
 use crate::fault::CurveFault;
-use crate::summing::{falls, heights};
+use crate::greatest::{Greatest, greatest_of_years};
+use crate::summing::{falls, heights, near_falls, near_heights};
 use crate::year_sums::Sums;
 use crate::years::{Year, years_of};
 use decimal_text::rounded;
@@ -31,6 +32,7 @@ pub struct StationCurve {
     first_year: i32,
     datum: i64,
     years: Vec<Year>,
+    greatest: Greatest,
 }
 
 /// The whole minutes of a mean year of the calendar.
@@ -55,7 +57,9 @@ impl StationCurve {
     ghost use Rattle.decimal_text.specs.Expected.{Gives};
     ghost use Rattle.station_curve.specs.Curves.{tide_of, curve_of, wants_memory, Predicts};
     ghost use Rattle.station_curve.specs.Workings.Prepared.{AreReady};
-    ghost use Rattle.station_curve.specs.Waves.{heights_of, falls_of};
+    ghost use Rattle.fixed_sine.specs.Turn.{chord_error};
+    ghost use Rattle.station_curve.specs.Waves.{heights_of, falls_of, amount_of, steepness_of};
+    ghost use Rattle.station_curve.specs.Errors.{level_error_of, slope_error_of};
     ghost use Rattle.station_curve.specs.Limits.{IsGentle, AreGentle};
     ghost use Rattle.station_curve.specs.Workings.Nearness.{IsNear, IsNearPlace, IsAround};
     ghost use Rattle.station_curve.specs.Sums.{sums_of};
@@ -105,10 +109,12 @@ impl StationCurve {
         ensures exact { result ≡ tide_of book.now station.now }
         ensures predicts { Predicts book.now station.now result }
     {
+        let greatest = greatest_of_years(years.as_slice());
         StationCurve {
             first_year: book.get().first_year,
             datum: station.datum,
             years,
+            greatest,
         }
     }
 
@@ -191,6 +197,48 @@ impl StationCurve {
         }
     }
 
+    /// A level found sooner, at most [`level_error`](StationCurve::level_error) from that at a
+    /// minute, from the first to the last.
+    pub fn near_level(&self, m: i64) -> i128
+        requires { InDomain self.now.first_year (length self.now.years) m }
+        ensures near { unsigned_abs (result -ℤ level_of self.now m) ≤ level_error_of self.now }
+        ensures size { unsigned_abs result ≤ total_weight * (12 * 10 ^ 18) }
+    {
+        match self.year_around(m, m) {
+            Some(year) => by_full_weight(self.near_year_level(year, m)),
+            None => self.level(m),
+        }
+    }
+
+    /// A slope found sooner, at most [`slope_error`](StationCurve::slope_error) from that at a
+    /// minute, from the first to the last.
+    pub fn near_slope(&self, m: i64) -> i128
+        requires { InDomain self.now.first_year (length self.now.years) m }
+        ensures near { unsigned_abs (result -ℤ slope_of self.now m) ≤ slope_error_of self.now }
+        ensures size { unsigned_abs result < 2 * 10 ^ 37 }
+    {
+        match self.year_around(m, m) {
+            Some(year) => by_full_weight(self.near_year_slope(year, m)),
+            None => self.slope(m),
+        }
+    }
+
+    /// How far a level found sooner may be from the level, in the level's unit.
+    pub fn level_error(&self) -> i128
+        ensures value { result ≡ pos (level_error_of self.now) }
+        ensures size { unsigned_abs result ≤ 10 ^ 24 }
+    {
+        error_of(self.greatest.amount)
+    }
+
+    /// How far a slope found sooner may be from the slope, in the slope's unit.
+    pub fn slope_error(&self) -> i128
+        ensures value { result ≡ pos (slope_error_of self.now) }
+        ensures size { unsigned_abs result ≤ 10 ^ 32 }
+    {
+        error_of(self.greatest.steepness)
+    }
+
     /// The level at a minute in whole millionths of the station's unit, a half away from 0.
     pub fn millionths(&self, m: i64) -> i64
         requires { InDomain self.now.first_year (length self.now.years) m }
@@ -257,6 +305,30 @@ impl StationCurve {
         ensures size { unsigned_abs result ≤ 11 * 10 ^ 18 }
     {
         mean_level(self.datum) + i128::from(self.year_heights(year, m))
+    }
+
+    /// The level by one year's constants nearly, by chords.
+    fn near_year_level(&self, year: u32, m: i64) -> i128
+        requires year { year < length self.now.years }
+        requires near { IsNear self.now.first_year year m }
+        ensures near { unsigned_abs (result -ℤ year_level self.now m year)
+            ≤ chord_error * amount_of (waves_in self.now year) }
+        ensures size { unsigned_abs result ≤ 12 * 10 ^ 18 }
+    {
+        let year = &self.years[year as usize];
+        mean_level(self.datum) + i128::from(near_heights(year.waves.as_slice(), year.minutes_to(m)))
+    }
+
+    /// The slope by one year's constants nearly, by chords.
+    fn near_year_slope(&self, year: u32, m: i64) -> i128
+        requires year { year < length self.now.years }
+        requires near { IsNear self.now.first_year year m }
+        ensures near { unsigned_abs (result -ℤ year_slope self.now m year)
+            ≤ chord_error * steepness_of (waves_in self.now year) }
+        ensures size { unsigned_abs result ≤ 2 * 10 ^ 26 }
+    {
+        let year = &self.years[year as usize];
+        -near_falls(year.waves.as_slice(), year.minutes_to(m))
     }
 
     /// The slope by one year's constants.

@@ -10,6 +10,7 @@ mod changes;
 mod constants;
 mod curve;
 mod fault;
+mod greatest;
 mod laws;
 mod summing;
 mod wave;

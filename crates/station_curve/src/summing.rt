@@ -1,6 +1,7 @@
 //! Sums over the waves of a year.
 
-ghost use Rattle.std.specs.Prelude.{◌≡◌, ◌*◌, ◌^◌, ◌≤◌, unsigned_abs};
+ghost use Rattle.std.specs.Prelude.{◌≡◌, ◌*◌, ◌^◌, ◌≤◌, ◌-ℤ◌, unsigned_abs};
+ghost use Rattle.fixed_sine.specs.Turn.{chord_error};
 ghost use Rattle.station_curve.specs.Waves.{heights_of, falls_of, amount_of, steepness_of};
 
 use crate::wave::Wave;
@@ -29,6 +30,34 @@ pub fn falls(waves: &[Wave], minutes: u64) -> i128
     let mut sum = 0;
     for wave in waves {
         sum += wave.fall(minutes);
+    }
+    sum
+}
+
+/// The sum of the waves' heights nearly, by chords.
+pub fn near_heights(waves: &[Wave], minutes: u64) -> i64
+    requires time { minutes ≤ 600000 }
+    requires amount { amount_of waves.now ≤ 10 ^ 9 }
+    ensures near { unsigned_abs (result -ℤ heights_of minutes waves.now) ≤ chord_error * amount_of waves.now }
+    ensures size { unsigned_abs result ≤ 2 * 10 ^ 18 }
+{
+    let mut sum = 0;
+    for wave in waves {
+        sum += wave.near_height(minutes);
+    }
+    sum
+}
+
+/// The sum of the waves' falls nearly, by chords.
+pub fn near_falls(waves: &[Wave], minutes: u64) -> i128
+    requires time { minutes ≤ 600000 }
+    requires steepness { steepness_of waves.now ≤ 10 ^ 17 }
+    ensures near { unsigned_abs (result -ℤ falls_of minutes waves.now) ≤ chord_error * steepness_of waves.now }
+    ensures size { unsigned_abs result ≤ 2 * 10 ^ 26 }
+{
+    let mut sum = 0;
+    for wave in waves {
+        sum += wave.near_fall(minutes);
     }
     sum
 }

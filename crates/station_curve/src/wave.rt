@@ -1,13 +1,13 @@
 //! A constituent in one year at one station.
 
-ghost use Rattle.std.specs.Prelude.{◌≡◌, ◌*◌, ◌^◌, ◌<◌, ◌≤◌, pos, ◌*ℤ◌, unsigned_abs};
+ghost use Rattle.std.specs.Prelude.{◌≡◌, ◌*◌, ◌^◌, ◌<◌, ◌≤◌, pos, ◌-ℤ◌, ◌*ℤ◌, unsigned_abs};
 ghost use Rattle.fixed_sine.specs.Circle.{circle};
-ghost use Rattle.fixed_sine.specs.Turn.{units_of};
+ghost use Rattle.fixed_sine.specs.Turn.{units_of, chord_error};
 ghost use Rattle.station_curve.specs.Waves.{Harmonic, phase_at, height_at, fall_at};
 ghost use Rattle.station_curve.specs.Sums.{height_rate_of, fall_rate_of};
 
 use crate::year_sums::Sums;
-use fixed_sine::{step, turn_cosine, turn_of, turn_sine};
+use fixed_sine::{chord_cosine, chord_sine, step, turn_cosine, turn_of, turn_sine};
 use std::marker::Model;
 
 /// A constituent in one year at one station.
@@ -72,6 +72,27 @@ impl Wave {
             ≤ 10 ^ 9 * (unsigned_abs self.now.amplitude * self.now.speed) }
     {
         i128::from(self.steepness) * i128::from(turn_sine(self.turn_after(minutes)))
+    }
+
+    /// Its part of the level nearly, found sooner: by a chord of the cosine.
+    pub fn near_height(&self, minutes: u64) -> i64
+        requires { minutes ≤ 600000 }
+        ensures near { unsigned_abs (result -ℤ height_at minutes self.now)
+            ≤ chord_error * unsigned_abs self.now.amplitude }
+        ensures size { unsigned_abs result ≤ 1000038100 * unsigned_abs self.now.amplitude }
+    {
+        self.amplitude * chord_cosine(self.turn_after(minutes))
+    }
+
+    /// What it takes off the level a minute nearly, found sooner: by a chord of the sine.
+    pub fn near_fall(&self, minutes: u64) -> i128
+        requires { minutes ≤ 600000 }
+        ensures near { unsigned_abs (result -ℤ fall_at minutes self.now)
+            ≤ chord_error * (unsigned_abs self.now.amplitude * self.now.speed) }
+        ensures size { unsigned_abs result
+            ≤ 1000038100 * (unsigned_abs self.now.amplitude * self.now.speed) }
+    {
+        i128::from(self.steepness) * i128::from(chord_sine(self.turn_after(minutes)))
     }
 
     /// What it adds to each sum of its year.

@@ -1,9 +1,10 @@
 -- What a station's curve keeps, and the tide that it is seen as.
-use Rattle.std.specs.Prelude.{◌≡◌, ℕ, suc, ◌<◌, length, map, slice_index_or}
+use Rattle.std.specs.Prelude.{◌≡◌, ℕ, suc, ◌<◌, length, map, pos, slice_index_or}
 use Rattle.year_blend.specs.Places.{start_of}
 use Rattle.station_curve.specs.declared.years.Year.{Year}
 use Rattle.station_curve.specs.declared.curve.StationCurve.TheInside.{Inside}
-use Rattle.station_curve.specs.Waves.{Tide}
+use Rattle.station_curve.specs.Waves.{Tide, amount_of, steepness_of}
+use Rattle.station_curve.specs.Errors.{greatest_of}
 use Rattle.station_curve.specs.Limits.{IsGentle}
 use Rattle.station_curve.specs.Sums.{sums_of}
 
@@ -16,3 +17,5 @@ pub record IsReady (s : Inside) : Type 0 where
   pub starts : (k : ℕ) (d : Year) → k < length s.years.items → (slice_index_or s.years.items k d).start ≡ start_of s.first_year k
   pub ends : (k : ℕ) (d : Year) → k < length s.years.items → (slice_index_or s.years.items k d).end ≡ start_of s.first_year (suc k)
   pub sums : (k : ℕ) (d : Year) → k < length s.years.items → (slice_index_or s.years.items k d).sums ≡ sums_of (slice_index_or s.years.items k d).waves.items
+  pub amount : s.greatest.amount ≡ pos (greatest_of amount_of (tide_in s).years)
+  pub steepness : s.greatest.steepness ≡ pos (greatest_of steepness_of (tide_in s).years)

@@ -1,0 +1,34 @@
+//! The greatest sums of any year.
+
+ghost use Rattle.std.specs.Prelude.{◌≡◌, ℕ, ◌^◌, ◌<◌, ◌≤◌, length, map, pos, All, slice_index_or};
+ghost use Rattle.station_curve.specs.declared.years.Year.{Year};
+ghost use Rattle.station_curve.specs.Waves.{amount_of, steepness_of};
+ghost use Rattle.station_curve.specs.Errors.{greatest_of};
+ghost use Rattle.station_curve.specs.Sums.{sums_of};
+
+use crate::years::Year;
+
+/// The greatest sums of any year, 0 where there is no year.
+#[derive(Clone, Copy, Debug)]
+pub struct Greatest {
+    /// The sizes of the amplitudes, in millionths of the station's unit.
+    pub amount: i128,
+    /// Each size times the speed.
+    pub steepness: i128,
+}
+
+/// The greatest sums of the years.
+pub fn greatest_of_years(years: &[Year]) -> Greatest
+    requires { (k : ℕ) (d : Year) → k < length years.now
+        → (slice_index_or years.now k d).sums ≡ sums_of (slice_index_or years.now k d).waves.items }
+    ensures amount { result.amount ≡ pos (greatest_of amount_of (map (λ y. y.waves.items) years.now)) }
+    ensures steepness { result.steepness ≡ pos (greatest_of steepness_of (map (λ y. y.waves.items) years.now)) }
+{
+    let mut amount = 0;
+    let mut steepness = 0;
+    for year in years {
+        amount = amount.max(year.sums.amount);
+        steepness = steepness.max(year.sums.steep);
+    }
+    Greatest { amount, steepness }
+}
