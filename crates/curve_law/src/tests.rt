@@ -56,6 +56,68 @@ fn small_curves_tell_their_values(rt: HostRuntime) {
     );
 }
 
+// Whether the eight minutes from 0 on are quiet, and the cell of the first one, by near values.
+fn told<C: Curve>(curve: &mut C) -> Option<(bool, Cell)> {
+    if 0 < curve.first() || curve.last() < 8 || curve.evaluations() > 1000 {
+        return None;
+    }
+    let near = curve.near_value(0);
+    let next_near = curve.near_value(1);
+    let end_near = curve.near_value(8);
+    Some((
+        is_quiet_near(curve, 0, 8, near, end_near),
+        unit_cell_near(curve, 0, near, next_near),
+    ))
+}
+
+// The value at minute 0 by a near one.
+fn exact<C: Curve>(curve: &mut C) -> Option<i128> {
+    if 0 < curve.first() || curve.last() < 0 || curve.evaluations() > 1000 {
+        return None;
+    }
+    let near = curve.near_value(0);
+    Some(curve.exact_value(0, near))
+}
+
+#[test]
+fn near_values_tell_cells(rt: HostRuntime) {
+    let mut line = Line::new(1, false, 1);
+    assert_eq!(rt; told(&mut line), Some((true, Cell::Still)));
+    assert_eq!(rt; (line.evaluations(), line.error()), (3, 1));
+    assert_eq!(rt;
+        told(&mut Line::new(-8, false, 1)),
+        Some((true, Cell::Still))
+    );
+    assert_eq!(rt;
+        told(&mut Line::new(0, false, 1)),
+        Some((false, Cell::Turn(Kind::Low, 0)))
+    );
+    assert_eq!(rt;
+        told(&mut Line::new(30, true, 6)),
+        Some((true, Cell::Still))
+    );
+    assert_eq!(rt;
+        told(&mut Line::new(28, true, 6)),
+        Some((false, Cell::Still))
+    );
+    assert_eq!(rt;
+        told(&mut Line::new(28, true, 7)),
+        Some((false, Cell::Still))
+    );
+    assert_eq!(rt;
+        told(&mut Line::new(100, true, 2)),
+        Some((true, Cell::Still))
+    );
+    assert_eq!(rt;
+        told(&mut Ripple::new()),
+        Some((false, Cell::Turn(Kind::MarkFalling, 0)))
+    );
+    assert_eq!(rt;
+        (exact(&mut Line::new(4, true, 1)), exact(&mut Ripple::new())),
+        (Some(4), Some(1))
+    );
+}
+
 #[test]
 fn lists_keep_their_items(rt: HostRuntime) -> Result<(), Fail> {
     let cells = Cells::from_vec(vec![in rt.alloc(); Cell::Quiet(2), Cell::Turn(Kind::Low, -1)]?);

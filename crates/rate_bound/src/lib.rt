@@ -3,7 +3,7 @@
 //! A [`TurnCurve`] is a station's slope, whose sides tell high and low waters, and a [`MarkCurve`] its
 //! level against a mark or a slack. Each is a [`Curve`](curve_law::Curve) over the station's minutes:
 //! it tells a rate for a cell in the plain part of a year, and in the second [`Version`] across a new
-//! year too.
+//! year too. Its near values are those by the chords of the sine.
 #![tactic(auto)]
 
 mod laws;

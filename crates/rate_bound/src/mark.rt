@@ -88,12 +88,19 @@ impl<'a> MarkCurve<'a> {
 impl<'a> Curve for MarkCurve<'a> {
     ghost use Rattle.rate_bound.specs.Meanings.{mark_meaning};
     ghost use Rattle.rate_bound.specs.Workings.MarkLaw.{mark_lawful};
+    ghost use Rattle.rate_bound.specs.Workings.Narrow.{level_narrow};
+    ghost use Rattle.station_curve.specs.Errors.{level_error_of};
+    ghost use Rattle.std.specs.Prelude.{◌*◌, unsigned_abs};
 
     ghost meaning = { λ c. mark_meaning c.version c.station.now c.times c.plus c.mark c.slack };
+
+    ghost error = { λ c. unsigned_abs c.times * level_error_of c.station.now };
 
     ghost count = { λ c. c.evaluations };
 
     ghost lawful = { λ c. mark_lawful c.version c.station.now c.times c.plus c.mark c.slack c.gentle c.scale };
+
+    ghost narrow = { λ c. level_narrow c.station.now c.times c.plus c.mark c.gentle c.scale };
 
     fn first(&self) -> i64 {
         self.station.first()
@@ -106,6 +113,19 @@ impl<'a> Curve for MarkCurve<'a> {
     fn value(&mut self, m: i64) -> i128 {
         self.evaluations += 1;
         over_mark(self.times, self.plus, self.mark, self.station.level(m))
+    }
+
+    fn near_value(&mut self, m: i64) -> i128 {
+        self.evaluations += 1;
+        over_mark(self.times, self.plus, self.mark, self.station.near_level(m))
+    }
+
+    fn exact_value(&self, m: i64, _near: i128) -> i128 {
+        over_mark(self.times, self.plus, self.mark, self.station.level(m))
+    }
+
+    fn error(&self) -> i128 {
+        scaled(self.times, self.station.level_error())
     }
 
     fn rate(&self, a: i64, n: u32) -> Option<i128> {

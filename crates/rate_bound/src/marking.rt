@@ -15,7 +15,7 @@ pub fn over_mark(times: i64, plus: i64, mark: i64, level: i128) -> i128
     requires times { unsigned_abs times ≤ 10 ^ 8 }
     requires plus { unsigned_abs plus ≤ 10 ^ 10 }
     requires mark { unsigned_abs mark ≤ 10 ^ 10 }
-    requires level { unsigned_abs level ≤ total_weight * (11 * 10 ^ 18) }
+    requires level { unsigned_abs level ≤ total_weight * (12 * 10 ^ 18) }
     ensures { result ≡ over_mark times plus mark level }
 {
     scaled(times, level) + raised(plus - mark)

@@ -57,12 +57,18 @@ impl<'a> TurnCurve<'a> {
 impl<'a> Curve for TurnCurve<'a> {
     ghost use Rattle.rate_bound.specs.Meanings.{turn_meaning};
     ghost use Rattle.rate_bound.specs.Workings.TurnLaw.{turn_lawful};
+    ghost use Rattle.rate_bound.specs.Workings.Narrow.{slope_narrow};
+    ghost use Rattle.station_curve.specs.Errors.{slope_error_of};
 
     ghost meaning = { λ c. turn_meaning c.version c.station.now };
+
+    ghost error = { λ c. slope_error_of c.station.now };
 
     ghost count = { λ c. c.evaluations };
 
     ghost lawful = { λ c. turn_lawful c.version c.station.now c.gentle };
+
+    ghost narrow = { λ c. slope_narrow c.station.now c.gentle };
 
     fn first(&self) -> i64 {
         self.station.first()
@@ -75,6 +81,19 @@ impl<'a> Curve for TurnCurve<'a> {
     fn value(&mut self, m: i64) -> i128 {
         self.evaluations += 1;
         self.station.slope(m)
+    }
+
+    fn near_value(&mut self, m: i64) -> i128 {
+        self.evaluations += 1;
+        self.station.near_slope(m)
+    }
+
+    fn exact_value(&self, m: i64, _near: i128) -> i128 {
+        self.station.slope(m)
+    }
+
+    fn error(&self) -> i128 {
+        self.station.slope_error()
     }
 
     fn rate(&self, a: i64, n: u32) -> Option<i128> {
