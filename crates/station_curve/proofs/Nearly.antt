@@ -1,11 +1,10 @@
 -- How far levels and slopes by chords are from those of a tide.
-use Rattle.std.proofs.Common.{◌≡◌, ℕ, zero, suc, ◌*◌, ◌<◌, ◌≤◌, List, [], ◌∷◌, length, get_or, take, ◌+◌, sym, ap, ◌∙◌, ℤ, pos, ◌+ℤ◌, ◌-ℤ◌, ◌*ℤ◌, arith, refl}
+use Rattle.std.proofs.Common.{◌≡◌, ℕ, zero, suc, ◌*◌, ◌<◌, ◌≤◌, List, [], ◌∷◌, length, get_or, take, ◌+◌, sym, ap, ℤ, pos, ◌+ℤ◌, ◌-ℤ◌, ◌*ℤ◌, arith, refl}
 use Rattle.std.specs.Prelude.{unsigned_abs, fold, max, map, All}
 use Rattle.std.specs.Int.{int_max}
 use Rattle.std.proofs.lemmas.Int.{ints, clamps}
 use Rattle.std.proofs.lemmas.List.Folds.{fold-map}
 use Rattle.std.proofs.lemmas.List.Sums.{fold_more}
-use Rattle.std.proofs.lemmas.Nat.{mul-le}
 use Rattle.fixed_sine.specs.Turn.{chord_error}
 use Rattle.year_blend.specs.declared.parts.Place.TheVariants.{Plain}
 use Rattle.year_blend.specs.Weights.{total_weight}

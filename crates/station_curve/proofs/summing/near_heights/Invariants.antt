@@ -1,4 +1,4 @@
-use Rattle.std.proofs.Common.{◌≡◌, ◌*◌, ◌^◌, ◌≤◌, ◌-ℤ◌, take}
+use Rattle.std.proofs.Common.{◌*◌, ◌≤◌, ◌-ℤ◌, take}
 use Rattle.std.specs.Prelude.{unsigned_abs}
 use Rattle.fixed_sine.specs.Turn.{chord_error}
 use Rattle.station_curve.specs.Waves.{heights_of, amount_of}
