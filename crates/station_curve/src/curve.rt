@@ -204,6 +204,7 @@ impl StationCurve {
         ensures near { unsigned_abs (result -ℤ level_of self.now m) ≤ level_error_of self.now }
         ensures size { unsigned_abs result ≤ total_weight * (12 * 10 ^ 18) }
     {
+        self.known();
         match self.year_around(m, m) {
             Some(year) => by_full_weight(self.near_year_level(year, m)),
             None => self.level(m),
@@ -217,6 +218,7 @@ impl StationCurve {
         ensures near { unsigned_abs (result -ℤ slope_of self.now m) ≤ slope_error_of self.now }
         ensures size { unsigned_abs result < 2 * 10 ^ 37 }
     {
+        self.known();
         match self.year_around(m, m) {
             Some(year) => by_full_weight(self.near_year_slope(year, m)),
             None => self.slope(m),

@@ -1,6 +1,6 @@
 //! The greatest sums of any year.
 
-ghost use Rattle.std.specs.Prelude.{◌≡◌, ℕ, ◌^◌, ◌<◌, ◌≤◌, length, map, pos, All, slice_index_or};
+ghost use Rattle.std.specs.Prelude.{◌≡◌, ℕ, ◌<◌, length, map, pos, slice_index_or};
 ghost use Rattle.station_curve.specs.declared.years.Year.{Year};
 ghost use Rattle.station_curve.specs.Waves.{amount_of, steepness_of};
 ghost use Rattle.station_curve.specs.Errors.{greatest_of};
@@ -24,8 +24,8 @@ pub fn greatest_of_years(years: &[Year]) -> Greatest
     ensures amount { result.amount ≡ pos (greatest_of amount_of (map (λ y. y.waves.items) years.now)) }
     ensures steepness { result.steepness ≡ pos (greatest_of steepness_of (map (λ y. y.waves.items) years.now)) }
 {
-    let mut amount = 0;
-    let mut steepness = 0;
+    let mut amount = 0_i128;
+    let mut steepness = 0_i128;
     for year in years {
         amount = amount.max(year.sums.amount);
         steepness = steepness.max(year.sums.steep);

@@ -34,6 +34,8 @@ invariant_of-result c =
       starts = λ k d h. c.requires.years.starts k d (omega (arith, h, c.requires.years.counted)) ∙ ap (λ f. start_of f k) (sym first);
       ends = λ k d h. c.requires.years.ends k d (omega (arith, h, c.requires.years.counted)) ∙ ap (λ f. start_of f (suc k)) (sym first);
       sums = λ k d h. c.requires.years.sums k d (omega (arith, h, c.requires.years.counted));
+      amount = rw c.as_slice.ensures.value at c.greatest_of_years-greatest.ensures.amount;
+      steepness = rw c.as_slice.ensures.value at c.greatest_of_years-greatest.ensures.steepness;
     }
 
 pub returns-clause-exact : goal.returns-clause-exact
