@@ -27,7 +27,7 @@ use Rattle.rate_bound.specs.Workings.RateForms.{blended_level_rate-pos, some-sam
 use Rattle.station_curve.proofs.Ranges.{are_ends, level_small}
 
 -- the mark and what is added fall out of a step
-same_mark : (x y c : ℤ) → (x +ℤ c) -ℤ (y +ℤ c) ≡ x -ℤ y
+pub same_mark : (x y c : ℤ) → (x +ℤ c) -ℤ (y +ℤ c) ≡ x -ℤ y
 same_mark x y c = omega (arith, ints)
 
 pub record IsTimes (times : ℤ) : Type 0 where

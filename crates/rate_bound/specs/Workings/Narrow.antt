@@ -5,19 +5,19 @@ use Rattle.std.proofs.lemmas.Nat.{mul-le}
 use Rattle.station_curve.specs.Waves.{Harmonic, Tide, amount_of, steepness_of}
 use Rattle.station_curve.specs.Limits.{IsGentle}
 use Rattle.station_curve.specs.Errors.{greatest_of, level_error_of, slope_error_of}
-use Rattle.station_curve.proofs.Greatest.{greatest_within}
+use Rattle.station_curve.proofs.Nearly.{greatest-most}
 use Rattle.rate_bound.specs.Scale.{IsScale}
 
 pub slope_narrow : (tide : Tide) → IsGentle tide → slope_error_of tide ≤ 10 ^ 36
 unfolding slope_error_of
 slope_narrow tide gentle =
-    let most = greatest_within steepness_of (10 ^ 17) tide.years gentle.steepnesses in
+    let most = greatest-most steepness_of tide.years (10 ^ 17) gentle.steepnesses in
     omega (arith, most)
 
 pub level_narrow : (tide : Tide) (times plus mark : ℤ) → IsGentle tide → IsScale times plus mark → unsigned_abs times * level_error_of tide ≤ 10 ^ 36
 unfolding level_error_of
 level_narrow tide times plus mark gentle scale =
-    let most = greatest_within amount_of (10 ^ 9) tide.years gentle.amounts in
+    let most = greatest-most amount_of tide.years (10 ^ 9) gentle.amounts in
     let least = scale.times_least in
     let greatest = scale.times_most in
     let few : unsigned_abs times ≤ 10 ^ 8 = omega (arith, ints) in
