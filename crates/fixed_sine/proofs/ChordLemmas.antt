@@ -38,7 +38,8 @@ chord-first k h =
     let all = and_parts _ _ (agree_below_at is_first (λ _. true) 180 k refl h) in
     ((Decides-int_eq _ _).0 all.0, (Decides-int_eq _ _).0 all.1)
 
-pub chord-second : (k : ℕ) → k < 180 → ((get_or CHORDS (k + 180) (pos 0, pos 0)).0 ≡ neg_ℤ (sine_at (pos k))) × ((get_or CHORDS (k + 180) (pos 0, pos 0)).1 ≡ neg_ℤ (rise k))
+pub chord-second : (k : ℕ) → k < 180
+    → ((get_or CHORDS (k + 180) (pos 0, pos 0)).0 ≡ neg_ℤ (sine_at (pos k))) × ((get_or CHORDS (k + 180) (pos 0, pos 0)).1 ≡ neg_ℤ (rise k))
 unfolding is_second sine_at sines
 chord-second k h =
     let all = and_parts _ _ (agree_below_at is_second (λ _. true) 180 k refl h) in
@@ -130,7 +131,8 @@ falling-near p r w bent s n g spot under over = (
 steep-counted : (u : ℤ) (w r c : ℕ) → u +ℤ pos 17452406 ≡ pos w → r ≤ 600000000
     → (((pos 2400000000 *ℤ u) +ℤ pos (600000000 * c)) -ℤ pos (r * c)) +ℤ pos (2400000000 * 17452406) ≡ pos (2400000000 * w + (600000000 - r) * c)
 steep-counted u w r c is_w h =
-    let split : 600000000 * c ≡ r * c + (600000000 - r) * c = ap (λ n. n * c) (let sum : 600000000 ≡ r + (600000000 - r) = omega arith in sum) ∙ (omega arith) in
+    let split : 600000000 * c ≡ r * c + (600000000 - r) * c =
+    ap (λ n. n * c) (let sum : 600000000 ≡ r + (600000000 - r) = omega arith in sum) ∙ (omega arith) in
     omega (arith, ints, is_w, split)
 
 -- a number cut to whole 2^32nds
@@ -223,7 +225,8 @@ near-second k p r sine u gain h small part is_sine is_rise is_gain little =
     let is_back : u +ℤ pos 17452406 ≡ pos back = turned-rise u (rise k) w back is_rise up (omega (arith, few)) in
     let is_g = raised gain 17452406 little in
     let cut = cut-rising (pos p *ℤ u) gain (p * 17452406) (p * back) g is_gain (multiplied p 17452406 back u is_back) is_g in
-    let both : p * back + p * w ≡ p * 34904812 = (let sum : back + w ≡ 34904812 = omega (arith, few) in (let all = ap (λ n. p * n) sum in omega (arith, all))) in
+    let both : p * back + p * w ≡ p * 34904812 =
+    (let sum : back + w ≡ 34904812 = omega (arith, few) in (let all = ap (λ n. p * n) sum in omega (arith, all))) in
     let under = cut.0 in
     let over = cut.1 in
     let near = falling-near p r w _ _ _ g spot (omega (arith, under, both)) (omega (arith, over, both)) in
@@ -232,7 +235,8 @@ near-second k p r sine u gain h small part is_sine is_rise is_gain little =
     near-falling _ _ g sine gain (isin_of (600000000 * (k + 180) + r)) (is_sine ∙ ap neg_ℤ (sym (sine_at-size k))) is_g half near
 
 -- the sum in the code
-pub chord-sum : (here gain sine : ℤ) → here ≡ sine → unsigned_abs gain ≤ 17452406 → unsigned_abs sine ≤ 1000000000 → to_z w64 (of_z w64 (to_z w64 (of_z w64 here) +ℤ to_z w64 (of_z w64 gain))) ≡ sine +ℤ gain
+pub chord-sum : (here gain sine : ℤ) → here ≡ sine → unsigned_abs gain ≤ 17452406 → unsigned_abs sine ≤ 1000000000
+    → to_z w64 (of_z w64 (to_z w64 (of_z w64 here) +ℤ to_z w64 (of_z w64 gain))) ≡ sine +ℤ gain
 chord-sum here gain sine is_here small most = omega (arith, ints)
 
 pub near-size : (z sine : ℤ) → unsigned_abs (z -ℤ sine) ≤ 38100 → unsigned_abs sine ≤ 1000000000 → unsigned_abs z ≤ 1000038100

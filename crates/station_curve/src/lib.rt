@@ -2,7 +2,9 @@
 //!
 //! A [`StationCurve`] is made of a book and the place of one of its stations. It is the sum of
 //! waves that Schureman's Special Publication 98 predicts by, in whole numbers: one wave for each
-//! constituent, by the constants of the year, and a smooth blend of both years at a new year.
+//! constituent, by the constants of the year, and a smooth blend of both years at a new year. Where
+//! a level or a slope needn't be exact, a near one is found sooner, and how far it may be off is
+//! known.
 #![tactic(auto)]
 
 mod blend;

@@ -18,7 +18,8 @@ loop-year-preserved c =
     let y = c.year-item.result in
     let at = c.year-item.is in
     let inside = c.loop-year-test.true in
-    let sums : y.sums ≡ sums_of y.waves.items = ap (λ (y : Year). y.sums) at ∙ c.requires i y inside ∙ ap (λ (y : Year). sums_of y.waves.items) (sym at) in
+    let sums : y.sums ≡ sums_of y.waves.items =
+    ap (λ (y : Year). y.sums) at ∙ c.requires i y inside ∙ ap (λ (y : Year). sums_of y.waves.items) (sym at) in
     let amount : FitsSigned w128 c.max-amount.result = search rules in
     let amount_here : FitsSigned w128 y.sums.amount = search rules in
     let steepness : FitsSigned w128 c.max-steepness.result = search rules in

@@ -1,11 +1,10 @@
-use Rattle.std.proofs.Common.{◌≡◌, ◌≤◌, ◌*◌, ◌^◌, pos, ◌+ℤ◌, ◌-ℤ◌, ◌*ℤ◌, ap, subst, ◌∙◌, arith, lit<}
-use Rattle.std.specs.Prelude.{unsigned_abs}
+use Rattle.std.proofs.Common.{◌≡◌, ◌*◌, ◌^◌, pos, ◌+ℤ◌, ◌*ℤ◌, ap, ◌∙◌, arith, lit<}
 use Rattle.std.proofs.lemmas.Int.{ints, to_z-of_z}
 use mir.Syntax.{w64, w128}
 use mir.Val.{to_z, of_z}
 use Rattle.station_curve.specs.Waves.{heights_of, amount_of}
 use Rattle.station_curve.specs.Levels.{minutes_into, waves_in, year_level}
-use Rattle.station_curve.proofs.Nearly.{mean_added}
+use Rattle.station_curve.proofs.Nearly.{mean_added, moved}
 use Rattle.station_curve.proofs.Products.{cast_small}
 use Rattle.station_curve.proofs.Ready.{year_of}
 use Rattle.station_curve.proofs.curve.StationCurve.near_year_level.Goals as goal
@@ -21,16 +20,15 @@ returns-clause-near c =
     let tide = c.args.self.now in
     let y = year_of c.self.inside tide c.args.year c.index-year.result.now c.self.invariant c.self.view_is c.requires.year c.index-year.ensures in
     let same = to_z-of_z w64 c.args.m c.ranges.m in
-    let minutes : c.minutes_to.result ≡ minutes_into tide.first_year c.args.year c.args.m = rw (same, y.start) at c.minutes_to.ensures.value in
+    let minutes : c.minutes_to.result ≡ minutes_into tide.first_year c.args.year c.args.m =
+    rw (same, y.start) at c.minutes_to.ensures.value in
     let waves : c.as_slice.result.now ≡ waves_in tide c.args.year = c.as_slice.ensures.value ∙ y.waves in
-    let heights : c.from.result ≡ c.near_heights.result = c.from.ensures ∙ cast_small w64 c.near_heights.result (2 * 10 ^ 18) c.near_heights.ensures.size (lit< tt) in
+    let heights : c.from.result ≡ c.near_heights.result =
+    c.from.ensures ∙ cast_small w64 c.near_heights.result (2 * 10 ^ 18) c.near_heights.ensures.size (lit< tt) in
     let sum : to_z w128 (of_z w128 (to_z w128 (of_z w128 c.mean_level.result) +ℤ to_z w128 (of_z w128 c.from.result))) ≡ c.mean_level.result +ℤ c.from.result =
     omega (arith, ints, c.mean_level.ensures.size, c.near_heights.ensures.size, heights) in
     let datum : to_z w64 (of_z w64 c.self.inside.datum) ≡ tide.datum =
     cast_small w64 c.self.inside.datum (10 ^ 10) c.self.invariant.gentle.datum (lit< tt) ∙ ap (λ t. t.datum) c.self.view_is in
     let mean : c.mean_level.result ≡ pos (10 ^ 9) *ℤ tide.datum = c.mean_level.ensures.value ∙ ap (λ d. pos (10 ^ 9) *ℤ d) datum in
-    let timed : unsigned_abs (c.near_heights.result -ℤ heights_of (minutes_into tide.first_year c.args.year c.args.m) c.as_slice.result.now) ≤ 38100 * amount_of c.as_slice.result.now =
-    subst (λ t. unsigned_abs (c.near_heights.result -ℤ heights_of t c.as_slice.result.now) ≤ 38100 * amount_of c.as_slice.result.now) minutes c.near_heights.ensures.near in
-    let near : unsigned_abs (c.near_heights.result -ℤ heights_of (minutes_into tide.first_year c.args.year c.args.m) (waves_in tide c.args.year)) ≤ 38100 * amount_of (waves_in tide c.args.year) =
-    subst (λ hs. unsigned_abs (c.near_heights.result -ℤ heights_of (minutes_into tide.first_year c.args.year c.args.m) hs) ≤ 38100 * amount_of hs) waves timed in
+    let near = moved heights_of amount_of c.near_heights.result _ _ _ _ minutes waves c.near_heights.ensures.near in
     rw (sum, heights, mean) (mean_added (pos (10 ^ 9) *ℤ tide.datum) c.near_heights.result _ _ near)

@@ -16,13 +16,15 @@ error_of-requires c =
     let size : unsigned_abs c.self.inside.greatest.steepness ≤ 10 ^ 17 = rw c.self.invariant.steepness most in
     rw (cast_small w128 c.self.inside.greatest.steepness (10 ^ 17) size (lit< tt)) (omega (arith, size))
 
-error : (c : After-error_of) → (c.error_of.result ≡ pos (slope_error_of c.args.self.now)) × (slope_error_of c.args.self.now ≤ total_weight * (38100 * 10 ^ 17))
+error : (c : After-error_of)
+    → (c.error_of.result ≡ pos (slope_error_of c.args.self.now)) × (slope_error_of c.args.self.now ≤ total_weight * (38100 * 10 ^ 17))
 unfolding slope_error_of
 error c =
     let most = greatest-most steepness_of (tide_in c.self.inside).years (10 ^ 17) c.self.invariant.gentle.steepnesses in
     let size : unsigned_abs c.self.inside.greatest.steepness ≤ 10 ^ 17 = rw c.self.invariant.steepness most in
     let value = rw (cast_small w128 c.self.inside.greatest.steepness (10 ^ 17) size (lit< tt), c.self.invariant.steepness) at c.error_of.ensures in
-    let same : greatest_of steepness_of (tide_in c.self.inside).years ≡ greatest_of steepness_of c.args.self.now.years = ap (λ (t : Tide). greatest_of steepness_of t.years) c.self.view_is in
+    let same : greatest_of steepness_of (tide_in c.self.inside).years ≡ greatest_of steepness_of c.args.self.now.years =
+    ap (λ (t : Tide). greatest_of steepness_of t.years) c.self.view_is in
     (value ∙ whole_error (greatest_of steepness_of (tide_in c.self.inside).years) ∙ ap (λ n. pos (total_weight * (38100 * n))) same, omega (arith, most, same))
 
 pub returns-clause-value : goal.returns-clause-value

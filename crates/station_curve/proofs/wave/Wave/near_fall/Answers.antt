@@ -13,8 +13,10 @@ returns-clause-near c =
     let wave = c.args.self.now in
     let steep = c.self.inside.steepness in
     let x : c.from.result ≡ steep = c.from.ensures ∙ cast_small w64 steep (10 ^ 17) c.self.invariant.steep (lit< tt) in
-    let y : c.from-2.result ≡ c.chord_sine.result = c.from-2.ensures ∙ cast_small w64 c.chord_sine.result 1000038100 c.chord_sine.ensures.size (lit< tt) in
-    let product : steep ≡ wave.amplitude *ℤ pos wave.speed = c.self.invariant.product ∙ ap (λ h. h.amplitude *ℤ pos h.speed) c.self.view_is in
+    let y : c.from-2.result ≡ c.chord_sine.result =
+    c.from-2.ensures ∙ cast_small w64 c.chord_sine.result 1000038100 c.chord_sine.ensures.size (lit< tt) in
+    let product : steep ≡ wave.amplitude *ℤ pos wave.speed =
+    c.self.invariant.product ∙ ap (λ h. h.amplitude *ℤ pos h.speed) c.self.view_is in
     let near : unsigned_abs (c.chord_sine.result -ℤ isin_of (phase_at wave c.args.minutes)) ≤ 38100 =
     subst (λ p. unsigned_abs (c.chord_sine.result -ℤ isin_of p) ≤ 38100) c.turn_after.ensures c.chord_sine.ensures.near in
     let gap = scaled_gap (wave.amplitude *ℤ pos wave.speed) c.chord_sine.result (isin_of (phase_at wave c.args.minutes)) 38100 near in
@@ -26,8 +28,11 @@ returns-clause-size c =
     let wave = c.args.self.now in
     let steep = c.self.inside.steepness in
     let x : c.from.result ≡ steep = c.from.ensures ∙ cast_small w64 steep (10 ^ 17) c.self.invariant.steep (lit< tt) in
-    let y : c.from-2.result ≡ c.chord_sine.result = c.from-2.ensures ∙ cast_small w64 c.chord_sine.result 1000038100 c.chord_sine.ensures.size (lit< tt) in
-    let product : steep ≡ wave.amplitude *ℤ pos wave.speed = c.self.invariant.product ∙ ap (λ h. h.amplitude *ℤ pos h.speed) c.self.view_is in
-    let size : unsigned_abs steep ≡ unsigned_abs wave.amplitude * wave.speed = ap unsigned_abs product ∙ unsigned_abs-mul wave.amplitude (pos wave.speed) in
+    let y : c.from-2.result ≡ c.chord_sine.result =
+    c.from-2.ensures ∙ cast_small w64 c.chord_sine.result 1000038100 c.chord_sine.ensures.size (lit< tt) in
+    let product : steep ≡ wave.amplitude *ℤ pos wave.speed =
+    c.self.invariant.product ∙ ap (λ h. h.amplitude *ℤ pos h.speed) c.self.view_is in
+    let size : unsigned_abs steep ≡ unsigned_abs wave.amplitude * wave.speed =
+    ap unsigned_abs product ∙ unsigned_abs-mul wave.amplitude (pos wave.speed) in
     let most = abs_times steep c.chord_sine.result (unsigned_abs steep) 1000038100 (omega arith) c.chord_sine.ensures.size in
     rw (x, y, times w128 steep c.chord_sine.result (10 ^ 17) 1000038100 c.self.invariant.steep c.chord_sine.ensures.size (lit< tt) (lit< tt) (lit< tt)) (omega (arith, most, size))

@@ -21,5 +21,6 @@ returns-clause-size c =
     let amplitude = c.self.inside.amplitude in
     let same : amplitude ≡ c.args.self.now.amplitude = ap (λ h. h.amplitude) c.self.view_is in
     let size = abs_times amplitude c.chord_cosine.result (unsigned_abs amplitude) 1000038100 (omega arith) c.chord_cosine.ensures.size in
-    let bound : unsigned_abs (amplitude *ℤ c.chord_cosine.result) ≤ 1000038100 * unsigned_abs c.args.self.now.amplitude = rw (← same) (omega (arith, size)) in
+    let bound : unsigned_abs (amplitude *ℤ c.chord_cosine.result) ≤ 1000038100 * unsigned_abs c.args.self.now.amplitude =
+    rw (← same) (omega (arith, size)) in
     rw (times w64 amplitude c.chord_cosine.result (10 ^ 9) 1000038100 c.self.invariant.amount c.chord_cosine.ensures.size (lit< tt) (lit< tt) (lit< tt)) bound
