@@ -62,6 +62,49 @@ fn levels_round_a_new_year(rt: HostRuntime) -> Result<(), Fail> {
     Ok(())
 }
 
+/// The near level and the near slope at a minute.
+fn nearly(curve: &StationCurve, m: i64) -> Option<(i128, i128)> {
+    if m < curve.first() || curve.last() < m {
+        return None;
+    }
+    Some((curve.near_level(m), curve.near_slope(m)))
+}
+
+/// At 90.5 and at 150 degrees, and by the exact values at a new year.
+#[test]
+fn near_levels(rt: HostRuntime) -> Result<(), Fail> {
+    let book = pier(rt.alloc(), "30", "60", "1", "feet")?;
+    assert_eq!(rt; book.stations.as_slice().len(), 1);
+    let curve = StationCurve::new(rt.alloc(), &book, 0)?;
+    let rows = [
+        (
+            15_850_141,
+            (
+                -36_189_309_081_600_000_000_000,
+                -1_244_065_253_483_520_000_000_000_000_000_000,
+            ),
+        ),
+        (
+            15_850_260,
+            (
+                -3_591_580_555_468_800_000_000_000,
+                -622_080_000_000_000_000_000_000_000_000_000,
+            ),
+        ),
+    ];
+    for (m, want) in rows {
+        assert_eq!(rt; nearly(&curve, m), Some(want), "at {m}");
+    }
+    let new_year = nearly(&curve, 15_778_080);
+    assert_eq!(rt;
+        new_year.map(|near| near.0),
+        Some(3_110_400_000_000_000_000_000_000)
+    );
+    assert_eq!(rt; curve.level_error(), 158_008_320_000_000_000_000);
+    assert_eq!(rt; curve.slope_error(), 47_402_496_000_000_000_000_000_000_000);
+    Ok(())
+}
+
 /// Where minutes lie.
 fn lying(curve: &StationCurve, m: i64, n: u32) -> Option<Stretch> {
     let end = m.checked_add(i64::from(n))?;
