@@ -1,8 +1,8 @@
 -- What near values tell of a cell.
-use Rattle.std.proofs.Common.{◌≡◌, ℕ, ◌+◌, ◌*◌, ◌^◌, ◌≤◌, ◌<◌, ℤ, pos, ◌+ℤ◌, ◌-ℤ◌, ◌*ℤ◌, ◌<ℤ◌, unsigned_abs, int_lt, Bool, true, false, not, inl, Option, Some, None, IfSome, refl, sym, ◌∙◌, arith}
+use Rattle.std.proofs.Common.{◌≡◌, ℕ, ◌*◌, ◌^◌, ◌≤◌, ◌<◌, ℤ, pos, ◌+ℤ◌, ◌-ℤ◌, ◌*ℤ◌, ◌<ℤ◌, unsigned_abs, int_lt, Bool, true, false, not, inl, Option, Some, None, IfSome, refl, sym, ◌∙◌, arith}
 use mathlib.Core.Bool.{beq}
 use Rattle.std.proofs.lemmas.Int.{ints}
-use Rattle.curve_law.specs.Meaning.{Meaning, IsNear}
+use Rattle.curve_law.specs.Meaning.{Meaning}
 use Rattle.curve_law.specs.declared.quiet.TheConstants.{MOST_MINUTES}
 use Rattle.curve_law.specs.Cover.{keeps_side, is_quiet}
 use Rattle.curve_law.specs.Workings.Near.{IsFar}

@@ -17,8 +17,8 @@ pub record IsMinute (c : Meaning) (m : ℤ) : Type 0 where
   pub last : m ≤ℤ c.last
 
 -- a number that is at most so far from the value at a minute
-abbrev pub IsNear : Meaning → ℕ → ℤ → ℤ → Type 0
-IsNear c error m near = unsigned_abs (near -ℤ c.track.value m) ≤ error
+abbrev pub IsNearValue : Meaning → ℕ → ℤ → ℤ → Type 0
+IsNearValue c error m near = unsigned_abs (near -ℤ c.track.value m) ≤ error
 
 -- a span of so many minutes that has a value at both ends, and so at each of its minutes
 pub record IsSpan (c : Meaning) (a : ℤ) (n : ℕ) : Type 0 where

@@ -1,7 +1,7 @@
 //! A value at each minute, and how fast it may change.
 
 ghost use Rattle.std.specs.Prelude.{◌≡◌, ℕ, ◌+◌, ◌^◌, ◌<◌, ◌≤◌, pos};
-ghost use Rattle.curve_law.specs.Meaning.{Meaning, IsMinute, IsCell, IsNear, IsLawful};
+ghost use Rattle.curve_law.specs.Meaning.{Meaning, IsMinute, IsCell, IsNearValue, IsLawful};
 
 use crate::kind::Kind;
 
@@ -40,7 +40,7 @@ pub trait Curve {
     fn near_value(&mut self, m: i64) -> i128
         requires minute { IsMinute (meaning self.old) m }
         requires few { count self.old < 2 ^ 63 }
-        ensures near { IsNear (meaning self.old) (error self.old) m result }
+        ensures near { IsNearValue (meaning self.old) (error self.old) m result }
         ensures counted { count self.new ≡ count self.old + 1 }
         ensures same { meaning self.new ≡ meaning self.old }
         ensures same_error { error self.new ≡ error self.old };
@@ -48,7 +48,7 @@ pub trait Curve {
     /// The value at a minute of which a near value was told. It isn't counted again.
     fn exact_value(&self, m: i64, near: i128) -> i128
         requires minute { IsMinute (meaning self.now) m }
-        requires near { IsNear (meaning self.now) (error self.now) m near }
+        requires near { IsNearValue (meaning self.now) (error self.now) m near }
         ensures { result ≡ (meaning self.now).track.value m };
 
     /// How far a near value may be from the value, at most 10^36.

@@ -1,8 +1,7 @@
 //! Which cell lies between two near values. Where they leave it open, the values are taken.
 
-ghost use Rattle.std.specs.Prelude.{◌≡◌, ◌*◌, ◌+◌, ◌^◌, ◌<◌, ◌≤◌, ℤ, pos, ◌+ℤ◌, ◌-ℤ◌, ◌*ℤ◌, ◌≤ℤ◌, ◌<ℤ◌, int_lt, unsigned_abs, IfSome, if◌then◌else◌};
-ghost use Rattle.curve_law.specs.Meaning.{IsMinute, IsNear, IsSpan};
-ghost use Rattle.curve_law.specs.Track.{side_at};
+ghost use Rattle.std.specs.Prelude.{◌≡◌, ◌*◌, ◌^◌, ◌<◌, ◌≤◌, ℤ, pos, ◌+ℤ◌, ◌-ℤ◌, ◌≤ℤ◌, int_lt, unsigned_abs, IfSome};
+ghost use Rattle.curve_law.specs.Meaning.{IsNearValue, IsSpan};
 ghost use Rattle.curve_law.specs.Cover.{is_quiet, unit_cell};
 ghost use Rattle.curve_law.specs.declared.quiet.TheConstants.{MOST_MINUTES};
 ghost use Rattle.curve_law.specs.Workings.Near.{IsFar};
@@ -15,8 +14,8 @@ use crate::quiet::{MOST_MINUTES, cell_of_sides, is_quiet, most_change, unit_cell
 pub fn is_quiet_near<C: Curve>(curve: &C, a: i64, n: u32, near: i128, end_near: i128) -> bool
     requires span { IsSpan (C.meaning curve.now) a n }
     requires few { n ≤ MOST_MINUTES }
-    requires near { IsNear (C.meaning curve.now) (C.error curve.now) a near }
-    requires end_near { IsNear (C.meaning curve.now) (C.error curve.now) (a +ℤ pos n) end_near }
+    requires near { IsNearValue (C.meaning curve.now) (C.error curve.now) a near }
+    requires end_near { IsNearValue (C.meaning curve.now) (C.error curve.now) (a +ℤ pos n) end_near }
     ensures { result ≡ is_quiet (C.meaning curve.now) a n }
 {
     match quiet_as_told(curve, a, n, near, end_near) {
@@ -28,8 +27,8 @@ pub fn is_quiet_near<C: Curve>(curve: &C, a: i64, n: u32, near: i128, end_near: 
 /// The cell of the single minute `a`, by near values at it and at the next minute.
 pub fn unit_cell_near<C: Curve>(curve: &C, a: i64, near: i128, next_near: i128) -> Cell
     requires span { IsSpan (C.meaning curve.now) a 1 }
-    requires near { IsNear (C.meaning curve.now) (C.error curve.now) a near }
-    requires next_near { IsNear (C.meaning curve.now) (C.error curve.now) (a +ℤ pos 1) next_near }
+    requires near { IsNearValue (C.meaning curve.now) (C.error curve.now) a near }
+    requires next_near { IsNearValue (C.meaning curve.now) (C.error curve.now) (a +ℤ pos 1) next_near }
     ensures { result ≡ unit_cell (C.meaning curve.now).track a }
 {
     let error = curve.error();
@@ -43,8 +42,8 @@ pub fn unit_cell_near<C: Curve>(curve: &C, a: i64, near: i128, next_near: i128) 
 fn quiet_as_told<C: Curve>(curve: &C, a: i64, n: u32, near: i128, end_near: i128) -> Option<bool>
     requires span { IsSpan (C.meaning curve.now) a n }
     requires few { n ≤ MOST_MINUTES }
-    requires near { IsNear (C.meaning curve.now) (C.error curve.now) a near }
-    requires end_near { IsNear (C.meaning curve.now) (C.error curve.now) (a +ℤ pos n) end_near }
+    requires near { IsNearValue (C.meaning curve.now) (C.error curve.now) a near }
+    requires end_near { IsNearValue (C.meaning curve.now) (C.error curve.now) (a +ℤ pos n) end_near }
     ensures { IfSome result (λ quiet. is_quiet (C.meaning curve.now) a n ≡ quiet) }
 {
     let error = curve.error();
@@ -62,8 +61,8 @@ fn quiet_as_told<C: Curve>(curve: &C, a: i64, n: u32, near: i128, end_near: i128
 fn is_quiet_exactly<C: Curve>(curve: &C, a: i64, n: u32, near: i128, end_near: i128) -> bool
     requires span { IsSpan (C.meaning curve.now) a n }
     requires few { n ≤ MOST_MINUTES }
-    requires near { IsNear (C.meaning curve.now) (C.error curve.now) a near }
-    requires end_near { IsNear (C.meaning curve.now) (C.error curve.now) (a +ℤ pos n) end_near }
+    requires near { IsNearValue (C.meaning curve.now) (C.error curve.now) a near }
+    requires end_near { IsNearValue (C.meaning curve.now) (C.error curve.now) (a +ℤ pos n) end_near }
     ensures { result ≡ is_quiet (C.meaning curve.now) a n }
 {
     let value = curve.exact_value(a, near);
@@ -75,8 +74,8 @@ fn is_quiet_exactly<C: Curve>(curve: &C, a: i64, n: u32, near: i128, end_near: i
 #[inline(never)]
 fn unit_cell_exactly<C: Curve>(curve: &C, a: i64, near: i128, next_near: i128) -> Cell
     requires span { IsSpan (C.meaning curve.now) a 1 }
-    requires near { IsNear (C.meaning curve.now) (C.error curve.now) a near }
-    requires next_near { IsNear (C.meaning curve.now) (C.error curve.now) (a +ℤ pos 1) next_near }
+    requires near { IsNearValue (C.meaning curve.now) (C.error curve.now) a near }
+    requires next_near { IsNearValue (C.meaning curve.now) (C.error curve.now) (a +ℤ pos 1) next_near }
     ensures { result ≡ unit_cell (C.meaning curve.now).track a }
 {
     let value = curve.exact_value(a, near);

@@ -1,7 +1,7 @@
 //! A minute and the value there.
 
 ghost use Rattle.std.specs.Prelude.{◌≡◌, ◌+◌, ◌^◌, ◌<◌};
-ghost use Rattle.curve_law.specs.Meaning.{IsMinute, IsNear};
+ghost use Rattle.curve_law.specs.Meaning.{IsMinute, IsNearValue};
 
 use crate::curve::Curve;
 
@@ -32,7 +32,7 @@ pub fn near_point_at<C: Curve>(curve: &mut C, minute: i64) -> Point
     requires minute { IsMinute (C.meaning curve.old) minute }
     requires few { C.count curve.old < 2 ^ 63 }
     ensures minute { result.minute ≡ minute }
-    ensures near { IsNear (C.meaning curve.old) (C.error curve.old) minute result.value }
+    ensures near { IsNearValue (C.meaning curve.old) (C.error curve.old) minute result.value }
     ensures counted { C.count curve.new ≡ C.count curve.old + 1 }
     ensures same { C.meaning curve.new ≡ C.meaning curve.old }
     ensures same_error { C.error curve.new ≡ C.error curve.old }

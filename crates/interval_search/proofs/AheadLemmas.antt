@@ -7,7 +7,7 @@ use Rattle.std.proofs.lemmas.List.{append-nil}
 use Rattle.std.proofs.Math.Nat.{mul-le-mul_left, mul-le-mul_right, pow-le-pow_right, pow-suc}
 use Rattle.curve_law.specs.declared.cell.Cell.{Cell}
 use Rattle.curve_law.specs.declared.quiet.TheConstants.{MOST_MINUTES}
-use Rattle.curve_law.specs.Meaning.{Meaning, IsNear, IsLawful}
+use Rattle.curve_law.specs.Meaning.{Meaning, IsNearValue, IsLawful}
 use Rattle.curve_law.specs.Cells.{minutes_of, all_minutes}
 use Rattle.curve_law.specs.Cover.{is_quiet, unit_cell, split, cover}
 use Rattle.curve_law.proofs.CoverLemmas.{by_test, split-one, split-halves, cover-none, cover-last, cover-block}
@@ -43,11 +43,11 @@ pub begun-cells : (c : Meaning) (end a : ℤ) (p : Point) → a <ℤ end → p.m
 unfolding cells_ahead
 begun-cells c end a p some is = block-cells c end a p.minute some is
 
-pub begun-pieces : (c : Meaning) (error : ℕ) (end a : ℤ) (p : Point) → a <ℤ end → p.minute ≡ a +ℤ pos (min (minutes_to a end) MOST_MINUTES) → IsNear c error p.minute p.value → ArePieces c error end a (p ∷ [])
+pub begun-pieces : (c : Meaning) (error : ℕ) (end a : ℤ) (p : Point) → a <ℤ end → p.minute ≡ a +ℤ pos (min (minutes_to a end) MOST_MINUTES) → IsNearValue c error p.minute p.value → ArePieces c error end a (p ∷ [])
 unfolding ArePieces
 begun-pieces c error end a p some is near = (omega (arith, ints), omega (arith, ints), near, omega (arith, ints))
 
-pub begun-stands : (c : Meaning) (error : ℕ) (count : ℕ) (end : ℤ) (at p : Point) → at.minute <ℤ end → p.minute ≡ at.minute +ℤ pos (min (minutes_to at.minute end) MOST_MINUTES) → IsNear c error p.minute p.value → Stands c error count end at [] → Stands c error (count + 1) end at (p ∷ [])
+pub begun-stands : (c : Meaning) (error : ℕ) (count : ℕ) (end : ℤ) (at p : Point) → at.minute <ℤ end → p.minute ≡ at.minute +ℤ pos (min (minutes_to at.minute end) MOST_MINUTES) → IsNearValue c error p.minute p.value → Stands c error count end at [] → Stands c error (count + 1) end at (p ∷ [])
 begun-stands c error count end at p some is near stands =
     let few = stands.few in
     let same = ap length (begun-cells c end at.minute p some is) in
@@ -60,7 +60,7 @@ begun-stands c error count end at p some is near stands =
     }
 
 -- the same as a call tells it
-pub begun-at : (c : Meaning) (error : ℕ) (count more : ℕ) (end : ℤ) (at : Point) (b : ℤ) (p : Point) (old new : List Point) → at.minute <ℤ end → b ≡ at.minute +ℤ pos (min (minutes_to at.minute end) MOST_MINUTES) → p.minute ≡ b → IsNear c error b p.value → more ≡ count + 1 → old ≡ [] → new ≡ []
+pub begun-at : (c : Meaning) (error : ℕ) (count more : ℕ) (end : ℤ) (at : Point) (b : ℤ) (p : Point) (old new : List Point) → at.minute <ℤ end → b ≡ at.minute +ℤ pos (min (minutes_to at.minute end) MOST_MINUTES) → p.minute ≡ b → IsNearValue c error b p.value → more ≡ count + 1 → old ≡ [] → new ≡ []
     → Stands c error count end at old → Stands c error more end at (p ∷ new) × (cells_ahead c end at.minute (p ∷ new) ≡ cells_ahead c end at.minute old)
 begun-at c error count more end at b p old new some is minute near counted empty none stands =
     let begun = begun-stands c error count end at p some (minute ∙ is) (rw minute near) (rw empty at stands) in
@@ -68,7 +68,7 @@ begun-at c error count more end at b p old new some is minute near counted empty
     (rw (counted, none) begun, rw (empty, none) cells)
 
 -- the nearest piece, and what is halved of it
-pub piece-parts : (c : Meaning) (error : ℕ) (end a : ℤ) (p : Point) (ps : List Point) → ArePieces c error end a (p ∷ ps) → (a <ℤ p.minute) × (minutes_to a p.minute * 2 ^ length ps ≤ MOST_MINUTES) × IsNear c error p.minute p.value × ArePieces c error end p.minute ps
+pub piece-parts : (c : Meaning) (error : ℕ) (end a : ℤ) (p : Point) (ps : List Point) → ArePieces c error end a (p ∷ ps) → (a <ℤ p.minute) × (minutes_to a p.minute * 2 ^ length ps ≤ MOST_MINUTES) × IsNearValue c error p.minute p.value × ArePieces c error end p.minute ps
 unfolding ArePieces
 piece-parts c error end a p ps pieces = pieces
 
@@ -85,7 +85,7 @@ one_or_more : (k n : ℕ) → n * 2 ^ k ≤ MOST_MINUTES → n ≤ MOST_MINUTES
 one_or_more k n few = let p = pow_pos k in let q = mul-le-mul_left n p in omega (arith, q)
 
 -- what lies ahead of a point to the nearest one
-pub piece-ahead : (c : Meaning) (error : ℕ) (end : ℤ) (at p : Point) (ps : List Point) → IsNear c error at.minute at.value → c.first ≤ℤ at.minute → end ≤ℤ c.last → ArePieces c error end at.minute (p ∷ ps) → IsPiece c error at p
+pub piece-ahead : (c : Meaning) (error : ℕ) (end : ℤ) (at p : Point) (ps : List Point) → IsNearValue c error at.minute at.value → c.first ≤ℤ at.minute → end ≤ℤ c.last → ArePieces c error end at.minute (p ∷ ps) → IsPiece c error at p
 piece-ahead c error end at p ps near first last pieces =
     let parts = piece-parts c error end at.minute p ps pieces in
     let few = one_or_more (length ps) (minutes_to at.minute p.minute) parts.1 in
@@ -149,7 +149,7 @@ rest_few n k few = let less = mul-le-mul_right (2 ^ k) (le-sub n (n / 2)) in ome
     le-sub : (a b : ℕ) → a - b ≤ a
     le-sub a b = omega arith
 
-pub middle-pieces : (c : Meaning) (error : ℕ) (end a : ℤ) (m p : Point) (ps : List Point) → ArePieces c error end a (p ∷ ps) → 2 ≤ minutes_to a p.minute → m.minute ≡ a +ℤ pos (minutes_to a p.minute / 2) → IsNear c error m.minute m.value → ArePieces c error end a (m ∷ p ∷ ps)
+pub middle-pieces : (c : Meaning) (error : ℕ) (end a : ℤ) (m p : Point) (ps : List Point) → ArePieces c error end a (p ∷ ps) → 2 ≤ minutes_to a p.minute → m.minute ≡ a +ℤ pos (minutes_to a p.minute / 2) → IsNearValue c error m.minute m.value → ArePieces c error end a (m ∷ p ∷ ps)
 unfolding ArePieces
 middle-pieces c error end a m p ps pieces two is near =
     let some = pieces.0 in
@@ -157,7 +157,7 @@ middle-pieces c error end a m p ps pieces two is near =
     let second : minutes_to m.minute p.minute ≡ minutes_to a p.minute - minutes_to a p.minute / 2 = omega (arith, ints) in
     (omega (arith, ints), rw first (half_few (minutes_to a p.minute) (length ps) pieces.1), near, (omega (arith, ints), rw second (rest_few (minutes_to a p.minute) (length ps) pieces.1), pieces.2, pieces.3))
 
-pub middle-stands : (c : Meaning) (error : ℕ) (count : ℕ) (end : ℤ) (at m p : Point) (ps : List Point) → Stands c error count end at (p ∷ ps) → 2 ≤ minutes_to at.minute p.minute → is_quiet c at.minute (minutes_to at.minute p.minute) ≡ false → m.minute ≡ at.minute +ℤ pos (minutes_to at.minute p.minute / 2) → IsNear c error m.minute m.value → Stands c error (count + 1) end at (m ∷ p ∷ ps)
+pub middle-stands : (c : Meaning) (error : ℕ) (count : ℕ) (end : ℤ) (at m p : Point) (ps : List Point) → Stands c error count end at (p ∷ ps) → 2 ≤ minutes_to at.minute p.minute → is_quiet c at.minute (minutes_to at.minute p.minute) ≡ false → m.minute ≡ at.minute +ℤ pos (minutes_to at.minute p.minute / 2) → IsNearValue c error m.minute m.value → Stands c error (count + 1) end at (m ∷ p ∷ ps)
 middle-stands c error count end at m p ps stands two loud is near =
     let few = stands.few in
     let some = (piece-parts c error end at.minute p ps stands.pieces).0 in
@@ -171,7 +171,7 @@ middle-stands c error count end at m p ps stands two loud is near =
     }
 
 -- a search that begins
-pub first-stands : (c : Meaning) (error : ℕ) (count more : ℕ) (begin end : ℤ) (p : Point) (ps : List Point) → IsLawful c → begin ≤ℤ end → c.first ≤ℤ begin → end ≤ℤ c.last → count ≤ 2 ^ 62 → more ≡ count + 1 → p.minute ≡ begin → IsNear c error begin p.value → ps ≡ []
+pub first-stands : (c : Meaning) (error : ℕ) (count more : ℕ) (begin end : ℤ) (p : Point) (ps : List Point) → IsLawful c → begin ≤ℤ end → c.first ≤ℤ begin → end ≤ℤ c.last → count ≤ 2 ^ 62 → more ≡ count + 1 → p.minute ≡ begin → IsNearValue c error begin p.value → ps ≡ []
     → Stands c error more end p ps × (cells_ahead c end p.minute ps ≡ cover c begin (minutes_to begin end))
 unfolding cells_ahead ArePieces
 first-stands c error count more begin end p ps lawful forward first last few counted minute near none =

@@ -1,7 +1,7 @@
 //! What lies between two points at which near values are known.
 
 ghost use Rattle.std.specs.Prelude.{◌≡◌, ◌+◌, ◌/◌, ◌≤◌, ◌<◌, ◌^◌, ℤ, pos, neg_ℤ, ◌+ℤ◌, ◌-ℤ◌, ◌≤ℤ◌, ◌<ℤ◌, unsigned_abs, min, IfSome, IfNone};
-ghost use Rattle.curve_law.specs.Meaning.{IsNear};
+ghost use Rattle.curve_law.specs.Meaning.{IsNearValue};
 ghost use Rattle.interval_search.specs.Workings.Ahead.{minutes_to, IsPiece, IsSplit};
 
 use curve_law::{Cell, Curve, MOST_MINUTES, Point, is_quiet_near, near_point_at, unit_cell_near};
@@ -28,7 +28,7 @@ pub fn middle<C: Curve>(curve: &mut C, begin: Point, end: Point) -> Point
     requires piece { IsPiece (C.meaning curve.old) (C.error curve.old) begin end }
     requires few { C.count curve.old < 2 ^ 63 }
     ensures minute { result.minute ≡ begin.minute +ℤ pos (minutes_to begin.minute end.minute / 2) }
-    ensures near { IsNear (C.meaning curve.old) (C.error curve.old) result.minute result.value }
+    ensures near { IsNearValue (C.meaning curve.old) (C.error curve.old) result.minute result.value }
     ensures counted { C.count curve.new ≡ C.count curve.old + 1 }
     ensures same { C.meaning curve.new ≡ C.meaning curve.old }
     ensures same_error { C.error curve.new ≡ C.error curve.old }

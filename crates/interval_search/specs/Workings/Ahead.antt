@@ -2,7 +2,7 @@
 use Rattle.std.specs.Prelude.{◌≡◌, ℕ, ◌+◌, ◌-◌, ◌*◌, ◌^◌, ◌≤◌, ℤ, pos, ◌+ℤ◌, ◌-ℤ◌, ◌≤ℤ◌, ◌<ℤ◌, unsigned_abs, false, List, [], ◌∷◌, ◌++◌, length, Option, Some, None}
 use Rattle.curve_law.specs.declared.cell.Cell.{Cell}
 use Rattle.curve_law.specs.declared.quiet.TheConstants.{MOST_MINUTES}
-use Rattle.curve_law.specs.Meaning.{Meaning, IsNear}
+use Rattle.curve_law.specs.Meaning.{Meaning, IsNearValue}
 use Rattle.curve_law.specs.Cover.{is_quiet, split, cover}
 use Rattle.interval_search.specs.declared.front.Front.{Front}
 use Rattle.curve_law.specs.declared.point.Point.{Point}
@@ -17,8 +17,8 @@ pub record IsPiece (c : Meaning) (error : ℕ) (begin end : Point) : Type 0 wher
   pub last : end.minute ≤ℤ c.last
   pub some : begin.minute <ℤ end.minute
   pub few : end.minute ≤ℤ (begin.minute +ℤ pos MOST_MINUTES)
-  pub near : IsNear c error begin.minute begin.value
-  pub end_near : IsNear c error end.minute end.value
+  pub near : IsNearValue c error begin.minute begin.value
+  pub end_near : IsNearValue c error end.minute end.value
 
 -- the one cell of so many minutes, or none where they are to be halved
 abbrev pub IsSplit : Meaning → ℤ → ℕ → Option Cell → Type 0
@@ -34,7 +34,7 @@ cells_ahead c end a (p ∷ ps) = split c a (minutes_to a p.minute) ++ cells_ahea
 unfoldable pub ArePieces : Meaning → ℕ → ℤ → ℤ → List Point → Type 0
 ArePieces c error end a [] = a ≤ℤ end
 ArePieces c error end a (p ∷ ps) =
-    (a <ℤ p.minute) × (minutes_to a p.minute * 2 ^ length ps ≤ MOST_MINUTES) × IsNear c error p.minute p.value × ArePieces c error end p.minute ps
+    (a <ℤ p.minute) × (minutes_to a p.minute * 2 ^ length ps ≤ MOST_MINUTES) × IsNearValue c error p.minute p.value × ArePieces c error end p.minute ps
 
 -- the values that are asked for until all cells are given, and one more for each point that is ahead
 abbrev pub IsFew : ℕ → ℕ → ℕ → Type 0
@@ -42,7 +42,7 @@ IsFew count cells points = count + cells ≤ points + (2 ^ 62 + 2 ^ 61 + 1)
 
 -- how far a search has come: to a point, with the ends of the pieces ahead, the nearest one first
 pub record Stands (c : Meaning) (error : ℕ) (count : ℕ) (end : ℤ) (at : Point) (ahead : List Point) : Type 0 where
-  pub near : IsNear c error at.minute at.value
+  pub near : IsNearValue c error at.minute at.value
   pub first : c.first ≤ℤ at.minute
   pub last : end ≤ℤ c.last
   pub pieces : ArePieces c error end at.minute ahead

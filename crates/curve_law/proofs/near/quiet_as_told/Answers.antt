@@ -1,8 +1,6 @@
-use Rattle.std.proofs.Common.{◌≡◌, ◌^◌, ◌<◌, ◌*◌, pos, ◌+ℤ◌, ◌*ℤ◌, ◌-ℤ◌, ◌≤ℤ◌, ◌≤◌, ℤ, int_lt, unsigned_abs, Some, inl, inr, refl, sym, w64, to_z, of_z, FitsSigned, rules, arith, ◌∙◌}
+use Rattle.std.proofs.Common.{◌≡◌, ◌*◌, pos, ◌+ℤ◌, ◌*ℤ◌, inl, inr, refl, sym, w64, to_z, of_z, FitsSigned, rules, arith}
 use Rattle.std.proofs.lemmas.Int.{ints, to_z-of_z}
 use mir.Syntax.{w128}
-use Rattle.curve_law.specs.Meaning.{IsMinute}
-use Rattle.curve_law.specs.Workings.Near.{IsFar}
 use Rattle.curve_law.proofs.NearLemmas.{some-told, told-side, told-crossed, too_short, told-far, near-size}
 use Rattle.curve_law.proofs.QuietLemmas.{no_rate-quiet, rate-positive}
 use Rattle.curve_law.proofs.near.quiet_as_told.Goals as goal
