@@ -1,10 +1,10 @@
 -- Near values of both curves are near enough for sums of such.
-use Rattle.std.proofs.Common.{◌≡◌, ℕ, ◌*◌, ◌^◌, ◌≤◌, max, List, [], ◌∷◌, fold, All, ℤ, unsigned_abs, arith}
+use Rattle.std.proofs.Common.{◌*◌, ◌^◌, ◌≤◌, ℤ, unsigned_abs, arith}
 use Rattle.std.proofs.lemmas.Int.{ints}
 use Rattle.std.proofs.lemmas.Nat.{mul-le}
-use Rattle.station_curve.specs.Waves.{Harmonic, Tide, amount_of, steepness_of}
+use Rattle.station_curve.specs.Waves.{Tide, amount_of, steepness_of}
 use Rattle.station_curve.specs.Limits.{IsGentle}
-use Rattle.station_curve.specs.Errors.{greatest_of, level_error_of, slope_error_of}
+use Rattle.station_curve.specs.Errors.{level_error_of, slope_error_of}
 use Rattle.station_curve.proofs.Nearly.{greatest-most}
 use Rattle.rate_bound.specs.Scale.{IsScale}
 

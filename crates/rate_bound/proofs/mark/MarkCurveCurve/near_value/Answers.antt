@@ -1,4 +1,4 @@
-use Rattle.std.proofs.Common.{◌≡◌, ◌*◌, ◌^◌, FitsSigned, rules, lit<}
+use Rattle.std.proofs.Common.{◌*◌, ◌^◌, FitsSigned, rules, lit<}
 use Rattle.std.proofs.lemmas.Int.{to_z-of_z}
 use mir.Syntax.{w64, w128}
 use Rattle.year_blend.specs.Weights.{total_weight}
