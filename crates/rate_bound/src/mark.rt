@@ -1,7 +1,8 @@
 //! The level of a station against a mark as a curve.
 
-ghost use Rattle.std.specs.Prelude.{◌≡◌, pos, true};
+ghost use Rattle.std.specs.Prelude.{◌≡◌, ◌*◌, pos, true, unsigned_abs};
 ghost use Rattle.std.specs.Bool.{OnTrue};
+ghost use Rattle.station_curve.specs.Errors.{level_error_of};
 ghost use Rattle.station_curve.specs.Limits.{IsGentle};
 ghost use Rattle.rate_bound.specs.Scale.{IsScale};
 ghost use Rattle.rate_bound.specs.declared.version.Version.TheVariants.{First, Second};
@@ -24,9 +25,11 @@ pub struct MarkCurve<'a> {
     plus: i64,
     mark: i64,
     slack: bool,
+    error: i128,
     evaluations: u64,
     ghost gentle: { IsGentle station.now },
     ghost scale: { IsScale times plus mark },
+    ghost bound: { error ≡ pos (unsigned_abs times * level_error_of station.now) },
 }
 
 impl<'a> MarkCurve<'a> {
@@ -80,6 +83,7 @@ impl<'a> MarkCurve<'a> {
             plus,
             mark,
             slack,
+            error: scaled(times, station.level_error()),
             evaluations: 0,
         }
     }
@@ -89,8 +93,6 @@ impl<'a> Curve for MarkCurve<'a> {
     ghost use Rattle.rate_bound.specs.Meanings.{mark_meaning};
     ghost use Rattle.rate_bound.specs.Workings.MarkLaw.{mark_lawful};
     ghost use Rattle.rate_bound.specs.Workings.Narrow.{level_narrow};
-    ghost use Rattle.station_curve.specs.Errors.{level_error_of};
-    ghost use Rattle.std.specs.Prelude.{◌*◌, unsigned_abs};
 
     ghost meaning = { λ c. mark_meaning c.version c.station.now c.times c.plus c.mark c.slack };
 
@@ -125,7 +127,7 @@ impl<'a> Curve for MarkCurve<'a> {
     }
 
     fn error(&self) -> i128 {
-        scaled(self.times, self.station.level_error())
+        self.error
     }
 
     fn rate(&self, a: i64, n: u32) -> Option<i128> {

@@ -1,6 +1,7 @@
 //! The slope of a station as a curve.
 
-ghost use Rattle.std.specs.Prelude.{◌≡◌};
+ghost use Rattle.std.specs.Prelude.{◌≡◌, pos};
+ghost use Rattle.station_curve.specs.Errors.{slope_error_of};
 ghost use Rattle.station_curve.specs.Limits.{IsGentle};
 ghost use Rattle.rate_bound.specs.declared.version.Version.TheVariants.{First, Second};
 
@@ -17,8 +18,10 @@ use year_blend::Stretch;
 pub struct TurnCurve<'a> {
     station: &'a StationCurve,
     version: Version,
+    error: i128,
     evaluations: u64,
     ghost gentle: { IsGentle station.now },
+    ghost bound: { error ≡ pos (slope_error_of station.now) },
 }
 
 impl<'a> TurnCurve<'a> {
@@ -49,6 +52,7 @@ impl<'a> TurnCurve<'a> {
         TurnCurve {
             station,
             version,
+            error: station.slope_error(),
             evaluations: 0,
         }
     }
@@ -58,7 +62,6 @@ impl<'a> Curve for TurnCurve<'a> {
     ghost use Rattle.rate_bound.specs.Meanings.{turn_meaning};
     ghost use Rattle.rate_bound.specs.Workings.TurnLaw.{turn_lawful};
     ghost use Rattle.rate_bound.specs.Workings.Narrow.{slope_narrow};
-    ghost use Rattle.station_curve.specs.Errors.{slope_error_of};
 
     ghost meaning = { λ c. turn_meaning c.version c.station.now };
 
@@ -93,7 +96,7 @@ impl<'a> Curve for TurnCurve<'a> {
     }
 
     fn error(&self) -> i128 {
-        self.station.slope_error()
+        self.error
     }
 
     fn rate(&self, a: i64, n: u32) -> Option<i128> {
