@@ -1,25 +1,27 @@
 //! What holds of the curves of every station.
 
-ghost use Rattle.std.specs.Prelude.{◌≡◌, ℕ, ℤ, pos, ◌+ℤ◌, Bool};
+ghost use Rattle.std.specs.Prelude.{◌≡◌, ℕ, ℤ, pos, ◌+ℤ◌, ◌≤ℤ◌, Bool};
 ghost use Rattle.curve_law.specs.Meaning.{AgreeOver, IsLawful};
 ghost use Rattle.harmonics_text.specs.declared.book.Station.{Station};
 ghost use Rattle.harmonics_text.specs.declared.book.Book.{Book};
 ghost use Rattle.year_blend.specs.Places.{AreYears, InDomain};
-ghost use Rattle.station_curve.specs.Curves.{Predicts};
+ghost use Rattle.station_curve.specs.Curves.{PredictsOver};
 ghost use Rattle.station_curve.specs.Limits.{IsGentle};
 ghost use Rattle.station_curve.specs.Waves.{Tide};
 ghost use Rattle.rate_bound.specs.declared.version.Version.{Version};
 ghost use Rattle.rate_bound.specs.Scale.{IsScale};
 ghost use Rattle.rate_bound.specs.Meanings.{turn_meaning, mark_meaning, predicted_turn, predicted_mark};
 
-/// The curves of a tide that predicts a station say the same as those by every constituent of the
-/// book, over each span of its years.
+/// The curves of a tide that predicts a station over some minutes say the same of each span of these as
+/// those by every constituent of the book.
 pub fn predicted_curves()
-    ensures turn { (version : Version) (b : Book) (s : Station) (tide : Tide) (a : ℤ) (n : ℕ) →
-        Predicts b s tide → AreYears b.first_year b.years → InDomain b.first_year b.years a → InDomain b.first_year b.years (a +ℤ pos n) →
+    ensures turn { (version : Version) (b : Book) (s : Station) (first last : ℤ) (tide : Tide) (a : ℤ) (n : ℕ) →
+        PredictsOver b s first last tide → AreYears b.first_year b.years →
+        InDomain b.first_year b.years a → InDomain b.first_year b.years (a +ℤ pos n) → first ≤ℤ a → (a +ℤ pos n) ≤ℤ last →
         AgreeOver (turn_meaning version tide) (predicted_turn version b s) a n }
-    ensures mark { (version : Version) (b : Book) (s : Station) (tide : Tide) (times plus mark : ℤ) (slack : Bool) (a : ℤ) (n : ℕ) →
-        Predicts b s tide → AreYears b.first_year b.years → InDomain b.first_year b.years a → InDomain b.first_year b.years (a +ℤ pos n) →
+    ensures mark { (version : Version) (b : Book) (s : Station) (first last : ℤ) (tide : Tide) (times plus mark : ℤ) (slack : Bool) (a : ℤ) (n : ℕ) →
+        PredictsOver b s first last tide → AreYears b.first_year b.years →
+        InDomain b.first_year b.years a → InDomain b.first_year b.years (a +ℤ pos n) → first ≤ℤ a → (a +ℤ pos n) ≤ℤ last →
         AgreeOver (mark_meaning version tide times plus mark slack) (predicted_mark version b s times plus mark slack) a n }
 {}
 

@@ -16,8 +16,7 @@ use Rattle.station_curve.specs.Sums.{far_of}
 use Rattle.station_curve.specs.Levels.{minutes_into, waves_in, place_in_tide, year_level, year_slope, level_of, slope_of}
 use Rattle.station_curve.specs.Curves.{first_fault, tide_of, Predicts}
 use Rattle.station_curve.specs.Limits.{IsGentle}
-use Rattle.station_curve.proofs.Gentle.{gentle_tide}
-use Rattle.station_curve.proofs.Predicting.{predicts_tide}
+use Rattle.station_curve.proofs.Whole.{gentle_tide, predicts_tide}
 use Rattle.rate_bound.specs.Rates.{tide_sums, book_sums}
 use Rattle.slope_agreement.specs.Agreements.{gap_of, predicted_gap, IsPlainMinute, year_agreement, greatest, agreement_of, predicted_agreement}
 use Rattle.slope_agreement.proofs.WaveGaps.{heights_gap}

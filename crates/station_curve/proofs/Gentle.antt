@@ -1,5 +1,5 @@
 -- The tide of a station within the limits.
-use Rattle.std.proofs.Common.{◌≡◌, ℕ, zero, suc, ◌+◌, ◌*◌, ◌^◌, ◌<◌, ◌≤◌, Bool, true, false, List, [], ◌∷◌, length, get_or, Option, Some, None, ℤ, pos, inl, inr, refl, sym, ap, ◌∙◌, add-zero, arith}
+use Rattle.std.proofs.Common.{◌≡◌, ℕ, zero, suc, ◌+◌, ◌*◌, ◌^◌, ◌<◌, ◌≤◌, Bool, true, false, cond, List, [], ◌∷◌, length, get_or, Option, Some, None, ℤ, pos, inl, inr, refl, sym, ap, ◌∙◌, add-zero, arith}
 use Rattle.std.specs.Prelude.{unsigned_abs, filter, map, fold, nat_eq, All}
 use Rattle.std.specs.Option.{option_or}
 use Rattle.std.proofs.lemmas.Bool.{eqb-true, cases_lt}
@@ -15,8 +15,8 @@ use Rattle.station_curve.specs.declared.fault.CurveFault.{CurveFault}
 use Rattle.station_curve.specs.declared.years.Year.{Year}
 use Rattle.station_curve.specs.Waves.{Harmonic, Tide, amount_of, steepness_of}
 use Rattle.station_curve.specs.Sums.{height_rate_of, fall_rate_of, near_of, far_of, sums_of}
-use Rattle.station_curve.specs.Limits.{IsGentle, AreGentle}
-use Rattle.station_curve.specs.Curves.{waves_of, is_present, year_fault, first_fault, tide_of}
+use Rattle.station_curve.specs.Limits.{most_amount, most_steepness, IsGentle, AreGentle}
+use Rattle.station_curve.specs.Curves.{waves_of, is_present, is_touched, waves_over, tide_over, year_fault, first_fault}
 use Rattle.station_curve.specs.Levels.{waves_in}
 use Rattle.station_curve.specs.Workings.Prepared.{AreReady}
 use Rattle.station_curve.proofs.Products.{abs_span}
@@ -69,34 +69,70 @@ no_fault b s (suc years) k h below =
     ]
 
 -- the years of the tide
-pub length-tide_of : (b : Book) (s : Station) → length (tide_of b s).years ≡ b.years
-unfolding tide_of
-length-tide_of b s = length-map-range_with_len (λ year. filter is_present (waves_of b s year)) 0 b.years
+pub length-tide_over : (b : Book) (s : Station) (first last : ℤ) → length (tide_over b s first last).years ≡ b.years
+unfolding tide_over
+length-tide_over b s first last = length-map-range_with_len (waves_over b s first last) 0 b.years
 
-pub waves_in-tide_of : (b : Book) (s : Station) (k : ℕ) (d : List Harmonic) → k < b.years → get_or (tide_of b s).years k d ≡ filter is_present (waves_of b s k)
-unfolding tide_of
-waves_in-tide_of b s k d below = get_or-map-range_with_len (λ year. filter is_present (waves_of b s year)) 0 b.years k k d below (omega arith)
+pub waves_in-tide_over : (b : Book) (s : Station) (first last : ℤ) (k : ℕ) (d : List Harmonic) → k < b.years → get_or (tide_over b s first last).years k d ≡ waves_over b s first last k
+unfolding tide_over
+waves_in-tide_over b s first last k d below = get_or-map-range_with_len (waves_over b s first last) 0 b.years k k d below (omega arith)
+
+-- what holds of a year's waves and of none
+by_touch : (P : List Harmonic → Type 0) (touched : Bool) (hs : List Harmonic) → P [] → P hs → P (cond touched hs [])
+by_touch P true hs none all = all
+by_touch P false hs none all = none
+
+pub over-either : (P : List Harmonic → Type 0) (b : Book) (s : Station) (first last : ℤ) (year : ℕ) → P [] → P (filter is_present (waves_of b s year)) → P (waves_over b s first last year)
+unfolding waves_over
+over-either P b s first last year none all = by_touch P (is_touched b first last year) (filter is_present (waves_of b s year)) none all
+
+-- the same of a year that is asked for or isn't
+pub asked-over : (b : Book) (s : Station) (first last : ℤ) (year : ℕ) (asked : Bool) → is_touched b first last year ≡ asked → cond asked (filter is_present (waves_of b s year)) [] ≡ waves_over b s first last year
+unfolding waves_over
+asked-over b s first last year asked is = rw is refl
+
+pub asked-amount : (b : Book) (s : Station) (year : ℕ) (asked : Bool) → amount_of (waves_of b s year) ≤ most_amount → amount_of (cond asked (filter is_present (waves_of b s year)) []) ≤ most_amount
+asked-amount b s year asked small =
+    by_touch (λ hs. amount_of hs ≤ most_amount) asked _ (omega arith) (rw (amount-present (waves_of b s year)) small)
+
+pub asked-steepness : (b : Book) (s : Station) (year : ℕ) (asked : Bool) → steepness_of (waves_of b s year) ≤ most_steepness → steepness_of (cond asked (filter is_present (waves_of b s year)) []) ≤ most_steepness
+asked-steepness b s year asked small =
+    by_touch (λ hs. steepness_of hs ≤ most_steepness) asked _ (omega arith) (rw (steepness-present (waves_of b s year)) small)
+
+pub over-touched : (b : Book) (s : Station) (first last : ℤ) (year : ℕ) → is_touched b first last year ≡ true → waves_over b s first last year ≡ filter is_present (waves_of b s year)
+unfolding waves_over
+over-touched b s first last year touched = rw touched refl
 
 slow : (b : Book) (s : Station) (year : ℕ) → IsBook b → All (λ h. h.speed ≤ 3600000000) (waves_of b s year)
 slow b s year book k d below =
     let in_list : k < length b.constituents = omega (arith, below, length-waves_of b s year) in
     rw (get_or-waves_of b s year k d in_list) (speed_small b k book in_list)
 
-pub gentle_tide : (b : Book) (s : Station) → IsBook b → IsStation (length b.constituents) s → first_fault b s b.years ≡ None → IsGentle (tide_of b s)
-unfolding tide_of
-gentle_tide b s book station none = record {
-  years = rw (length-tide_of b s) (record { least = book.first_year.least; most = book.first_year.most; some = book.some_years; few = book.few_years });
-  datum = abs_span s.datum 9999999999 station.datum.least station.datum.most;
-  amounts = λ k d h.
-      let below : k < b.years = omega (arith, h, length-tide_of b s) in
-      rw (waves_in-tide_of b s k d below, amount-present (waves_of b s k)) (none_fault b s k (no_fault b s b.years k none below)).0;
-  steepnesses = λ k d h.
-      let below : k < b.years = omega (arith, h, length-tide_of b s) in
-      rw (waves_in-tide_of b s k d below, steepness-present (waves_of b s k)) (none_fault b s k (no_fault b s b.years k none below)).1;
-  speeds = λ k d h.
-      let below : k < b.years = omega (arith, h, length-tide_of b s) in
-      rw (waves_in-tide_of b s k d below) (All-filter is_present (λ h. h.speed ≤ 3600000000) (waves_of b s k) (slow b s k book));
-}
+-- the tide's first year and mean level, and what holds of the waves of each year
+pub first-tide_over : (b : Book) (s : Station) (first last : ℤ) → (tide_over b s first last).first_year ≡ b.first_year
+unfolding tide_over
+first-tide_over b s first last = refl
+
+datum-tide_over : (b : Book) (s : Station) (first last : ℤ) → (tide_over b s first last).datum ≡ s.datum
+unfolding tide_over
+datum-tide_over b s first last = refl
+
+each_year : (P : List Harmonic → Type 0) (b : Book) (s : Station) (first last : ℤ) → P [] → ((k : ℕ) → k < b.years → P (filter is_present (waves_of b s k))) → All P (tide_over b s first last).years
+each_year P b s first last none all k d h =
+    let below : k < b.years = omega (arith, h, length-tide_over b s first last) in
+    rw (waves_in-tide_over b s first last k d below) (over-either P b s first last k none (all k below))
+
+pub gentle_over : (b : Book) (s : Station) (first last : ℤ) → IsBook b → IsStation (length b.constituents) s → first_fault b s b.years ≡ None → IsGentle (tide_over b s first last)
+gentle_over b s first last book station none =
+    let within = λ (k : ℕ) (below : k < b.years). none_fault b s k (no_fault b s b.years k none below) in
+    record {
+      years = rw (first-tide_over b s first last, length-tide_over b s first last) (record { least = book.first_year.least; most = book.first_year.most; some = book.some_years; few = book.few_years });
+      datum = rw (datum-tide_over b s first last) (abs_span s.datum 9999999999 station.datum.least station.datum.most);
+      amounts = each_year (λ hs. amount_of hs ≤ most_amount) b s first last (omega arith) (λ k below. rw (amount-present (waves_of b s k)) (within k below).0);
+      steepnesses = each_year (λ hs. steepness_of hs ≤ most_steepness) b s first last (omega arith) (λ k below. rw (steepness-present (waves_of b s k)) (within k below).1);
+      speeds = each_year (All (λ h. h.speed ≤ 3600000000)) b s first last (λ k d h. absurd (omega (arith, h)))
+          (λ k below. All-filter is_present (λ h. h.speed ≤ 3600000000) (waves_of b s k) (slow b s k book));
+    }
 
 -- the waves of a year of a tide within the limits, which are none beyond its years
 pub waves_small : (P : List Harmonic → Type 0) → P [] → (years : List (List Harmonic)) → All P years → (k : ℕ) → P (get_or years k [])
@@ -128,7 +164,7 @@ gentle_sums tide year gentle =
     }
 
 -- the tide that is kept
-same_list : (xs ys : List (List Harmonic)) → length xs ≡ length ys → ((k : ℕ) (d : List Harmonic) → k < length xs → get_or xs k d ≡ get_or ys k d) → xs ≡ ys
+pub same_list : (xs ys : List (List Harmonic)) → length xs ≡ length ys → ((k : ℕ) (d : List Harmonic) → k < length xs → get_or xs k d ≡ get_or ys k d) → xs ≡ ys
 same_list [] [] e h = refl
 same_list [] (y ∷ ys) e h = absurd (omega (arith, e))
 same_list (x ∷ xs) [] e h = absurd (omega (arith, e))
@@ -137,21 +173,21 @@ same_list (x ∷ xs) (y ∷ ys) e h =
     let rest : xs ≡ ys = same_list xs ys (omega (arith, e)) (λ k d below. h (suc k) d (omega (arith, below))) in
     rw (first, rest) refl
 
-pub kept_years : (b : Book) (s : Station) (years : List Year) → AreReady b s b.years years → map (λ y. y.waves.items) years ≡ (tide_of b s).years
-kept_years b s years ready =
-    same_list (map (λ y. y.waves.items) years) (tide_of b s).years
-    (length-map years (λ y. y.waves.items) ∙ ready.counted ∙ sym (length-tide_of b s))
-    (λ k d h. kept b s years ready k d (omega (arith, h, length-map years (λ y. y.waves.items), ready.counted)))
+pub kept_years : (b : Book) (s : Station) (first last : ℤ) (years : List Year) → AreReady b s first last b.years years → map (λ y. y.waves.items) years ≡ (tide_over b s first last).years
+kept_years b s first last years ready =
+    same_list (map (λ y. y.waves.items) years) (tide_over b s first last).years
+    (length-map years (λ y. y.waves.items) ∙ ready.counted ∙ sym (length-tide_over b s first last))
+    (λ k d h. kept b s first last years ready k d (omega (arith, h, length-map years (λ y. y.waves.items), ready.counted)))
   where
-    kept : (b : Book) (s : Station) (years : List Year) → AreReady b s b.years years → (k : ℕ) (d : List Harmonic) → k < b.years → get_or (map (λ y. y.waves.items) years) k d ≡ get_or (tide_of b s).years k d
-    kept b s [] ready k d below = absurd (omega (arith, below, ready.counted))
-    kept b s (y ∷ ys) ready k d below =
+    kept : (b : Book) (s : Station) (first last : ℤ) (years : List Year) → AreReady b s first last b.years years → (k : ℕ) (d : List Harmonic) → k < b.years → get_or (map (λ y. y.waves.items) years) k d ≡ get_or (tide_over b s first last).years k d
+    kept b s first last [] ready k d below = absurd (omega (arith, below, ready.counted))
+    kept b s first last (y ∷ ys) ready k d below =
         get_or-map (λ y. y.waves.items) (y ∷ ys) k y d (omega (arith, below, ready.counted)) ∙ ready.waves k y below
-        ∙ sym (waves_in-tide_of b s k d below)
+        ∙ sym (waves_in-tide_over b s first last k d below)
 
-pub kept_tide : (b : Book) (s : Station) (years : List Year) (first_year datum : ℤ) → AreReady b s b.years years → first_year ≡ b.first_year → datum ≡ s.datum → record { first_year = first_year; datum = datum; years = map (λ y. y.waves.items) years } ≡ tide_of b s
-unfolding tide_of
-kept_tide b s years first_year datum ready is_first is_datum =
+pub kept_over : (b : Book) (s : Station) (first last : ℤ) (years : List Year) (first_year datum : ℤ) → AreReady b s first last b.years years → first_year ≡ b.first_year → datum ≡ s.datum → record { first_year = first_year; datum = datum; years = map (λ y. y.waves.items) years } ≡ tide_over b s first last
+unfolding tide_over
+kept_over b s first last years first_year datum ready is_first is_datum =
     ap (λ f. record { first_year = f; datum = datum; years = map (λ y. y.waves.items) years }) is_first
     ∙ ap (λ d. record { first_year = b.first_year; datum = d; years = map (λ y. y.waves.items) years }) is_datum
-    ∙ ap (λ ys. record { first_year = b.first_year; datum = s.datum; years = ys }) (kept_years b s years ready)
+    ∙ ap (λ ys. record { first_year = b.first_year; datum = s.datum; years = ys }) (kept_years b s first last years ready)

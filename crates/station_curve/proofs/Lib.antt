@@ -7,7 +7,9 @@ mod WavesOf
 mod ReadyYears
 mod Circling
 pub mod Gentle
+pub mod Touched
 pub mod Predicting
+pub mod Whole
 mod Around
 mod Answering
 pub mod Gaps

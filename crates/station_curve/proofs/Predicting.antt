@@ -1,5 +1,5 @@
 -- The kept tide has the level and the slope that every constituent of the book gives.
-use Rattle.std.proofs.Common.{◌≡◌, ℕ, ◌-◌, ◌*◌, ◌^◌, ◌<◌, List, [], ◌∷◌, length, ℤ, pos, negsuc, neg_ℤ, ◌+ℤ◌, ◌-ℤ◌, ◌*ℤ◌, refl, ap, ◌∙◌, zero-add, arith}
+use Rattle.std.proofs.Common.{◌≡◌, ℕ, ◌-◌, ◌*◌, ◌^◌, ◌<◌, true, List, [], ◌∷◌, length, ℤ, pos, negsuc, neg_ℤ, ◌+ℤ◌, ◌-ℤ◌, ◌*ℤ◌, ◌≤ℤ◌, refl, ap, ◌∙◌, zero-add, arith}
 use Rattle.std.specs.Prelude.{unsigned_abs, filter, fold, All}
 use Rattle.std.specs.List.{range_with_len}
 use Rattle.std.proofs.lemmas.Int.{ints}
@@ -20,13 +20,14 @@ use Rattle.year_blend.proofs.PlaceLemmas.{place_of-rule}
 use Rattle.station_curve.specs.Waves.{Harmonic, phase_at, height_at, fall_at, heights_of, falls_of}
 use Rattle.station_curve.specs.Sums.{sums_of}
 use Rattle.station_curve.specs.Workings.Nearness.{IsNear, IsNearPlace}
-use Rattle.station_curve.specs.Levels.{minutes_into, blended, drift, year_level, year_slope, level_of, slope_of, millionths_of}
+use Rattle.station_curve.specs.Levels.{minutes_into, blended, drift, waves_in, place_in_tide, year_level, year_slope, level_of, slope_of, millionths_of}
 use Rattle.station_curve.specs.Schureman.{constituents_of, amplitude_of, speed_of, phase_of, predicted_year_level, predicted_year_slope, predicted_level, predicted_slope, predicted_millionths}
-use Rattle.station_curve.specs.Curves.{wave_of, waves_of, is_present, tide_of, Predicts}
+use Rattle.station_curve.specs.Curves.{wave_of, waves_of, is_present, is_touched, waves_over, tide_over, Predicts, PredictsOver}
 use Rattle.station_curve.proofs.BookValues.{speed_pos}
 use Rattle.station_curve.proofs.Circling.{phase_onward}
-use Rattle.station_curve.proofs.Gentle.{fold-present, sums-present, length-tide_of, waves_in-tide_of}
+use Rattle.station_curve.proofs.Gentle.{fold-present, sums-present, first-tide_over, length-tide_over, waves_in-tide_over, over-touched}
 use Rattle.station_curve.proofs.Near.{near_place}
+use Rattle.station_curve.proofs.Touched.{AreTouched, book_years, touched_place}
 
 -- sums of equal terms
 sums_same : (u v : ℕ → ℤ) (ks : List ℕ) → All (λ k. u k ≡ v k) ks → (a : ℤ) → fold (λ sum k. sum +ℤ u k) a ks ≡ fold (λ sum k. sum +ℤ v k) a ks
@@ -82,16 +83,19 @@ falls_same b s year m book near =
     ∙ sums_same (λ k. fall_at t (wave_of b s year k)) (λ k. (amplitude_of b s year k *ℤ speed_of b k) *ℤ isin_of (phase_of b s year m k)) (constituents_of b)
     (each_below (λ k. fall_at t (wave_of b s year k)) (λ k. (amplitude_of b s year k *ℤ speed_of b k) *ℤ isin_of (phase_of b s year m k)) (length b.constituents) (λ k h. part_of_slope b s year k m book h near)) (pos 0)
 
-year_level_same : (b : Book) (s : Station) (m : ℤ) (year : ℕ) → IsBook b → year < b.years → IsNear b.first_year year m → year_level (tide_of b s) m year ≡ predicted_year_level b s m year
-unfolding year_level predicted_year_level tide_of
-year_level_same b s m year book below near =
-    ap (λ hs. (pos (10 ^ 9) *ℤ s.datum) +ℤ heights_of (minutes_into b.first_year year m) hs) (waves_in-tide_of b s year [] below)
+waves_touched : (b : Book) (s : Station) (first last : ℤ) (year : ℕ) → year < b.years → is_touched b first last year ≡ true → waves_in (tide_over b s first last) year ≡ filter is_present (waves_of b s year)
+waves_touched b s first last year below touched = waves_in-tide_over b s first last year [] below ∙ over-touched b s first last year touched
+
+year_level_same : (b : Book) (s : Station) (first last m : ℤ) (year : ℕ) → IsBook b → year < b.years → is_touched b first last year ≡ true → IsNear b.first_year year m → year_level (tide_over b s first last) m year ≡ predicted_year_level b s m year
+unfolding year_level predicted_year_level tide_over
+year_level_same b s first last m year book below touched near =
+    ap (λ hs. (pos (10 ^ 9) *ℤ s.datum) +ℤ heights_of (minutes_into b.first_year year m) hs) (waves_touched b s first last year below touched)
     ∙ ap (λ h. (pos (10 ^ 9) *ℤ s.datum) +ℤ h) (heights_same b s year m book near)
 
-year_slope_same : (b : Book) (s : Station) (m : ℤ) (year : ℕ) → IsBook b → year < b.years → IsNear b.first_year year m → year_slope (tide_of b s) m year ≡ predicted_year_slope b s m year
-unfolding year_slope predicted_year_slope tide_of
-year_slope_same b s m year book below near =
-    ap (λ hs. neg_ℤ (falls_of (minutes_into b.first_year year m) hs)) (waves_in-tide_of b s year [] below)
+year_slope_same : (b : Book) (s : Station) (first last m : ℤ) (year : ℕ) → IsBook b → year < b.years → is_touched b first last year ≡ true → IsNear b.first_year year m → year_slope (tide_over b s first last) m year ≡ predicted_year_slope b s m year
+unfolding year_slope predicted_year_slope tide_over
+year_slope_same b s first last m year book below touched near =
+    ap (λ hs. neg_ℤ (falls_of (minutes_into b.first_year year m) hs)) (waves_touched b s first last year below touched)
     ∙ ap neg_ℤ (falls_same b s year m book near)
 
 -- what agrees in the years of a place is blended alike
@@ -99,10 +103,11 @@ AgreeAt : (ℕ → ℤ) → (ℕ → ℤ) → Place → Type 0
 AgreeAt f g (Plain year) = f year ≡ g year
 AgreeAt f g (Blend year x) = (f year ≡ g year) × (f (year - 1) ≡ g (year - 1))
 
-agree : (f g : ℕ → ℤ) (first_year : ℤ) (years : ℕ) (m : ℤ) (p : Place) → IsNearPlace first_year years m p → ((year : ℕ) → year < years → IsNear first_year year m → f year ≡ g year) → AgreeAt f g p
+agree : (f g : ℕ → ℤ) (b : Book) (first last m : ℤ) (p : Place) → IsNearPlace b.first_year b.years m p → AreTouched b first last p → ((year : ℕ) → year < b.years → is_touched b first last year ≡ true → IsNear b.first_year year m → f year ≡ g year) → AgreeAt f g p
 unfolding AgreeAt
-agree f g first_year years m (Plain year) near same = same year near.0 near.1
-agree f g first_year years m (Blend year x) near same = (same year near.1 near.2, same (year - 1) (omega (arith, near.0, near.1)) near.3)
+agree f g b first last m (Plain year) near touched same = same year near.0 touched near.1
+agree f g b first last m (Blend year x) near touched same =
+    (same year near.1 touched.0 near.2, same (year - 1) (omega (arith, near.0, near.1)) touched.1 near.3)
 
 blended_same : (f g : ℕ → ℤ) (p : Place) → AgreeAt f g p → blended f p ≡ blended g p
 unfolding AgreeAt
@@ -118,37 +123,57 @@ drift_same f g (Blend year x) e =
     ap (λ v. (weight_slope_of x *ℤ pos radian) *ℤ (v -ℤ f (year - 1))) e.0
     ∙ ap (λ v. (weight_slope_of x *ℤ pos radian) *ℤ (g year -ℤ v)) e.1
 
-near_the_place : (b : Book) (m : ℤ) → IsBook b → InDomain b.first_year b.years m → IsNearPlace b.first_year b.years m (place_of b.first_year b.years m)
-near_the_place b m book within =
-    near_place b.first_year b.years m (place_of b.first_year b.years m) book.first_year.least
-    (place_of-rule b.first_year b.years m (record { least = book.first_year.least; most = book.first_year.most; some = book.some_years; few = book.few_years }) within)
+-- a minute that the curve is asked for
+record IsAsked (b : Book) (first last m : ℤ) : Type 0 where
+  within : InDomain b.first_year b.years m
+  from : first ≤ℤ m
+  until : m ≤ℤ last
 
-level_same : (b : Book) (s : Station) (m : ℤ) → IsBook b → InDomain b.first_year b.years m → level_of (tide_of b s) m ≡ predicted_level b s m
-unfolding level_of predicted_level tide_of
-level_same b s m book within =
+agree_there : (f g : ℕ → ℤ) (b : Book) (first last m : ℤ) → IsBook b → IsAsked b first last m → ((year : ℕ) → year < b.years → is_touched b first last year ≡ true → IsNear b.first_year year m → f year ≡ g year) → AgreeAt f g (place_of b.first_year b.years m)
+agree_there f g b first last m book asked same =
+    agree f g b first last m (place_of b.first_year b.years m)
+    (near_place b.first_year b.years m (place_of b.first_year b.years m) book.first_year.least (place_of-rule b.first_year b.years m (book_years b book) asked.within))
+    (touched_place b first last m book asked.within asked.from asked.until) same
+
+levels_agree : (b : Book) (s : Station) (first last m : ℤ) → IsBook b → IsAsked b first last m → AgreeAt (year_level (tide_over b s first last) m) (predicted_year_level b s m) (place_of b.first_year b.years m)
+levels_agree b s first last m book asked =
+    agree_there (year_level (tide_over b s first last) m) (predicted_year_level b s m) b first last m book asked
+    (λ year below touched near. year_level_same b s first last m year book below touched near)
+
+slopes_agree : (b : Book) (s : Station) (first last m : ℤ) → IsBook b → IsAsked b first last m → AgreeAt (year_slope (tide_over b s first last) m) (predicted_year_slope b s m) (place_of b.first_year b.years m)
+slopes_agree b s first last m book asked =
+    agree_there (year_slope (tide_over b s first last) m) (predicted_year_slope b s m) b first last m book asked
+    (λ year below touched near. year_slope_same b s first last m year book below touched near)
+
+place_same : (b : Book) (s : Station) (first last m : ℤ) → place_in_tide (tide_over b s first last) m ≡ place_of b.first_year b.years m
+place_same b s first last m = rw (first-tide_over b s first last, length-tide_over b s first last) refl
+
+level_same : (b : Book) (s : Station) (first last m : ℤ) → IsBook b → IsAsked b first last m → level_of (tide_over b s first last) m ≡ predicted_level b s m
+unfolding level_of predicted_level
+level_same b s first last m book asked =
+    let tide = tide_over b s first last in
+    ap (blended (year_level tide m)) (place_same b s first last m)
+    ∙ blended_same (year_level tide m) (predicted_year_level b s m) (place_of b.first_year b.years m) (levels_agree b s first last m book asked)
+
+slope_same : (b : Book) (s : Station) (first last m : ℤ) → IsBook b → IsAsked b first last m → slope_of (tide_over b s first last) m ≡ predicted_slope b s m
+unfolding slope_of predicted_slope
+slope_same b s first last m book asked =
+    let tide = tide_over b s first last in
     let p = place_of b.first_year b.years m in
-    ap (λ n. blended (year_level (tide_of b s) m) (place_of b.first_year n m)) (length-tide_of b s)
-    ∙ blended_same (year_level (tide_of b s) m) (predicted_year_level b s m) p
-    (agree (year_level (tide_of b s) m) (predicted_year_level b s m) b.first_year b.years m p (near_the_place b m book within) (λ year below near. year_level_same b s m year book below near))
+    ap (λ p. blended (year_slope tide m) p +ℤ drift (year_level tide m) p) (place_same b s first last m)
+    ∙ ap (λ v. v +ℤ drift (year_level tide m) p) (blended_same (year_slope tide m) (predicted_year_slope b s m) p (slopes_agree b s first last m book asked))
+    ∙ ap (λ v. blended (predicted_year_slope b s m) p +ℤ v) (drift_same (year_level tide m) (predicted_year_level b s m) p (levels_agree b s first last m book asked))
 
-slope_same : (b : Book) (s : Station) (m : ℤ) → IsBook b → InDomain b.first_year b.years m → slope_of (tide_of b s) m ≡ predicted_slope b s m
-unfolding slope_of predicted_slope tide_of
-slope_same b s m book within =
-    let p = place_of b.first_year b.years m in
-    let near = near_the_place b m book within in
-    ap (λ n. blended (year_slope (tide_of b s) m) (place_of b.first_year n m) +ℤ drift (year_level (tide_of b s) m) (place_of b.first_year n m)) (length-tide_of b s)
-    ∙ ap (λ v. v +ℤ drift (year_level (tide_of b s) m) p) (blended_same (year_slope (tide_of b s) m) (predicted_year_slope b s m) p
-    (agree (year_slope (tide_of b s) m) (predicted_year_slope b s m) b.first_year b.years m p near (λ year below near. year_slope_same b s m year book below near)))
-    ∙ ap (λ v. blended (predicted_year_slope b s m) p +ℤ v) (drift_same (year_level (tide_of b s) m) (predicted_year_level b s m) p
-    (agree (year_level (tide_of b s) m) (predicted_year_level b s m) b.first_year b.years m p near (λ year below near. year_level_same b s m year book below near)))
+millionths_same : (b : Book) (s : Station) (first last m : ℤ) → IsBook b → IsAsked b first last m → millionths_of (tide_over b s first last) m ≡ predicted_millionths b s m
+unfolding millionths_of predicted_millionths
+millionths_same b s first last m book asked = ap (λ l. rounded_of l (total_weight * 10 ^ 9)) (level_same b s first last m book asked)
 
-pub predicts_tide : (b : Book) (s : Station) → IsBook b → Predicts b s (tide_of b s)
-unfolding tide_of millionths_of predicted_millionths
-predicts_tide b s book = record {
-  first_year = refl;
-  years = length-tide_of b s;
-  level = λ m h. level_same b s m book h;
-  slope = λ m h. slope_same b s m book h;
-  millionths = λ m h. ap (λ l. rounded_of l (total_weight * 10 ^ 9)) (level_same b s m book h);
-  sums = λ year below. ap sums_of (waves_in-tide_of b s year [] below) ∙ sums-present (waves_of b s year);
+pub predicts_over : (b : Book) (s : Station) (first last : ℤ) → IsBook b → PredictsOver b s first last (tide_over b s first last)
+predicts_over b s first last book = record {
+  first_year = first-tide_over b s first last;
+  years = length-tide_over b s first last;
+  level = λ m within from until. level_same b s first last m book (record { within = within; from = from; until = until });
+  slope = λ m within from until. slope_same b s first last m book (record { within = within; from = from; until = until });
+  millionths = λ m within from until. millionths_same b s first last m book (record { within = within; from = from; until = until });
+  sums = λ year below touched. ap sums_of (waves_touched b s first last year below touched) ∙ sums-present (waves_of b s year);
 }

@@ -1,6 +1,5 @@
 -- One more year that is ready.
-use Rattle.std.proofs.Common.{◌≡◌, ℤ, ℕ, zero, suc, ◌+◌, ◌-◌, ◌<◌, List, [], ◌∷◌, ◌++◌, length, get_or, length-append, Some, None, inl, inr, refl, ap, subst, ◌∙◌, add-one, add-zero, add-suc, arith, lit<}
-use Rattle.std.specs.Prelude.{filter}
+use Rattle.std.proofs.Common.{◌≡◌, ℤ, ℕ, zero, suc, ◌+◌, ◌-◌, ◌<◌, ◌≤◌, ◌^◌, unsigned_abs, List, [], ◌∷◌, ◌++◌, length, get_or, length-append, Some, None, inl, inr, refl, ap, subst, ◌∙◌, add-one, add-zero, add-suc, arith, lit<}
 use Rattle.std.proofs.lemmas.List.{get_or_append_left}
 use Rattle.std.proofs.Math.Seq.{get_or-append_seam}
 use Rattle.std.proofs.lemmas.Bool.{cases_lt}
@@ -11,7 +10,7 @@ use Rattle.year_blend.specs.Years.{IsYearInReach, year_start_of}
 use Rattle.year_blend.proofs.YearLemmas.{year_start_of_size}
 use Rattle.station_curve.specs.declared.years.Year.{Year}
 use Rattle.station_curve.specs.declared.fault.CurveFault.{CurveFault}
-use Rattle.station_curve.specs.Curves.{waves_of, is_present, year_fault, first_fault}
+use Rattle.station_curve.specs.Curves.{waves_over, year_fault, first_fault}
 use Rattle.station_curve.specs.Workings.Prepared.{AreReady}
 use Rattle.station_curve.specs.Sums.{sums_of}
 use Rattle.station_curve.proofs.Products.{cast_small, abs_within}
@@ -27,6 +26,11 @@ start_cast y start reach is =
     let start_is : start ≡ year_start_of y = rw (calendar_cast y reach) at is in
     let size = year_start_of_size y reach in
     rw start_is (cast_small w64 (year_start_of y) 4000000000 (omega (arith, size)) (lit< tt))
+
+pub near_start : (y start : ℤ) → IsYearInReach y → start ≡ year_start_of (to_z w32 (of_z w32 y)) → unsigned_abs (to_z w64 (of_z w64 start)) ≤ 10 ^ 12
+near_start y start reach is =
+    let size = year_start_of_size y reach in
+    rw (start_cast y start reach is) (omega (arith, size))
 
 -- the first fault
 pub none_more : (b : Book) (s : Station) (year : ℕ) → first_fault b s year ≡ None → year_fault b s year ≡ None → first_fault b s (year + 1) ≡ None
@@ -47,9 +51,9 @@ fault_stays b s year years fault h below =
     let all : (year + 1) + (years - (year + 1)) ≡ years = omega (arith, below) in
     rw (← all) (stays b s (year + 1) (years - (year + 1)) fault h)
 
-pub ready_none : (b : Book) (s : Station) → AreReady b s 0 []
+pub ready_none : (b : Book) (s : Station) (first last : ℤ) → AreReady b s first last 0 []
 unfolding first_fault
-ready_none b s = record {
+ready_none b s first last = record {
   counted = refl;
   waves = λ k d h. absurd (omega (arith, h));
   starts = λ k d h. absurd (omega (arith, h));
@@ -68,10 +72,10 @@ last_too P years y count counted before last k d h =
           subst (λ (i : ℕ). P i (get_or (years ++ y ∷ []) i d)) at (rw (get_or-append_seam years y [] d) (rw counted last))
     ]
 
-pub ready_more : (b : Book) (s : Station) (year : ℕ) (years : List Year) (y : Year) → AreReady b s year years → year_fault b s year ≡ None → y.start ≡ start_of b.first_year year → y.end ≡ start_of b.first_year (suc year) → y.waves.items ≡ filter is_present (waves_of b s year) → y.sums ≡ sums_of y.waves.items → AreReady b s (year + 1) (years ++ y ∷ [])
-ready_more b s year years y ready fault start end waves sums = record {
+pub ready_more : (b : Book) (s : Station) (first last : ℤ) (year : ℕ) (years : List Year) (y : Year) → AreReady b s first last year years → year_fault b s year ≡ None → y.start ≡ start_of b.first_year year → y.end ≡ start_of b.first_year (suc year) → y.waves.items ≡ waves_over b s first last year → y.sums ≡ sums_of y.waves.items → AreReady b s first last (year + 1) (years ++ y ∷ [])
+ready_more b s first last year years y ready fault start end waves sums = record {
   counted = length-append years (y ∷ []) ∙ ap (λ n. n + 1) ready.counted;
-  waves = last_too (λ k y. y.waves.items ≡ filter is_present (waves_of b s k)) years y year ready.counted ready.waves waves;
+  waves = last_too (λ k y. y.waves.items ≡ waves_over b s first last k) years y year ready.counted ready.waves waves;
   starts = last_too (λ k y. y.start ≡ start_of b.first_year k) years y year ready.counted ready.starts start;
   ends = last_too (λ k y. y.end ≡ start_of b.first_year (suc k)) years y year ready.counted ready.ends end;
   sums = last_too (λ k y. y.sums ≡ sums_of y.waves.items) years y year ready.counted ready.sums sums;

@@ -1,5 +1,5 @@
 -- Which curve a station has, and why it may have none (this project).
-use Rattle.std.specs.Prelude.{◌≡◌, ℕ, zero, suc, ◌<◌, ◌==◌, nat_lt, not, Bool, true, false, if◌then◌else◌, List, length, map, filter, Option, Some, None, Result, Ok, Err, ℤ, pos, ◌+ℤ◌, ◌-ℤ◌, unsigned_abs}
+use Rattle.std.specs.Prelude.{◌≡◌, ℕ, zero, suc, ◌<◌, ◌==◌, nat_lt, not, Bool, true, false, ◌&&◌, if◌then◌else◌, List, [], length, map, filter, Option, Some, None, Result, Ok, Err, ℤ, pos, ◌+ℤ◌, ◌-ℤ◌, ◌≤ℤ◌, int_le, unsigned_abs}
 use Rattle.std.specs.List.{range_with_len}
 use Rattle.std.specs.Option.{option_or}
 use Rattle.harmonics_text.specs.declared.book.Units.{Units}
@@ -38,6 +38,23 @@ tide_of b s = record {
   years = map (λ year. filter is_present (waves_of b s year)) (range_with_len 0 b.years);
 }
 
+-- a year that comes within an hour of the minutes from one to another: such years alone tell these minutes
+unfoldable pub is_touched : Book → ℤ → ℤ → ℕ → Bool
+is_touched b first last year =
+    int_le (start_of b.first_year year) (last +ℤ pos 60) && int_le first (start_of b.first_year (suc year) +ℤ pos 60)
+
+-- the waves of a year for these minutes, which are none where the year doesn't tell them
+unfoldable pub waves_over : Book → Station → ℤ → ℤ → ℕ → List Harmonic
+waves_over b s first last year = if is_touched b first last year then filter is_present (waves_of b s year) else []
+
+-- the tide of these minutes
+unfoldable pub tide_over : Book → Station → ℤ → ℤ → Tide
+tide_over b s first last = record {
+  first_year = b.first_year;
+  datum = s.datum;
+  years = map (waves_over b s first last) (range_with_len 0 b.years);
+}
+
 -- what is beyond the limits in a year
 unfoldable pub year_fault : Book → Station → ℕ → Option CurveFault
 year_fault b s year =
@@ -64,6 +81,11 @@ tide_or tide (Some fault) = Err fault
 unfoldable pub curve_of : Book → Station → Result Tide CurveFault
 curve_of b s = if is_hydraulic s.units then Err Hydraulic else tide_or (tide_of b s) (first_fault b s b.years)
 
+-- the limits hold for every year of the book, whichever minutes are asked
+unfoldable pub curve_over : Book → Station → ℤ → ℤ → Result Tide CurveFault
+curve_over b s first last =
+    if is_hydraulic s.units then Err Hydraulic else tide_or (tide_over b s first last) (first_fault b s b.years)
+
 abbrev pub wants_memory : CurveFault → Bool
 wants_memory NoMemory = true
 wants_memory _ = false
@@ -77,3 +99,12 @@ pub record Predicts (b : Book) (s : Station) (tide : Tide) : Type 0 where
   pub slope : (m : ℤ) → InDomain b.first_year b.years m → slope_of tide m ≡ predicted_slope b s m
   pub millionths : (m : ℤ) → InDomain b.first_year b.years m → millionths_of tide m ≡ predicted_millionths b s m
   pub sums : (year : ℕ) → year < b.years → sums_of (waves_in tide year) ≡ sums_of (waves_of b s year)
+
+-- the same of the minutes from one to another, and of the years that tell them
+pub record PredictsOver (b : Book) (s : Station) (first last : ℤ) (tide : Tide) : Type 0 where
+  pub first_year : tide.first_year ≡ b.first_year
+  pub years : length tide.years ≡ b.years
+  pub level : (m : ℤ) → InDomain b.first_year b.years m → first ≤ℤ m → m ≤ℤ last → level_of tide m ≡ predicted_level b s m
+  pub slope : (m : ℤ) → InDomain b.first_year b.years m → first ≤ℤ m → m ≤ℤ last → slope_of tide m ≡ predicted_slope b s m
+  pub millionths : (m : ℤ) → InDomain b.first_year b.years m → first ≤ℤ m → m ≤ℤ last → millionths_of tide m ≡ predicted_millionths b s m
+  pub sums : (year : ℕ) → year < b.years → is_touched b first last year ≡ true → sums_of (waves_in tide year) ≡ sums_of (waves_of b s year)

@@ -1,6 +1,6 @@
 //! A station's constants in one year of a book.
 
-ghost use Rattle.std.specs.Prelude.{◌≡◌, ◌+◌, ◌*◌, ◌^◌, ◌<◌, ◌≤◌, length, filter, Some, None, MatchResult, IfOk, unsigned_abs, pos, ◌+ℤ◌, ◌-ℤ◌, ◌*ℤ◌};
+ghost use Rattle.std.specs.Prelude.{◌≡◌, ◌+◌, ◌*◌, ◌^◌, ◌<◌, ◌≤◌, if◌then◌else◌, [], length, filter, Some, None, MatchResult, IfOk, unsigned_abs, pos, ◌+ℤ◌, ◌-ℤ◌, ◌*ℤ◌};
 ghost use Rattle.decimal_text.specs.Rounding.{rounded_of};
 ghost use Rattle.fixed_sine.specs.Circle.{circle};
 ghost use Rattle.harmonics_text.specs.Books.{IsStation};
@@ -107,8 +107,30 @@ fn sums(book: &SoundBook<'_>, station: &Station, present: &[usize], year: u32) -
     (amount, steepness)
 }
 
+/// The waves of a year that is asked for, and none of another one.
+pub fn waves_if_asked(
+    alloc: Global,
+    book: &SoundBook<'_>,
+    station: &Station,
+    present: &[usize],
+    year: u32,
+    is_asked: bool,
+) -> Result<Vec<Wave>, AllocError>
+    requires station { IsStation (length book.now.constituents) station.now }
+    requires present { present.now ≡ present_in book.now station.now }
+    requires year { year < book.now.years }
+    requires within { year_fault book.now station.now year ≡ None }
+    ensures { IfOk result (λ waves. waves.items ≡ (if is_asked then filter is_present (waves_of book.now station.now year) else [])) }
+{
+    if is_asked {
+        year_waves(alloc, book, station, present, year)
+    } else {
+        Ok(Vec::new(alloc))
+    }
+}
+
 /// The waves of a year within the limits, those without amplitude left out.
-pub fn year_waves(
+fn year_waves(
     alloc: Global,
     book: &SoundBook<'_>,
     station: &Station,

@@ -2,7 +2,6 @@
 
 ghost use Rattle.std.specs.Prelude.{◌≡◌, ℕ, ◌+◌, ◌*◌, ◌^◌, ◌<◌, ◌≤◌, length, pos, ◌+ℤ◌, ◌-ℤ◌, ◌*ℤ◌, int_lt, unsigned_abs, IfOk, IfSome, slice_get};
 ghost use Rattle.harmonics_text.specs.Books.{IsBook, IsStation};
-ghost use Rattle.station_curve.specs.Curves.{is_hydraulic};
 ghost use Rattle.year_blend.specs.Years.{year_start_of};
 ghost use Rattle.year_blend.specs.declared.parts.Place.TheVariants.{Plain};
 ghost use Rattle.year_blend.specs.declared.spanning.TheConstants.{LONGEST_SPAN};
@@ -11,13 +10,14 @@ ghost use Rattle.year_blend.specs.Stretches.{stretch_of};
 ghost use Rattle.year_blend.specs.Weights.{total_weight};
 
 use crate::blend::{by_full_weight, drift, error_of, mixed, weighted};
-use crate::fault::CurveFault;
+use crate::fault::{CurveFault, is_hydraulic};
 use crate::greatest::{Greatest, greatest_of_years};
+use crate::reach::{Reach, all_minutes};
 use crate::summing::{falls, heights, near_falls, near_heights};
 use crate::year_sums::Sums;
 use crate::years::{Year, years_of};
 use decimal_text::rounded;
-use harmonics_text::{Book, SoundBook, Station, Units};
+use harmonics_text::{Book, SoundBook, Station};
 use std::alloc::{AllocError, Global};
 use std::marker::Model;
 use year_blend::{Place, Stretch, TOTAL_WEIGHT, place, stretch, weight, year_start};
@@ -55,7 +55,7 @@ impl Model for StationCurve {
 
 impl StationCurve {
     ghost use Rattle.decimal_text.specs.Expected.{Gives};
-    ghost use Rattle.station_curve.specs.Curves.{tide_of, curve_of, wants_memory, Predicts};
+    ghost use Rattle.station_curve.specs.Curves.{tide_over, curve_of, curve_over, wants_memory, Predicts, PredictsOver};
     ghost use Rattle.station_curve.specs.Workings.Prepared.{AreReady};
     ghost use Rattle.fixed_sine.specs.Turn.{chord_error};
     ghost use Rattle.station_curve.specs.Waves.{heights_of, falls_of, amount_of, steepness_of};
@@ -76,38 +76,67 @@ impl StationCurve {
         ensures predicts { IfSome (slice_get book.now.stations station) (λ s.
             IfOk result (λ tide. Predicts book.now s tide)) }
     {
-        StationCurve::of_station(
-            alloc,
-            &SoundBook::new(book),
-            &book.stations.as_slice()[station as usize],
-        )
+        let station = &book.stations.as_slice()[station as usize];
+        let book = SoundBook::new(book);
+        StationCurve::of_station(alloc, &book, station, all_minutes(&book))
     }
 
-    /// The curve of a station.
+    /// The curve of a station for the minutes from `first` to `last`, which are at most 10^12 in size.
+    ///
+    /// Of other minutes it tells nothing: a year that doesn't come within an hour of these has no waves.
+    /// It is made sooner than that of all minutes. It is refused where that one is.
+    pub fn over(
+        alloc: Global,
+        book: &Book,
+        station: u32,
+        first: i64,
+        last: i64,
+    ) -> Result<StationCurve, CurveFault>
+        requires book { IsBook book.now }
+        requires station { station < length book.now.stations }
+        requires first { unsigned_abs first ≤ 10 ^ 12 }
+        requires last { unsigned_abs last ≤ 10 ^ 12 }
+        ensures exact { IfSome (slice_get book.now.stations station) (λ s. Gives wants_memory (curve_over book.now s first last) result) }
+        ensures predicts { IfSome (slice_get book.now.stations station) (λ s.
+            IfOk result (λ tide. PredictsOver book.now s first last tide)) }
+    {
+        let station = &book.stations.as_slice()[station as usize];
+        StationCurve::of_station(alloc, &SoundBook::new(book), station, Reach { first, last })
+    }
+
+    /// The curve of a station for the minutes that are asked.
     fn of_station(
         alloc: Global,
         book: &SoundBook<'_>,
         station: &Station,
+        reach: Reach,
     ) -> Result<StationCurve, CurveFault>
         requires station { IsStation (length book.now.constituents) station.now }
-        ensures exact { Gives wants_memory (curve_of book.now station.now) result }
-        ensures predicts { IfOk result (λ tide. Predicts book.now station.now tide) }
+        requires first { unsigned_abs reach.first ≤ 10 ^ 12 }
+        requires last { unsigned_abs reach.last ≤ 10 ^ 12 }
+        ensures exact { Gives wants_memory (curve_over book.now station.now reach.first reach.last) result }
+        ensures predicts { IfOk result (λ tide. PredictsOver book.now station.now reach.first reach.last tide) }
     {
         if is_hydraulic(station.units) {
             return Err(CurveFault::Hydraulic);
         }
-        match years_of(alloc, book, station) {
-            Ok(years) => Ok(StationCurve::of_years(book, station, years)),
+        match years_of(alloc, book, station, reach) {
+            Ok(years) => Ok(StationCurve::of_years(book, station, reach, years)),
             Err(fault) => Err(fault),
         }
     }
 
-    /// The curve of a station with the waves of all years.
-    fn of_years(book: &SoundBook<'_>, station: &Station, years: Vec<Year>) -> StationCurve
+    /// The curve of a station with the waves of the years that tell the minutes that are asked.
+    fn of_years(
+        book: &SoundBook<'_>,
+        station: &Station,
+        reach: Reach,
+        years: Vec<Year>,
+    ) -> StationCurve
         requires station { IsStation (length book.now.constituents) station.now }
-        requires years { AreReady book.now station.now book.now.years years.items }
-        ensures exact { result ≡ tide_of book.now station.now }
-        ensures predicts { Predicts book.now station.now result }
+        requires years { AreReady book.now station.now reach.first reach.last book.now.years years.items }
+        ensures exact { result ≡ tide_over book.now station.now reach.first reach.last }
+        ensures predicts { PredictsOver book.now station.now reach.first reach.last result }
     {
         let greatest = greatest_of_years(years.as_slice());
         StationCurve {
@@ -363,11 +392,4 @@ fn mean_level(datum: i64) -> i128
     ensures size { unsigned_abs result ≤ 10 ^ 19 }
 {
     BILLION * i128::from(datum)
-}
-
-/// Whether a current's speed is the root of what the constants give.
-fn is_hydraulic(units: Units) -> bool
-    ensures { result ≡ is_hydraulic units }
-{
-    matches!(units, Units::KnotsSquared)
 }

@@ -1,7 +1,9 @@
 //! Why a station has no curve.
 
 ghost use Rattle.std.specs.Prelude.{◌≡◌};
+ghost use Rattle.station_curve.specs.Curves.{is_hydraulic};
 
+use harmonics_text::Units;
 use std::alloc::{AllocError, AllocFailed};
 use thiserror::Error;
 
@@ -42,4 +44,11 @@ impl<T: Drop> From<AllocFailed<T>> for CurveFault {
     fn from(_error: AllocFailed<T>) -> CurveFault {
         CurveFault::NoMemory
     }
+}
+
+/// Whether a current's speed is the root of what the constants give.
+pub fn is_hydraulic(units: Units) -> bool
+    ensures { result ≡ is_hydraulic units }
+{
+    matches!(units, Units::KnotsSquared)
 }

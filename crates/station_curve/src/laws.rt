@@ -1,9 +1,9 @@
 //! Rows that show what the definitions mean.
 
-ghost use Rattle.std.specs.Prelude.{◌≡◌, ◌-◌, ◌*◌, ◌^◌, [], ◌∷◌, Ok, Err, pos, negsuc};
+ghost use Rattle.std.specs.Prelude.{◌≡◌, ◌-◌, ◌*◌, ◌^◌, true, false, [], ◌∷◌, Ok, Err, pos, negsuc};
 ghost use Rattle.harmonics_text.specs.declared.book.Units.TheVariants.{Feet, KnotsSquared};
 ghost use Rattle.station_curve.specs.declared.fault.CurveFault.TheVariants.{Hydraulic, TooLarge, TooSteep};
-ghost use Rattle.station_curve.specs.Curves.{waves_of, tide_of, curve_of};
+ghost use Rattle.station_curve.specs.Curves.{waves_of, is_touched, waves_over, tide_of, curve_of};
 ghost use Rattle.station_curve.specs.Schureman.{amplitude_of, phase_of, predicted_level, predicted_slope, predicted_millionths};
 ghost use Rattle.station_curve.specs.Waves.{heights_of, falls_of};
 ghost use Rattle.station_curve.specs.Sums.{sums_of};
@@ -31,6 +31,17 @@ pub fn worked_limits()
         ≡ Err (TooLarge (pos 1999)) }
     ensures hydraulic_first { curve_of (small_book (pos 100000000) (pos 0)) (small_station (pos 1000000001) KnotsSquared)
         ≡ Err Hydraulic }
+{}
+
+/// Which of three years tell minutes from an hour after a new year to an hour before the next one, and
+/// from a minute later or to a minute earlier.
+pub fn worked_reach()
+    ensures hour_after { is_touched pier_book (pos 15778140) (pos 16305060) 0 ≡ true }
+    ensures between { is_touched pier_book (pos 15778140) (pos 16305060) 1 ≡ true }
+    ensures hour_before { is_touched pier_book (pos 15778140) (pos 16305060) 2 ≡ true }
+    ensures minute_later { is_touched pier_book (pos 15778141) (pos 16305060) 0 ≡ false }
+    ensures minute_earlier { is_touched pier_book (pos 15778140) (pos 16305059) 2 ≡ false }
+    ensures no_waves { waves_over pier_book pier (pos 15778141) (pos 16305060) 0 ≡ [] }
 {}
 
 /// Amplitudes and phases by the constants of a year: a phase of 75.5 and one of 60 degrees.

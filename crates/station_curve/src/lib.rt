@@ -14,6 +14,7 @@ mod curve;
 mod fault;
 mod greatest;
 mod laws;
+mod reach;
 mod summing;
 mod wave;
 mod year_sums;
@@ -23,6 +24,7 @@ pub use changes::{year_changes, year_sizes};
 pub use curve::StationCurve;
 pub use fault::CurveFault;
 pub use laws::{
-    worked_constants, worked_levels, worked_limits, worked_slopes, worked_sums, worked_waves,
+    worked_constants, worked_levels, worked_limits, worked_reach, worked_slopes, worked_sums,
+    worked_waves,
 };
 pub use year_sums::Sums;

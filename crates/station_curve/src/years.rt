@@ -1,13 +1,14 @@
 //! The waves of each year.
 
-ghost use Rattle.std.specs.Prelude.{◌≡◌, ◌<◌, ◌≤◌, ◌↔◌, IsTrue, length, Some, MatchResult, ◌⊎◌, pos, ◌+ℤ◌, ◌-ℤ◌, ◌≤ℤ◌, unsigned_abs};
+ghost use Rattle.std.specs.Prelude.{◌≡◌, ◌^◌, ◌≤◌, ◌↔◌, IsTrue, length, Some, MatchResult, ◌⊎◌, pos, ◌+ℤ◌, ◌-ℤ◌, ◌≤ℤ◌, unsigned_abs};
 ghost use Rattle.harmonics_text.specs.Books.{IsStation};
 ghost use Rattle.station_curve.specs.Curves.{first_fault};
 ghost use Rattle.station_curve.specs.Workings.Prepared.{AreReady};
 ghost use Rattle.station_curve.specs.declared.fault.CurveFault.TheVariants.{NoMemory};
 
-use crate::constants::{calendar_year, check_year, present_places, year_waves};
+use crate::constants::{calendar_year, check_year, present_places, waves_if_asked};
 use crate::fault::CurveFault;
+use crate::reach::Reach;
 use crate::wave::Wave;
 use crate::year_sums::{Sums, sums_of_waves};
 use harmonics_text::{SoundBook, Station};
@@ -15,7 +16,7 @@ use std::alloc::Global;
 use year_blend::year_start;
 
 /// Half of a blend.
-const HOUR: i64 = 60;
+pub const HOUR: i64 = 60;
 
 /// The waves of one year.
 #[derive(Debug, Drop)]
@@ -51,27 +52,32 @@ impl Year {
     }
 }
 
-/// The waves of each year, where all years are within the limits.
+/// Each year with its waves, where all years are within the limits. One that tells none of the minutes
+/// that are asked for has no waves.
 pub fn years_of(
     alloc: Global,
     book: &SoundBook<'_>,
     station: &Station,
+    reach: Reach,
 ) -> Result<Vec<Year>, CurveFault>
     requires station { IsStation (length book.now.constituents) station.now }
+    requires first { unsigned_abs reach.first ≤ 10 ^ 12 }
+    requires last { unsigned_abs reach.last ≤ 10 ^ 12 }
     ensures { MatchResult result
-        (λ years. AreReady book.now station.now book.now.years years.items)
+        (λ years. AreReady book.now station.now reach.first reach.last book.now.years years.items)
         (λ fault. (fault ≡ NoMemory) ⊎ (first_fault book.now station.now book.now.years ≡ Some fault)) }
 {
     let places = present_places(alloc, book, station)?;
     let present = places.as_slice();
-    let mut years = Vec::new(alloc);
+    let mut years = Vec::with_capacity(alloc, book.get().years as usize)?;
     for year in 0..book.get().years {
         if let Err(fault) = check_year(book, station, present, year) {
             return Err(fault);
         }
         let start = year_start(calendar_year(book, year));
         let end = year_start(calendar_year(book, year + 1));
-        let waves = year_waves(alloc, book, station, present, year)?;
+        let is_asked = reach.touches(start, end);
+        let waves = waves_if_asked(alloc, book, station, present, year, is_asked)?;
         let sums = sums_of_waves(waves.as_slice());
         years.push(Year {
             start,

@@ -25,7 +25,7 @@ use Rattle.rate_bound.specs.Scale.{IsScale}
 use Rattle.rate_bound.specs.Workings.TurnLaw.{turn_lawful}
 use Rattle.rate_bound.specs.Workings.MarkLaw.{mark_lawful}
 use Rattle.rate_bound.proofs.Predicted.{turn_agrees, mark_agrees}
-use Rattle.station_curve.specs.Curves.{Predicts}
+use Rattle.station_curve.specs.Curves.{PredictsOver}
 use Rattle.station_curve.specs.Levels.{millionths_of}
 use Rattle.station_curve.specs.Limits.{IsGentle}
 use Rattle.station_curve.specs.Waves.{Tide}
@@ -78,11 +78,11 @@ alike_if_marked : (s : Span) (mark : Option ℤ) (f g : ℤ → Meaning) → ((l
 alike_if_marked s (Some level) f g agree = agree level
 alike_if_marked s None f g agree = tt
 
--- a site and what was found of it
-pub record IsSame (book : Book) (site : Site) (found : Found) : Type 0 where
+-- a site and what was found of it, for the minutes of a span
+pub record IsSame (book : Book) (site : Site) (found : Found) (s : Span) : Type 0 where
   pub basis : found.basis ≡ site.basis
   pub units : found.units ≡ site.station.units
-  pub predicts : Predicts book site.station found.curve
+  pub predicts : PredictsOver book site.station s.begin s.end found.curve
   pub years : AreYears book.first_year book.years
 
 -- a span of a book's years
@@ -94,18 +94,21 @@ pub record IsOf (book : Book) (s : Span) : Type 0 where
 last_minute : (s : Span) → s.begin ≤ℤ s.end → s.begin +ℤ pos (minutes_in s) ≡ s.end
 last_minute s forward = omega (arith, ints)
 
-pub followed_alike : (version : Version) (book : Book) (site : Site) (found : Found) (mark : Option ℤ) (s : Span) → IsSame book site found → IsOf book s → AllAgree (followed_tide version found mark) (followed_by version book site mark) s
+pub followed_alike : (version : Version) (book : Book) (site : Site) (found : Found) (mark : Option ℤ) (s : Span) → IsSame book site found s → IsOf book s → AllAgree (followed_tide version found mark) (followed_by version book site mark) s
 unfolding followed_tide followed_by
 followed_alike version book site found mark s same of =
-    let ends : InDomain book.first_year book.years (s.begin +ℤ pos (minutes_in s)) = rw (last_minute s of.forward) of.ends in
+    let end = last_minute s of.forward in
+    let ends : InDomain book.first_year book.years (s.begin +ℤ pos (minutes_in s)) = rw end of.ends in
+    let from : s.begin ≤ℤ s.begin = omega (arith, ints) in
+    let until : (s.begin +ℤ pos (minutes_in s)) ≤ℤ s.end = rw end (omega (arith, ints)) in
     rw (same.basis, same.units) (record {
-      turn = turn_agrees version book site.station found.curve s.begin (minutes_in s) same.predicts same.years of.begins ends;
+      turn = turn_agrees version book site.station s.begin s.end found.curve s.begin (minutes_in s) same.predicts same.years of.begins ends from until;
       slack = alike_if_asked s (asks_slack site.station.units site.basis) _ _
-          (mark_agrees version book site.station found.curve (slack_times site.basis) (slack_plus site.basis) (pos 0) true s.begin (minutes_in s) same.predicts same.years of.begins ends);
+          (mark_agrees version book site.station s.begin s.end found.curve (slack_times site.basis) (slack_plus site.basis) (pos 0) true s.begin (minutes_in s) same.predicts same.years of.begins ends from until);
       mark = alike_if_marked s mark
           (λ level. mark_meaning version found.curve site.basis.high.times site.basis.high.plus level false)
           (λ level. predicted_mark version book site.station site.basis.high.times site.basis.high.plus level false)
-          (λ level. mark_agrees version book site.station found.curve site.basis.high.times site.basis.high.plus level false s.begin (minutes_in s) same.predicts same.years of.begins ends);
+          (λ level. mark_agrees version book site.station s.begin s.end found.curve site.basis.high.times site.basis.high.plus level false s.begin (minutes_in s) same.predicts same.years of.begins ends from until);
     })
 
 -- ---- the curves are known over the span
@@ -288,7 +291,7 @@ tide_lines asked found ready =
 
 -- ---- and are those of the site
 
-same_site : (book : Book) (asked : Asked) (site : Site) (found : Found) → IsFound Events book asked site found → IsSame book site found
+same_site : (book : Book) (asked : Asked) (site : Site) (found : Found) → IsFound Events book asked site found → IsSame book site found (widened_of found.basis asked.begin asked.end)
 same_site book asked site found is = record { basis = is.basis; units = is.units; predicts = is.predicts; years = is.years }
 
 of_book : (book : Book) (asked : Asked) (site : Site) (found : Found) → IsFound Events book asked site found → IsOf book (widened_of found.basis asked.begin asked.end)

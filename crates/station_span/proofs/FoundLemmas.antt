@@ -1,10 +1,11 @@
 -- What the steps of a station's span come to.
-use Rattle.std.proofs.Common.{◌≡◌, ℕ, Bool, true, false, List, [], Some, Result, Ok, Err, slice_get, refl, arith}
+use Rattle.std.proofs.Common.{◌≡◌, ℕ, Bool, true, false, List, [], Option, Some, None, ℤ, Result, Ok, Err, slice_get, refl, arith}
 use Rattle.decimal_text.specs.Expected.{◌>>=◌, Excused}
 use Rattle.harmonics_text.specs.declared.book.Book.{Book}
 use Rattle.harmonics_text.specs.declared.book.Station.{Station}
 use Rattle.harmonics_text.specs.declared.book.Units.{Units}
-use Rattle.station_curve.specs.Curves.{curve_of}
+use Rattle.station_curve.specs.declared.fault.CurveFault.{CurveFault}
+use Rattle.station_curve.specs.Curves.{first_fault, is_hydraulic, tide_of, tide_or, tide_over, curve_of, curve_over}
 use Rattle.station_curve.specs.Waves.{Tide}
 use Rattle.station_table.specs.declared.basis.Basis.{Basis}
 use Rattle.station_table.specs.declared.offsets.Offsets.{Offsets}
@@ -21,6 +22,35 @@ use Rattle.station_span.specs.Workings.Spans.{FindsIn}
 pub excused_then : {A B : Type 0} (memory : Bool) (step : Result A Refusal) (next : A → Result B Refusal) (refusal : Refusal) → Excused memory step refusal → Excused memory (step >>= next) refusal
 excused_then true step next refusal excused = tt
 excused_then false step next refusal excused = rw excused refl
+
+-- ---- the curve for some minutes is refused where that for all is
+
+both_ok : (over whole same : Tide) (fault : Option CurveFault) → tide_from (tide_or over fault) ≡ Ok same → tide_from (tide_or whole fault) ≡ Ok whole
+both_ok over whole same None ok = refl
+both_ok over whole same (Some fault) ok = absurd cc
+
+over_ok : (hydraulic : Bool) (book : Book) (station : Station) (first last : ℤ) (tide : Tide) → is_hydraulic station.units ≡ hydraulic → tide_from (curve_over book station first last) ≡ Ok tide → tide_from (curve_of book station) ≡ Ok (tide_of book station)
+unfolding curve_of curve_over
+over_ok true book station first last tide is ok = absurd (let none = rw is at ok in cc)
+over_ok false book station first last tide is ok =
+    rw is (both_ok (tide_over book station first last) (tide_of book station) tide (first_fault book station book.years) (rw is at ok))
+
+pub curve_allowed : (book : Book) (station : Station) (first last : ℤ) (tide : Tide) → tide_from (curve_over book station first last) ≡ Ok tide → tide_from (curve_of book station) ≡ Ok (tide_of book station)
+curve_allowed book station first last tide ok = over_ok _ book station first last tide refl ok
+
+both_refused : (over whole : Tide) (fault : Option CurveFault) (refusal : Refusal) → tide_from (tide_or over fault) ≡ Err refusal → tide_from (tide_or whole fault) ≡ Err refusal
+both_refused over whole None refusal refused = absurd cc
+both_refused over whole (Some fault) refusal refused = refused
+
+over_refused : (hydraulic : Bool) (book : Book) (station : Station) (first last : ℤ) (refusal : Refusal) → is_hydraulic station.units ≡ hydraulic → tide_from (curve_over book station first last) ≡ Err refusal → tide_from (curve_of book station) ≡ Err refusal
+unfolding curve_of curve_over
+over_refused true book station first last refusal is refused = rw is (rw is at refused)
+over_refused false book station first last refusal is refused =
+    rw is (both_refused (tide_over book station first last) (tide_of book station) (first_fault book station book.years) refusal (rw is at refused))
+
+pub curve_excused : (memory : Bool) (book : Book) (station : Station) (first last : ℤ) (refusal : Refusal) → Excused memory (tide_from (curve_over book station first last)) refusal → Excused memory (tide_from (curve_of book station)) refusal
+curve_excused true book station first last refusal excused = tt
+curve_excused false book station first last refusal excused = over_refused _ book station first last refusal refl excused
 
 -- ---- the steps behind the curve
 

@@ -1,13 +1,14 @@
 -- What is known of the levels of a site.
-use Rattle.std.proofs.Common.{◌≡◌, ◌∷◌, ℕ, suc, ◌+◌, ◌*◌, ◌^◌, ◌<◌, ◌≤◌, ℤ, pos, negsuc, ◌-ℤ◌, ◌*ℤ◌, ◌≤ℤ◌, unsigned_abs, length, refl, sym, lit<, arith}
+use Rattle.std.proofs.Common.{◌≡◌, ◌∷◌, ℕ, suc, ◌+◌, ◌*◌, ◌^◌, ◌<◌, ◌≤◌, ℤ, pos, negsuc, ◌-ℤ◌, ◌*ℤ◌, ◌+ℤ◌, ◌≤ℤ◌, unsigned_abs, length, Ok, refl, sym, lit<, arith}
 use Rattle.std.specs.Prelude.{IsTrue}
 use Rattle.std.proofs.Math.Nat.{div-mul-le_self, mul-le-mul_right}
 use Rattle.std.proofs.lemmas.Int.{ints, fold-int_max_bounds, fold-int_min_bounds}
 use Rattle.std.proofs.lemmas.Nat.{le-div}
+use Rattle.curve_law.proofs.CoverLemmas.{by_test}
 use Rattle.decimal_text.specs.Rounding.{half_up, rounded_of}
-use Rattle.event_list.specs.Shifts.{greatest_add, least_add, scaled, slack_adds}
+use Rattle.event_list.specs.Shifts.{greatest_add, least_add, scaled, slack_adds, widened_of}
 use Rattle.harmonics_text.specs.declared.book.Book.{Book}
-use Rattle.station_curve.specs.Curves.{Predicts}
+use Rattle.station_curve.specs.Curves.{PredictsOver}
 use Rattle.station_curve.specs.Schureman.{predicted_level, predicted_millionths}
 use Rattle.station_table.specs.declared.basis.Basis.{Basis}
 use Rattle.station_table.specs.declared.offset.Offset.{Offset}
@@ -17,13 +18,14 @@ use Rattle.year_blend.specs.Places.{AreYears, InDomain}
 use Rattle.year_blend.specs.Weights.{total_weight}
 use Rattle.zone_time.specs.Zones.{InZoneYears}
 use Rattle.station_span.specs.declared.asked.Asked.{Asked}
+use Rattle.station_span.specs.declared.reach.Reach.{Reach}
 use Rattle.station_span.specs.declared.reach.Reach.TheVariants.{Events, Levels}
 use Rattle.station_span.specs.declared.station.Found.{Found}
-use Rattle.station_span.specs.Levels.{level_at, is_rising_at}
-use Rattle.station_span.specs.Sites.{Site}
+use Rattle.station_span.specs.Levels.{level_at, level_in, is_rising_at}
+use Rattle.station_span.specs.Sites.{Site, moved, reached}
 use Rattle.station_span.specs.Workings.Curves.{InTide}
 use Rattle.station_span.specs.Workings.Levels.{source_of, tide_level, is_tide_rising, HasLevel, HasLevelsIn}
-use Rattle.station_span.specs.Workings.Spans.{IsFound}
+use Rattle.station_span.specs.Workings.Spans.{IsFound, PredictsReached}
 use Rattle.station_span.proofs.SpanLemmas.{file_minute}
 
 -- ---- minutes whose level the tide has
@@ -96,17 +98,45 @@ found_level book asked site found is =
       inside = in_tide book found _ is.predicts.first_year is.predicts.years inside;
     }
 
+-- where levels aren't refused, all offsets are the same
+pub level_equal : (basis : Basis) → level_in basis ≡ Ok tt → IsTrue (is_equal basis)
+level_equal basis ok = by_test (is_equal basis)
+    (λ equal. rw equal refl)
+    (λ other. absurd (let none = rw other at ok in cc))
+
 -- ---- the levels by every constituent of the book
 
-pub site_level : (book : Book) (site : Site) (found : Found) (minute : ℤ) → found.basis ≡ site.basis → Predicts book site.station found.curve → HasLevel found minute → tide_level found minute ≡ level_at book site minute
-site_level book site found minute basis is has =
-    let inside = in_book book found _ is.first_year is.years has.inside in
-    rw (is.millionths (source_of found minute) inside, basis) refl
+-- a minute of the reference that its curve predicts
+pub record IsPredicted (book : Book) (site : Site) (found : Found) (first last minute : ℤ) : Type 0 where
+  pub predicts : PredictsOver book site.station first last found.curve
+  pub from : first ≤ℤ source_of found minute
+  pub until : source_of found minute ≤ℤ last
 
-pub site_rising : (book : Book) (site : Site) (found : Found) (minute : ℤ) → found.basis ≡ site.basis → Predicts book site.station found.curve → HasLevel found minute → is_tide_rising found minute ≡ is_rising_at book site minute
-site_rising book site found minute basis is has =
-    let inside = in_book book found _ is.first_year is.years has.inside in
-    rw (is.slope (source_of found minute) inside, basis) refl
+pub site_level : (book : Book) (site : Site) (found : Found) (first last minute : ℤ) → found.basis ≡ site.basis → IsPredicted book site found first last minute → HasLevel found minute → tide_level found minute ≡ level_at book site minute
+site_level book site found first last minute basis is has =
+    let inside = in_book book found _ is.predicts.first_year is.predicts.years has.inside in
+    rw (is.predicts.millionths (source_of found minute) inside is.from is.until, basis) refl
+
+pub site_rising : (book : Book) (site : Site) (found : Found) (first last minute : ℤ) → found.basis ≡ site.basis → IsPredicted book site found first last minute → HasLevel found minute → is_tide_rising found minute ≡ is_rising_at book site minute
+site_rising book site found first last minute basis is has =
+    let inside = in_book book found _ is.predicts.first_year is.predicts.years has.inside in
+    rw (is.predicts.slope (source_of found minute) inside is.from is.until, basis) refl
+
+-- where levels are asked, each minute of the span
+pub predicts_sources : (reach : Reach) (book : Book) (asked : Asked) (site : Site) (found : Found) → reached reach found.basis asked.begin asked.end ≡ moved found.basis asked.begin asked.end → IsTrue (is_equal found.basis) → PredictsReached reach book asked site found → PredictsOver book site.station (source_of found asked.begin) (source_of found asked.end) found.curve
+predicts_sources reach book asked site found is equal predicts = rw (is, equal) at predicts
+
+pub predicted_source : (book : Book) (asked : Asked) (site : Site) (found : Found) (minute : ℤ) → PredictsOver book site.station (source_of found asked.begin) (source_of found asked.end) found.curve → asked.begin ≤ℤ minute → minute ≤ℤ asked.end → IsPredicted book site found (source_of found asked.begin) (source_of found asked.end) minute
+predicted_source book asked site found minute predicts from until = record { predicts = predicts; from = omega (arith, ints); until = omega (arith, ints) }
+
+-- where events are, the span's first minute
+pub predicted_first : (book : Book) (asked : Asked) (site : Site) (found : Found) → IsFound Events book asked site found → IsPredicted book site found (widened_of found.basis asked.begin asked.end).begin (widened_of found.basis asked.begin asked.end).end asked.begin
+predicted_first book asked site found is =
+    let adds = within_adds found.basis in
+    let least_first = adds.0 in
+    let greatest_last = adds.1 in
+    let forward = is.span.forward in
+    record { predicts = is.predicts; from = omega (arith, ints); until = omega (arith, ints) }
 
 -- ---- a level of the reference that isn't lower is moved to one that isn't
 

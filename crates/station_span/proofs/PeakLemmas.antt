@@ -37,7 +37,7 @@ use Rattle.station_span.specs.Workings.Peaks.{HasHighest, IsSourceIn, source_cou
 use Rattle.station_span.specs.Workings.Spans.{AreMoments, IsFound}
 use Rattle.station_span.proofs.FollowLemmas.{usual_scale}
 use Rattle.station_span.proofs.FoundLemmas.{excused_by, excused_then}
-use Rattle.station_span.proofs.LevelLemmas.{between, found_levels, in_book, near_minute}
+use Rattle.station_span.proofs.LevelLemmas.{between, found_levels, in_book, level_equal, near_minute, predicts_sources}
 use Rattle.station_span.proofs.SiteLemmas.{found_at, site_minutes, site_unmarked, then_ok}
 use Rattle.station_span.proofs.SpanLemmas.{moment}
 
@@ -87,13 +87,14 @@ last_source begin end add forward = omega (arith, ints)
 values_alike : (c d : Meaning) (a : ℤ) (n : ℕ) → AgreeOver c d a n → AgreeOnValues c d a n
 values_alike c d a n agree = record { values = agree.values; rates = agree.rates }
 
-pub levels_alike : (book : Book) (asked : Asked) (site : Site) (found : Found) → IsFound Highest book asked site found → HasHighest found asked → AgreeOnValues (tide_levels found) (level_curve book site) (source_of found asked.begin) (minute_count asked)
-levels_alike book asked site found is has =
+pub levels_alike : (book : Book) (asked : Asked) (site : Site) (found : Found) → IsFound Highest book asked site found → IsTrue (is_equal found.basis) → HasHighest found asked → AgreeOnValues (tide_levels found) (level_curve book site) (source_of found asked.begin) (minute_count asked)
+levels_alike book asked site found is equal has =
+    let end = last_source asked.begin asked.end found.basis.high.add has.levels.forward in
     let first = in_book book found (source_of found asked.begin) is.predicts.first_year is.predicts.years has.levels.first.inside in
     let last = in_book book found (source_of found asked.end) is.predicts.first_year is.predicts.years has.levels.last.inside in
     values_alike _ _ _ _
-    (mark_agrees Second book site.station found.curve (pos 1000000) (pos 0) (pos 0) true (source_of found asked.begin) (minute_count asked)
-    is.predicts is.years first (rw (last_source asked.begin asked.end found.basis.high.add has.levels.forward) last))
+    (mark_agrees Second book site.station (source_of found asked.begin) (source_of found asked.end) found.curve (pos 1000000) (pos 0) (pos 0) true (source_of found asked.begin) (minute_count asked)
+    (predicts_sources Highest book asked site found refl equal is.predicts) is.years first (rw end last) (omega (arith, ints)) (rw end (omega (arith, ints))))
 
 -- ---- its minutes
 
@@ -116,18 +117,18 @@ source_inside found asked at from before = record { from = omega (arith, ints); 
 
 -- ---- what was found is what is expected
 
-pub peak_alike : (book : Book) (asked : Asked) (site : Site) (found : Found) → IsFound Highest book asked site found → HasHighest found asked → tide_peak found asked ≡ highest_of book site asked
+pub peak_alike : (book : Book) (asked : Asked) (site : Site) (found : Found) → IsFound Highest book asked site found → IsTrue (is_equal found.basis) → HasHighest found asked → tide_peak found asked ≡ highest_of book site asked
 unfolding tide_peak highest_of
-peak_alike book asked site found is has =
+peak_alike book asked site found is equal has =
     ap (λ n. peak_of (tide_levels found) (source_of found asked.begin) n) (count_moved asked.begin asked.end found.basis.high.add)
-    ∙ peak_of-agrees _ _ (source_of found asked.begin) (minute_count asked) (levels_alike book asked site found is has)
+    ∙ peak_of-agrees _ _ (source_of found asked.begin) (minute_count asked) (levels_alike book asked site found is equal has)
     ∙ ap (λ b. peak_of (level_curve book site) (asked.begin -ℤ b.high.add) (minute_count asked)) is.basis
 
-pub verdict_alike : (book : Book) (asked : Asked) (site : Site) (found : Found) (peak : Peak) → IsFound Highest book asked site found → HasHighest found asked → tide_verdict found asked peak ≡ highest_verdict book site asked peak
+pub verdict_alike : (book : Book) (asked : Asked) (site : Site) (found : Found) (peak : Peak) → IsFound Highest book asked site found → IsTrue (is_equal found.basis) → HasHighest found asked → tide_verdict found asked peak ≡ highest_verdict book site asked peak
 unfolding tide_verdict highest_verdict
-verdict_alike book asked site found peak is has =
+verdict_alike book asked site found peak is equal has =
     ap (λ n. peak_verdict (tide_levels found) (source_of found asked.begin) n peak) (count_moved asked.begin asked.end found.basis.high.add)
-    ∙ verdict-agrees _ _ (source_of found asked.begin) (minute_count asked) peak (levels_alike book asked site found is has)
+    ∙ verdict-agrees _ _ (source_of found asked.begin) (minute_count asked) peak (levels_alike book asked site found is equal has)
     ∙ ap (λ b. peak_verdict (level_curve book site) (asked.begin -ℤ b.high.add) (minute_count asked) peak) is.basis
 
 pub whole_site : (book : Book) (table : List Offsets) (name : List ℕ) (asked : Asked) (site : Site) (found : Found) → site_in Highest book table name asked ≡ Ok site → found.basis ≡ site.basis → level_in found.basis ≡ Ok tt → highest_site book table name asked ≡ Ok site
@@ -193,11 +194,6 @@ tide_peak_accepted found asked has =
 
 -- ---- a site with a highest water
 
-level_equal : (basis : Basis) → level_in basis ≡ Ok tt → IsTrue (is_equal basis)
-level_equal basis ok = by_test (is_equal basis)
-    (λ equal. rw equal refl)
-    (λ other. absurd (let none = rw other at ok in cc))
-
 pub highest_parts : (book : Book) (table : List Offsets) (name : List ℕ) (asked : Asked) (site : Site) → highest_site book table name asked ≡ Ok site → (site_in Highest book table name asked ≡ Ok site) × IsTrue (is_equal site.basis)
 unfolding highest_site
 highest_parts book table name asked site ok =
@@ -239,7 +235,7 @@ pub accepted_highest : (book : Book) (asked : Asked) (site : Site) (peak : Peak)
 accepted_highest book asked site peak is equal ok =
     let found = found_at book site in
     let has = has_highest book asked site found is equal in
-    let tide = tide_highest found asked peak is.gentle has (verdict_alike book asked site found peak is has ∙ ok) in
+    let tide = tide_highest found asked peak is.gentle has (verdict_alike book asked site found peak is equal has ∙ ok) in
     highest-agrees (tide_levels found) (level_curve book site) (source_of found asked.begin) (minute_count asked) peak.at peak.value
-    (levels_alike book asked site found is has)
+    (levels_alike book asked site found is equal has)
     (rw (last_source asked.begin asked.end site.basis.high.add has.levels.forward) tide)

@@ -18,8 +18,7 @@ use Rattle.harmonics_text.specs.Books.{IsBook, IsStation}
 use Rattle.station_curve.specs.declared.fault.CurveFault.{CurveFault}
 use Rattle.station_curve.specs.Curves.{is_hydraulic, first_fault, tide_or, tide_of, curve_of}
 use Rattle.station_curve.specs.Waves.{Tide}
-use Rattle.station_curve.proofs.Gentle.{gentle_tide}
-use Rattle.station_curve.proofs.Predicting.{predicts_tide}
+use Rattle.station_curve.proofs.Whole.{gentle_tide, predicts_tide, predicts_within}
 use Rattle.station_table.specs.declared.basis.Basis.{Basis}
 use Rattle.station_table.specs.declared.finding.FindFault.{FindFault}
 use Rattle.station_table.specs.declared.finding.FindFault.TheVariants as find
@@ -257,7 +256,7 @@ found_of_site reach book table name asked site is rows near ok =
       sound = sound;
       units = refl;
       levels = unit_levels site.station.units steps.units steps.curve.unit;
-      predicts = predicts_tide book site.station is;
+      predicts = predicts_within book site.station _ _ (tide_of book site.station) (predicts_tide book site.station is);
       gentle = gentle_tide book site.station is station (curve_none book site.station _ steps.tide refl steps.curve.curve);
       years = book_years book is;
       span = span_reached reach book site.basis asked (has_offsets _ site.basis sound) near steps.curve.span;

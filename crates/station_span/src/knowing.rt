@@ -5,7 +5,7 @@ ghost use Rattle.tide_fault.specs.Faults.{IsToldRefusal};
 ghost use Rattle.station_span.specs.Sites.{station_in};
 ghost use Rattle.station_span.specs.Workings.Spans.{Knows};
 
-use crate::station::{Found, curve_at, find_basis, level_units, station_at};
+use crate::station::{Found, find_basis, level_units, station_at, whole_curve};
 use decimal_text::Text;
 use harmonics_text::SoundBook;
 use station_table::OffsetTable;
@@ -27,7 +27,7 @@ pub fn find_known(
     let basis = find_basis(book, table, name)?;
     let station = station_at(book.get(), basis.station);
     let units = level_units(station.units)?;
-    let curve = curve_at(alloc, book, basis.station, station)?;
+    let curve = whole_curve(alloc, book, basis.station, station)?;
     Ok(Found {
         basis,
         units,

@@ -5,7 +5,7 @@ ghost use Rattle.std.specs.Option.{ForSome};
 ghost use Rattle.cert_text.specs.Certificates.{IsStationName};
 ghost use Rattle.decimal_text.specs.Expected.{Gives};
 ghost use Rattle.event_list.specs.Shifts.{HasOffsets};
-ghost use Rattle.station_curve.specs.Curves.{curve_of, Predicts};
+ghost use Rattle.station_curve.specs.Curves.{curve_of, curve_over, Predicts, PredictsOver};
 ghost use Rattle.station_curve.specs.Limits.{IsGentle};
 ghost use Rattle.station_table.specs.Bases.{IsBasis, basis_of, is_equal};
 ghost use Rattle.tide_fault.specs.Faults.{wants_memory_of_refusal, IsToldRefusal};
@@ -89,7 +89,8 @@ fn find_at(
 {
     let units = level_units(station.units)?;
     check_span(book, reach, &basis, asked)?;
-    let curve = curve_at(alloc, book, basis.station, station)?;
+    let span = reached(reach, &basis, asked);
+    let curve = curve_over(alloc, book, basis.station, station, &span)?;
     check_length(asked)?;
     check_mark(&basis, asked)?;
     Ok(Found {
@@ -247,7 +248,33 @@ fn last_minute(book: &SoundBook<'_>) -> i64
     year_start(book.first_year + book.years as i32)
 }
 
-pub fn curve_at(
+// The curve of a station for the minutes of a span.
+fn curve_over(
+    alloc: Global,
+    book: &SoundBook<'_>,
+    place: u32,
+    station: &Station,
+    span: &Span,
+) -> Result<StationCurve, Refusal>
+    requires place { slice_get book.now.stations place ≡ Some station.now }
+    requires near { IsNearSpan span.now }
+    ensures exact { Gives wants_memory_of_refusal (tide_from (curve_over book.now station.now span.now.begin span.now.end)) result }
+    ensures predicts { IfOk result (PredictsOver book.now station.now span.now.begin span.now.end) }
+    ensures gentle { IfOk result IsGentle }
+    ensures years { AreYears book.now.first_year book.now.years }
+    ensures told { IfErr result (IsToldRefusal []) }
+{
+    match StationCurve::over(alloc, book.get(), place, span.begin, span.end) {
+        Ok(curve) => {
+            curve.known();
+            Ok(curve)
+        }
+        Err(fault) => Err(Refusal::from(fault)),
+    }
+}
+
+/// The curve of a station for all minutes.
+pub fn whole_curve(
     alloc: Global,
     book: &SoundBook<'_>,
     place: u32,

@@ -24,7 +24,7 @@ use Rattle.station_span.specs.Workings.Spans.{IsFound, IsNear}
 use Rattle.station_span.proofs.FollowLemmas.{site_list_of_tide}
 use Rattle.station_span.proofs.FoundLemmas.{excused_then}
 use Rattle.tide_answer.proofs.RowLemmas.{site_rows}
-use Rattle.station_span.proofs.LevelLemmas.{found_level, site_level, site_rising}
+use Rattle.station_span.proofs.LevelLemmas.{found_level, level_equal, predicted_first, predicts_sources, site_level, site_rising}
 
 -- a site that was found, and that has levels
 pub record HasSite (reach : Reach) (book : Book) (table : List Offsets) (name : List ℕ) (asked : Asked) (site : Site) (found : Found) : Type 0 where
@@ -46,7 +46,8 @@ pub whole_list : (book : Book) (table : List Offsets) (name : List ℕ) (asked :
 unfolding heights
 whole_list book table name asked step layout zone site found rows has levels steps few are =
     let level = rw has.is.basis at has.level in
-    let same = site_rows book site found asked step has.is.basis has.is.predicts levels steps in
+    let equal = level_equal found.basis has.level in
+    let same = site_rows book site found asked step has.is.basis (predicts_sources Levels book asked site found refl equal has.is.predicts) levels steps in
     rw (has.expected, level, few, are, same, has.is.units) refl
 
 -- ---- a clock
@@ -68,6 +69,7 @@ whole_clock book table name now zone site found listed level rising near has tid
     let level_here = rw has.is.basis at has.level in
     let has_level = level_now book now site found has.is in
     let list = site_list_of_tide book (asked_from now) site found listed near has.is tide in
-    let same_level = site_level book site found now has.is.basis has.is.predicts has_level in
-    let same_rising = site_rising book site found now has.is.basis has.is.predicts has_level in
+    let predicted = predicted_first book (asked_from now) site found has.is in
+    let same_level = site_level book site found _ _ now has.is.basis predicted has_level in
+    let same_rising = site_rising book site found _ _ now has.is.basis predicted has_level in
     rw (has.expected, level_here, level_is, rising_is, same_level, same_rising, list.events, list.cells, has.is.units) refl

@@ -186,7 +186,7 @@ was_certified book table name asked certificate is rows askable ok =
     let found = found_of_site Highest book table name asked site is rows (near_asked asked askable) parts.0 in
     let has = has_highest book asked site (found_at book site) found parts.1 in
     let peak = highest_of book site asked in
-    let right = verdict_alike book asked site (found_at book site) peak found has ∙ highest_of_accepted book site asked has.some in
+    let right = verdict_alike book asked site (found_at book site) peak found parts.1 has ∙ highest_of_accepted book site asked has.some in
     record {
       site = site;
       expected = was.1;

@@ -19,7 +19,7 @@ use Rattle.station_span.specs.Peaks.{highest_of, highest_site}
 use Rattle.station_span.specs.Sites.{Site}
 use Rattle.station_span.specs.Workings.Peaks.{HasHighest, IsHighestFound, IsSourceIn, tide_peak, tide_verdict}
 use Rattle.station_span.specs.Workings.Spans.{AreMoments, IsNear}
-use Rattle.station_span.proofs.LevelLemmas.{site_level}
+use Rattle.station_span.proofs.LevelLemmas.{predicted_source, site_level}
 use Rattle.station_span.proofs.PeakLemmas.{accepted_certificate, source_minute, tide_peak_accepted}
 use Rattle.tide_answer.specs.Answers.{highest, highest_text_at, peak_certified, peak_judged, text_accepted, text_alone}
 use Rattle.tide_answer.specs.Asking.{asked_of_peak}
@@ -31,7 +31,9 @@ use Rattle.tide_answer.proofs.CheckLemmas.{lines_long}
 
 text_alike : (book : Book) (asked : Asked) (site : Site) (found : Found) (name : List ℕ) (at : ℤ) (zone : Zone) → IsHighestFound book asked site found → IsSourceIn found asked at → tide_highest_text found name at zone ≡ highest_text_at book site name at zone
 text_alike book asked site found name at zone is inside =
-    let level = site_level book site found (at +ℤ found.basis.high.add) is.basis is.predicts (source_minute found asked at is.highest inside) in
+    let before = inside.before in
+    let predicted = predicted_source book asked site found (at +ℤ found.basis.high.add) is.predicts inside.from (omega (arith, ints)) in
+    let level = site_level book site found _ _ (at +ℤ found.basis.high.add) is.basis predicted (source_minute found asked at is.highest inside) in
     rw (level, is.units, is.basis) refl
 
 pub highest_whole : (book : Book) (table : List Offsets) (name : List ℕ) (asked : Asked) (zone : Zone) (site : Site) (found : Found) (peak : Peak) → highest_site book table name asked ≡ Ok site → IsHighestFound book asked site found → peak ≡ tide_peak found asked → IsSourceIn found asked peak.at → highest book table name asked zone ≡ Ok (text_alone (tide_highest_text found name peak.at zone))

@@ -8,15 +8,15 @@ use Rattle.std.proofs.lemmas.List.FromFn.{map-range_with_len_more}
 use Rattle.std.proofs.Math.Nat.{div-mul-le_self, mul-le-mul_right}
 use Rattle.harmonics_text.specs.declared.book.Book.{Book}
 use Rattle.listing.specs.declared.row.Row.{Row}
-use Rattle.station_curve.specs.Curves.{Predicts}
+use Rattle.station_curve.specs.Curves.{PredictsOver}
 use Rattle.zone_time.specs.Zones.{InZoneYears}
 use Rattle.station_span.specs.declared.asked.Asked.{Asked}
 use Rattle.station_span.specs.declared.station.Found.{Found}
 use Rattle.tide_answer.specs.Answers.{row_at, row_count, rows_of}
 use Rattle.station_span.specs.Sites.{Site}
 use Rattle.tide_answer.specs.Workings.Rows.{tide_row, tide_rows, AreRows, IsStep}
-use Rattle.station_span.specs.Workings.Levels.{HasLevel, HasLevelsIn}
-use Rattle.station_span.proofs.LevelLemmas.{between, site_level, zone_minute}
+use Rattle.station_span.specs.Workings.Levels.{HasLevel, HasLevelsIn, source_of}
+use Rattle.station_span.proofs.LevelLemmas.{between, predicted_source, site_level, zone_minute}
 
 -- ---- rows
 
@@ -45,12 +45,15 @@ same_rows f g first (suc count) same =
     same_rows f g (first + 1) count (λ place below. same place (omega (arith, below))) in
     cc
 
-pub site_rows : (book : Book) (site : Site) (found : Found) (asked : Asked) (step : ℤ) → found.basis ≡ site.basis → Predicts book site.station found.curve → HasLevelsIn found asked → IsStep step → tide_rows found asked.begin asked.end step ≡ rows_of book site asked.begin asked.end step
-site_rows book site found asked step basis is has steps =
+pub site_rows : (book : Book) (site : Site) (found : Found) (asked : Asked) (step : ℤ) → found.basis ≡ site.basis → PredictsOver book site.station (source_of found asked.begin) (source_of found asked.end) found.curve → HasLevelsIn found asked → IsStep step → tide_rows found asked.begin asked.end step ≡ rows_of book site asked.begin asked.end step
+site_rows book site found asked step basis predicts has steps =
     same_rows (tide_row found asked.begin step) (row_at book site asked.begin step) 0 (row_count asked.begin asked.end step)
     (λ place below.
     let minute = asked.begin +ℤ (step *ℤ pos place) in
-    let level = site_level book site found minute basis is (row_level found asked step place has steps (omega (arith, below))) in
+    let below_count = omega (arith, below) in
+    let within = row_within asked.begin asked.end step place has.forward steps below_count in
+    let predicted = predicted_source book asked site found minute predicts within.0 within.1 in
+    let level = site_level book site found _ _ minute basis predicted (row_level found asked step place has steps below_count) in
     ap (λ (level : ℤ). record { minute = minute; level = level }) level)
 
 -- ---- a list that grows

@@ -1,10 +1,10 @@
 -- The years of a book's station as a curve keeps them.
-use Rattle.std.specs.Prelude.{◌≡◌, ℕ, suc, ◌<◌, ◌==◌, not, Bool, List, length, filter, None, pos, unsigned_abs, slice_index_or}
+use Rattle.std.specs.Prelude.{◌≡◌, ℕ, suc, ◌<◌, ◌==◌, not, Bool, List, length, filter, None, ℤ, pos, unsigned_abs, slice_index_or}
 use Rattle.harmonics_text.specs.declared.book.Station.{Station}
 use Rattle.harmonics_text.specs.declared.book.Book.{Book}
 use Rattle.year_blend.specs.Places.{start_of}
 use Rattle.station_curve.specs.declared.years.Year.{Year}
-use Rattle.station_curve.specs.Curves.{waves_of, is_present, first_fault}
+use Rattle.station_curve.specs.Curves.{waves_over, first_fault}
 use Rattle.station_curve.specs.Schureman.{constituents_of}
 use Rattle.station_curve.specs.Sums.{sums_of}
 
@@ -16,10 +16,10 @@ has_amplitude s k = not (unsigned_abs (slice_index_or s.amplitude k (pos 0)) == 
 abbrev pub present_in : Book → Station → List ℕ
 present_in b s = filter (has_amplitude s) (constituents_of b)
 
--- the first years, that many, none of them beyond a limit
-pub record AreReady (b : Book) (s : Station) (count : ℕ) (years : List Year) : Type 0 where
+-- the first years, that many, none of them beyond a limit, for minutes from one to another
+pub record AreReady (b : Book) (s : Station) (first last : ℤ) (count : ℕ) (years : List Year) : Type 0 where
   pub counted : length years ≡ count
-  pub waves : (k : ℕ) (d : Year) → k < count → (slice_index_or years k d).waves.items ≡ filter is_present (waves_of b s k)
+  pub waves : (k : ℕ) (d : Year) → k < count → (slice_index_or years k d).waves.items ≡ waves_over b s first last k
   pub starts : (k : ℕ) (d : Year) → k < count → (slice_index_or years k d).start ≡ start_of b.first_year k
   pub ends : (k : ℕ) (d : Year) → k < count → (slice_index_or years k d).end ≡ start_of b.first_year (suc k)
   pub sums : (k : ℕ) (d : Year) → k < count → (slice_index_or years k d).sums ≡ sums_of (slice_index_or years k d).waves.items

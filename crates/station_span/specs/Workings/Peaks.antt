@@ -9,7 +9,7 @@ use Rattle.highest_water.specs.Covers.{peak_of}
 use Rattle.highest_water.specs.Verdicts.{peak_verdict}
 use Rattle.rate_bound.specs.declared.version.Version.TheVariants.{Second}
 use Rattle.rate_bound.specs.Meanings.{mark_meaning}
-use Rattle.station_curve.specs.Curves.{Predicts}
+use Rattle.station_curve.specs.Curves.{PredictsOver}
 use Rattle.station_curve.specs.Limits.{IsGentle}
 use Rattle.tide_fault.specs.declared.refusal.Refusal.{Refusal}
 use Rattle.tide_fault.specs.Faults.{wants_memory_of_refusal}
@@ -43,7 +43,7 @@ pub record HasHighest (found : Found) (asked : Asked) : Type 0 where
 pub record IsHighestFound (book : Book) (asked : Asked) (site : Site) (found : Found) : Type 0 where
   pub basis : found.basis ≡ site.basis
   pub units : found.units ≡ site.station.units
-  pub predicts : Predicts book site.station found.curve
+  pub predicts : PredictsOver book site.station (source_of found asked.begin) (source_of found asked.end) found.curve
   pub gentle : IsGentle found.curve
   pub highest : HasHighest found asked
   pub peak : tide_peak found asked ≡ highest_of book site asked

@@ -6,7 +6,7 @@ use Rattle.event_list.specs.declared.span.Span.{Span}
 use Rattle.harmonics_text.specs.declared.book.Book.{Book}
 use Rattle.harmonics_text.specs.declared.book.Units.{Units}
 use Rattle.harmonics_text.specs.declared.book.Units.TheVariants.{Feet, Meters, Knots, KnotsSquared}
-use Rattle.station_curve.specs.Curves.{Predicts}
+use Rattle.station_curve.specs.Curves.{Predicts, PredictsOver}
 use Rattle.station_curve.specs.Limits.{IsGentle}
 use Rattle.station_table.specs.declared.basis.Basis.{Basis}
 use Rattle.station_table.specs.Bases.{IsBasis, is_equal}
@@ -62,13 +62,19 @@ pub record IsFileMinute (minute : ℤ) : Type 0 where
   pub least : negsuc 1035067679 ≤ℤ minute
   pub most : minute ≤ℤ pos 3855208320
 
+-- a curve that predicts a site over the minutes that are looked at
+abbrev pub PredictsReached : Reach → Book → Asked → Site → Found → Type 0
+PredictsReached reach book asked site found =
+    let span = reached reach found.basis asked.begin asked.end in
+    PredictsOver book site.station span.begin span.end found.curve
+
 -- what was found of a site: its curve predicts it over the minutes that are looked at
 pub record IsFound (reach : Reach) (book : Book) (asked : Asked) (site : Site) (found : Found) : Type 0 where
   pub basis : found.basis ≡ site.basis
   pub sound : IsBasis (length book.stations) found.basis
   pub units : found.units ≡ site.station.units
   pub levels : HasLevels found.units
-  pub predicts : Predicts book site.station found.curve
+  pub predicts : PredictsReached reach book asked site found
   pub gentle : IsGentle found.curve
   pub years : AreYears book.first_year book.years
   pub span : IsReached reach book found.basis asked.begin asked.end

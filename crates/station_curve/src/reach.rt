@@ -1,0 +1,48 @@
+//! The minutes that a curve is asked for.
+
+ghost use Rattle.std.specs.Prelude.{◌≡◌, ◌^◌, ◌≤◌, ◌&&◌, pos, ◌+ℤ◌, int_le, unsigned_abs};
+ghost use Rattle.year_blend.specs.Years.{year_start_of};
+
+use crate::constants::calendar_year;
+use crate::years::HOUR;
+use harmonics_text::SoundBook;
+use year_blend::year_start;
+
+/// Minutes from one to another that a curve is asked for.
+#[derive(Clone, Copy)]
+pub struct Reach {
+    pub first: i64,
+    pub last: i64,
+}
+
+impl Reach {
+    /// Whether a year comes within an hour of them.
+    pub fn touches(self, start: i64, end: i64) -> bool
+        requires last { unsigned_abs self.last ≤ 10 ^ 12 }
+        requires end { unsigned_abs end ≤ 10 ^ 12 }
+        ensures { result ≡ (int_le start (self.last +ℤ pos 60) && int_le self.first (end +ℤ pos 60)) }
+    {
+        is_within_hour(start, self.last) && is_within_hour(self.first, end)
+    }
+}
+
+/// Whether a minute comes at most an hour after another one.
+fn is_within_hour(minute: i64, other: i64) -> bool
+    requires { unsigned_abs other ≤ 10 ^ 12 }
+    ensures { result ≡ int_le minute (other +ℤ pos 60) }
+{
+    minute <= other + HOUR
+}
+
+/// All minutes of a book's years, and the first one after them.
+pub fn all_minutes(book: &SoundBook<'_>) -> Reach
+    ensures first { result.first ≡ year_start_of book.now.first_year }
+    ensures last { result.last ≡ year_start_of (book.now.first_year +ℤ pos book.now.years) }
+    ensures near { unsigned_abs result.first ≤ 10 ^ 12 }
+    ensures near_last { unsigned_abs result.last ≤ 10 ^ 12 }
+{
+    Reach {
+        first: year_start(calendar_year(book, 0)),
+        last: year_start(calendar_year(book, book.get().years)),
+    }
+}
