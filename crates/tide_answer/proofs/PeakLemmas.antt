@@ -1,5 +1,6 @@
 -- What the answers of a highest water come to: its text, the certificate that is written, and one that is read.
 use Rattle.std.proofs.Common.{◌≡◌, ℕ, ◌+◌, ◌<◌, ◌≤◌, ◌^◌, ℤ, ◌+ℤ◌, List, [], ◌∷◌, map, length, length-append, Ok, refl, sym, ap, ◌∙◌, arith}
+use Rattle.std.proofs.lemmas.Int.{ints}
 use Rattle.std.proofs.lemmas.List.{length-map}
 use Rattle.cert_text.specs.Certificates.{IsStationName}
 use Rattle.cert_text.specs.Lines.{last_line}

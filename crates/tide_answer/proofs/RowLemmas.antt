@@ -50,7 +50,7 @@ site_rows book site found asked step basis predicts has steps =
     same_rows (tide_row found asked.begin step) (row_at book site asked.begin step) 0 (row_count asked.begin asked.end step)
     (λ place below.
     let minute = asked.begin +ℤ (step *ℤ pos place) in
-    let below_count = omega (arith, below) in
+    let below_count : place < row_count asked.begin asked.end step = omega (arith, below) in
     let within = row_within asked.begin asked.end step place has.forward steps below_count in
     let predicted = predicted_source book asked site found minute predicts within.0 within.1 in
     let level = site_level book site found _ _ minute basis predicted (row_level found asked step place has steps below_count) in
