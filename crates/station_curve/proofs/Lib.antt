@@ -11,6 +11,7 @@ pub mod Predicting
 mod Around
 mod Answering
 pub mod Gaps
+pub mod GreatestYear
 pub mod Nearly
 pub mod YearChanges
 pub mod Steps
