@@ -1,8 +1,8 @@
 -- What near values tell of a cell.
-use Rattle.std.proofs.Common.{◌≡◌, ℕ, ◌*◌, ◌^◌, ◌≤◌, ◌<◌, ℤ, pos, ◌+ℤ◌, ◌-ℤ◌, ◌*ℤ◌, ◌<ℤ◌, unsigned_abs, int_lt, Bool, true, false, not, inl, Option, Some, None, IfSome, refl, sym, ◌∙◌, arith}
+use Rattle.std.proofs.Common.{◌≡◌, ℕ, ◌*◌, ◌^◌, ◌≤◌, ◌<◌, ℤ, pos, ◌+ℤ◌, ◌-ℤ◌, ◌*ℤ◌, unsigned_abs, int_lt, Bool, true, false, not, inl, Option, Some, None, IfSome, refl, sym, ◌∙◌, arith}
 use mathlib.Core.Bool.{beq}
 use Rattle.std.proofs.lemmas.Int.{ints}
-use Rattle.curve_law.specs.Meaning.{Meaning}
+use Rattle.curve_law.specs.Meaning.{Meaning, IsNearValue, IsSpan, IsLawful}
 use Rattle.curve_law.specs.declared.quiet.TheConstants.{MOST_MINUTES}
 use Rattle.curve_law.specs.Cover.{keeps_side, is_quiet}
 use Rattle.curve_law.specs.Workings.Near.{IsFar}
@@ -31,9 +31,6 @@ told-side near e v error side is told close = told v (rw is close)
 pub told-crossed : (c : Meaning) (a : ℤ) (n : ℕ) (side end_side : Bool) → int_lt (pos 0) (c.track.value a) ≡ side → int_lt (pos 0) (c.track.value (a +ℤ pos n)) ≡ end_side → not (beq side end_side) ≡ true → is_quiet c a n ≡ false
 told-crossed c a n side end_side first second other = sym (crossed-loud c a n (rw (first, second) other))
 
-pub less-than : (x y : ℤ) → int_lt x y ≡ true → x <ℤ y
-less-than x y h = grind (arith, ints)
-
 pub too_short : (c : Meaning) (a : ℤ) (n : ℕ) → n < 2 → is_quiet c a n ≡ false
 too_short c a n few = sym (is_quiet-length c a n (inl few))
 
@@ -52,8 +49,15 @@ told-far c a n rate near end_near most e error side end_side far two few is firs
     far-quiet c a n rate side far two few is first (second ∙ same-side side end_side same) (rw is_most at sum)
 
 -- near values of a lawful curve are not too large to add
-pub near-size : (near v : ℤ) (error : ℕ) → unsigned_abs v < 10 ^ 37 → error ≤ 10 ^ 36 → unsigned_abs (near -ℤ v) ≤ error → unsigned_abs near < 2 * 10 ^ 37
+near-size : (near v : ℤ) (error : ℕ) → unsigned_abs v < 10 ^ 37 → error ≤ 10 ^ 36 → unsigned_abs (near -ℤ v) ≤ error → unsigned_abs near < 2 * 10 ^ 37
 near-size near v error small narrow close = omega (arith, ints, small, narrow, close)
+
+pub near-sizes : (c : Meaning) (a : ℤ) (n error : ℕ) (near end_near : ℤ) → IsLawful c → error ≤ 10 ^ 36 → IsSpan c a n → IsNearValue c error a near → IsNearValue c error (a +ℤ pos n) end_near
+    → (unsigned_abs near < 2 * 10 ^ 37) × (unsigned_abs end_near < 2 * 10 ^ 37)
+near-sizes c a n error near end_near law narrow span close end_close =
+    let here = law.values a (record { first = span.first; last = (let last = span.last in omega (arith, ints, last)) }) in
+    let there = law.values (a +ℤ pos n) (record { first = (let first = span.first in omega (arith, ints, first)); last = span.last }) in
+    (near-size near _ error here narrow close, near-size end_near _ error there narrow end_close)
 
 -- what holds of a told value follows from what is told
 pub some-told : {P Q : Bool → Type 0} (o : Option Bool) → IfSome o P → ((x : Bool) → P x → Q x) → IfSome o Q

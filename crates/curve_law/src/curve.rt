@@ -1,6 +1,6 @@
 //! A value at each minute, and how fast it may change.
 
-ghost use Rattle.std.specs.Prelude.{◌≡◌, ℕ, ◌+◌, ◌^◌, ◌<◌, ◌≤◌, pos};
+ghost use Rattle.std.specs.Prelude.{◌≡◌, ℕ, ◌+◌, ◌^◌, ◌<◌, ◌≤◌, ℤ, pos};
 ghost use Rattle.curve_law.specs.Meaning.{Meaning, IsMinute, IsCell, IsNearValue, IsLawful};
 
 use crate::kind::Kind;
@@ -12,6 +12,9 @@ use crate::kind::Kind;
 pub trait Curve {
     /// The minutes, values, levels, kinds and rates that it tells.
     ghost meaning: { Self → Meaning };
+
+    /// The near value at each minute.
+    ghost near: { Self → ℤ → ℤ };
 
     /// How far a near value may be from the value.
     ghost error: { Self → ℕ };
@@ -34,21 +37,24 @@ pub trait Curve {
         ensures value { result ≡ (meaning self.old).track.value m }
         ensures counted { count self.new ≡ count self.old + 1 }
         ensures same { meaning self.new ≡ meaning self.old }
+        ensures same_near { near self.new ≡ near self.old }
         ensures same_error { error self.new ≡ error self.old };
 
     /// A number near the value at a minute, which may be told sooner. This call counts too.
     fn near_value(&mut self, m: i64) -> i128
         requires minute { IsMinute (meaning self.old) m }
         requires few { count self.old < 2 ^ 63 }
+        ensures value { result ≡ near self.old m }
         ensures near { IsNearValue (meaning self.old) (error self.old) m result }
         ensures counted { count self.new ≡ count self.old + 1 }
         ensures same { meaning self.new ≡ meaning self.old }
+        ensures same_near { near self.new ≡ near self.old }
         ensures same_error { error self.new ≡ error self.old };
 
     /// The value at a minute of which a near value was told. It isn't counted again.
-    fn exact_value(&self, m: i64, near: i128) -> i128
+    fn exact_value(&self, m: i64, told: i128) -> i128
         requires minute { IsMinute (meaning self.now) m }
-        requires near { IsNearValue (meaning self.now) (error self.now) m near }
+        requires near { IsNearValue (meaning self.now) (error self.now) m told }
         ensures { result ≡ (meaning self.now).track.value m };
 
     /// How far a near value may be from the value, at most 10^36.

@@ -152,6 +152,7 @@ fn sums_of_years(rt: HostRuntime) -> Result<(), Fail> {
     curve.known();
     year_changes();
     year_sizes();
+    near_values();
     Ok(())
 }
 

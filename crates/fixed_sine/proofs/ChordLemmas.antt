@@ -1,48 +1,38 @@
 -- The sine by a chord: the table's rows, and how far the chord is from the sine over its degree.
-use Rattle.std.proofs.Common.{◌≡◌, ℕ, suc, ◌+◌, ◌-◌, ◌*◌, ◌/◌, ◌<◌, ◌≤◌, Bool, true, ◌&&◌, nat_le, min, inl, inr, refl, sym, ap, ◌∙◌, arith, ℤ, pos, negsuc, neg_ℤ, ◌+ℤ◌, ◌-ℤ◌, ◌*ℤ◌, unsigned_abs, get_or, to_z, of_z, w32, w64}
+use Rattle.std.proofs.Common.{◌≡◌, ℕ, suc, ◌+◌, ◌-◌, ◌*◌, ◌/◌, ◌%◌, ◌<◌, ◌≤◌, Bool, true, ◌&&◌, nat_lt, nat_le, min, inl, inr, refl, sym, ap, ◌∙◌, arith, ℤ, pos, negsuc, neg_ℤ, ◌+ℤ◌, ◌-ℤ◌, ◌*ℤ◌, unsigned_abs, get_or, to_z, of_z, w32, w64}
 use Rattle.std.specs.Int.{int_shr}
 use Rattle.std.specs.Ordering.{int_eq}
-use Rattle.std.proofs.lemmas.Bool.{agree_below_at, leb-true, and_parts, cases_lt}
+use Rattle.std.proofs.lemmas.Bool.{agree_below_at, leb-true, and_parts, cases_lt, cond-true, cond-false, lt-ltb, le-ltb}
 use Rattle.std.proofs.lemmas.Bool.Decides.{Decides-int_eq}
-use Rattle.std.proofs.lemmas.Int.{ints, to_z-of_z, fits_signed_from_abs}
+use Rattle.std.proofs.lemmas.Int.{ints, to_z-of_z, unsigned_abs-mul, fits_signed_from_abs}
 use Rattle.std.proofs.lemmas.Nat.{mul-le}
 use Rattle.fixed_sine.specs.declared.chords.TheConstants.{CHORDS}
 use Rattle.fixed_sine.specs.Workings.Degrees.{bend_at, slope_at}
 use Rattle.fixed_sine.specs.Sine.{half_of, isin_of}
 use Rattle.fixed_sine.specs.Table.{sines, sine_at, rise, correction}
-use Rattle.fixed_sine.proofs.CircleLemmas.{isin_of-first, isin_of-second}
+use Rattle.fixed_sine.specs.Turn.{units_of}
+use Rattle.fixed_sine.specs.Chords.{degree_sine, degree_rise, chord_sine_of}
+use Rattle.fixed_sine.proofs.CircleLemmas.{isin_of-first, isin_of-second, isin_of_size}
 use Rattle.fixed_sine.proofs.DegreeLemmas.{raised, multiplied, row-at, sine_at-size}
 use Rattle.fixed_sine.proofs.RateLemmas.{half_num, half_of-num}
 use Rattle.fixed_sine.proofs.RowLemmas.{half_num-row}
 
--- ---- the rows of the code, on either half of the circle
+-- ---- the rows of the code
 
-unfoldable is_first : ℕ → Bool
-is_first k =
+unfoldable is_row : ℕ → Bool
+is_row k =
     let row = get_or CHORDS k (pos 0, pos 0) in
-    int_eq row.0 (sine_at (pos k)) && int_eq row.1 (rise k)
-
-unfoldable is_second : ℕ → Bool
-is_second k =
-    let row = get_or CHORDS (k + 180) (pos 0, pos 0) in
-    int_eq row.0 (neg_ℤ (sine_at (pos k))) && int_eq row.1 (neg_ℤ (rise k))
+    int_eq row.0 (degree_sine k) && int_eq row.1 (degree_rise k)
 
 unfoldable is_gentle : ℕ → Bool
 is_gentle k =
     let row = get_or CHORDS k (pos 0, pos 0) in
     nat_le (unsigned_abs row.0) 1000000000 && nat_le (unsigned_abs row.1) 17452406
 
-pub chord-first : (k : ℕ) → k < 180 → ((get_or CHORDS k (pos 0, pos 0)).0 ≡ sine_at (pos k)) × ((get_or CHORDS k (pos 0, pos 0)).1 ≡ rise k)
-unfolding is_first sine_at sines
-chord-first k h =
-    let all = and_parts _ _ (agree_below_at is_first (λ _. true) 180 k refl h) in
-    ((Decides-int_eq _ _).0 all.0, (Decides-int_eq _ _).0 all.1)
-
-pub chord-second : (k : ℕ) → k < 180
-    → ((get_or CHORDS (k + 180) (pos 0, pos 0)).0 ≡ neg_ℤ (sine_at (pos k))) × ((get_or CHORDS (k + 180) (pos 0, pos 0)).1 ≡ neg_ℤ (rise k))
-unfolding is_second sine_at sines
-chord-second k h =
-    let all = and_parts _ _ (agree_below_at is_second (λ _. true) 180 k refl h) in
+pub chord-row : (k : ℕ) → k < 360 → ((get_or CHORDS k (pos 0, pos 0)).0 ≡ degree_sine k) × ((get_or CHORDS k (pos 0, pos 0)).1 ≡ degree_rise k)
+unfolding is_row degree_sine degree_rise sine_at sines
+chord-row k h =
+    let all = and_parts _ _ (agree_below_at is_row (λ _. true) 360 k refl h) in
     ((Decides-int_eq _ _).0 all.0, (Decides-int_eq _ _).0 all.1)
 
 -- they fit their types
@@ -147,11 +137,38 @@ cut-rising (negsuc z) g a b n is_g is_z is_n =
     let gain : n + suc (z / 4294967296) ≡ 17452406 = omega (arith, ints, is_g, is_n) in
     (omega (arith, sum, gain), omega (arith, sum, gain))
 
+-- what the chords gain
+degree_rise-first : (k : ℕ) → k < 180 → degree_rise k ≡ rise k
+unfolding degree_rise
+degree_rise-first k h = cond-true (nat_lt k 180) _ _ (lt-ltb k 180 h)
+
+degree_rise-second : (k : ℕ) → degree_rise (k + 180) ≡ neg_ℤ (rise k)
+unfolding degree_rise
+degree_rise-second k =
+    cond-false (nat_lt (k + 180) 180) _ _ (le-ltb (k + 180) 180 (omega arith)) ∙ (let back : k + 180 - 180 ≡ k = omega arith in ap (λ i. neg_ℤ (rise i)) back)
+
+degree_sine-first : (k : ℕ) → k < 180 → degree_sine k ≡ sine_at (pos k)
+unfolding degree_sine
+degree_sine-first k h = cond-true (nat_lt k 180) _ _ (lt-ltb k 180 h)
+
+degree_sine-second : (k : ℕ) → degree_sine (k + 180) ≡ neg_ℤ (sine_at (pos k))
+unfolding degree_sine
+degree_sine-second k =
+    cond-false (nat_lt (k + 180) 180) _ _ (le-ltb (k + 180) 180 (omega arith)) ∙ (let back : k + 180 - 180 ≡ k = omega arith in ap (λ i. neg_ℤ (sine_at (pos i))) back)
+
+degree_rise-small : (k : ℕ) → k < 360 → unsigned_abs (degree_rise k) ≤ 17452406
+degree_rise-small k h = rw (← (chord-row k h).1) (chord-fits k h).rise
+
 rise-small : (k : ℕ) → k < 180 → unsigned_abs (rise k) ≤ 17452406
-rise-small k h =
-    let row = chord-first k h in
-    let fits = chord-fits k (omega (arith, h)) in
-    rw (← row.1) fits.rise
+rise-small k h = rw (← degree_rise-first k h) (degree_rise-small k (omega (arith, h)))
+
+cut-small : (z : ℤ) → unsigned_abs z ≤ 4294967296 * 17452406 → unsigned_abs (int_shr z 32) ≤ 17452406
+cut-small (pos n) small = omega (arith, ints, small)
+cut-small (negsuc n) small = omega (arith, ints, small)
+
+gain-small : (p : ℕ) (u : ℤ) → p < 4294967296 → unsigned_abs u ≤ 17452406 → unsigned_abs (int_shr (pos p *ℤ u) 32) ≤ 17452406
+gain-small p u in_degree small =
+    cut-small (pos p *ℤ u) (rw (unsigned_abs-mul (pos p) u) (mul-le p (unsigned_abs u) 4294967296 17452406 (omega (arith, in_degree)) small))
 
 turned-rise : (u rise : ℤ) (w back : ℕ) → u ≡ neg_ℤ rise → rise +ℤ pos 17452406 ≡ pos w → back + w ≡ 34904812 → u +ℤ pos 17452406 ≡ pos back
 turned-rise u (pos n) w back is_u up sum = omega (arith, ints, is_u, up, sum)
@@ -200,31 +217,35 @@ near-falling s n g sine gain half is_sine is_gain is_half both =
     omega (arith, ints, is_sine, is_gain, is_half, over, under)
 
 -- on the first half of the circle
-pub near-first : (k p r : ℕ) (sine u gain : ℤ) → k < 180 → r < 600000000 → IsPart p r → sine ≡ sine_at (pos k) → u ≡ rise k
-    → gain ≡ int_shr (pos p *ℤ u) 32 → unsigned_abs gain ≤ 17452406 → unsigned_abs ((sine +ℤ gain) -ℤ isin_of (600000000 * k + r)) ≤ 38100
-near-first k p r sine u gain h small part is_sine is_rise is_gain little =
+near-first : (k p r : ℕ) → k < 180 → r < 600000000 → IsPart p r → p < 4294967296
+    → unsigned_abs ((degree_sine k +ℤ int_shr (pos p *ℤ degree_rise k) 32) -ℤ isin_of (600000000 * k + r)) ≤ 38100
+near-first k p r h small part in_degree =
+    let u = degree_rise k in
+    let gain = int_shr (pos p *ℤ u) 32 in
     let w = unsigned_abs (rise k +ℤ pos 17452406) in
     let g = unsigned_abs (gain +ℤ pos 17452406) in
-    let is_w : u +ℤ pos 17452406 ≡ pos w = ap (λ z. z +ℤ pos 17452406) is_rise ∙ raised (rise k) 17452406 (rise-small k h) in
-    let is_g = raised gain 17452406 little in
-    let cut = cut-rising (pos p *ℤ u) gain (p * 17452406) (p * w) g is_gain (multiplied p 17452406 w u is_w) is_g in
+    let is_w : u +ℤ pos 17452406 ≡ pos w = ap (λ z. z +ℤ pos 17452406) (degree_rise-first k h) ∙ raised (rise k) 17452406 (rise-small k h) in
+    let is_g = raised gain 17452406 (gain-small p u in_degree (degree_rise-small k (omega (arith, h)))) in
+    let cut = cut-rising (pos p *ℤ u) gain (p * 17452406) (p * w) g refl (multiplied p 17452406 w u is_w) is_g in
     let near = rising-near p r w _ _ _ g (spot-at k p r h small part) cut.0 cut.1 in
     let half = isin_of-first (600000000 * k + r) (omega arith) ∙ half_of-num (600000000 * k + r) (omega arith) in
-    near-rising _ _ g sine gain (isin_of (600000000 * k + r)) (is_sine ∙ sym (sine_at-size k)) is_g half near
+    near-rising _ _ g (degree_sine k) gain (isin_of (600000000 * k + r)) (degree_sine-first k h ∙ sym (sine_at-size k)) is_g half near
 
 -- and on the second
-pub near-second : (k p r : ℕ) (sine u gain : ℤ) → k < 180 → r < 600000000 → IsPart p r → sine ≡ neg_ℤ (sine_at (pos k)) → u ≡ neg_ℤ (rise k)
-    → gain ≡ int_shr (pos p *ℤ u) 32 → unsigned_abs gain ≤ 17452406 → unsigned_abs ((sine +ℤ gain) -ℤ isin_of (600000000 * (k + 180) + r)) ≤ 38100
-near-second k p r sine u gain h small part is_sine is_rise is_gain little =
+near-second : (k p r : ℕ) → k < 180 → r < 600000000 → IsPart p r → p < 4294967296
+    → unsigned_abs ((degree_sine (k + 180) +ℤ int_shr (pos p *ℤ degree_rise (k + 180)) 32) -ℤ isin_of (600000000 * (k + 180) + r)) ≤ 38100
+near-second k p r h small part in_degree =
+    let u = degree_rise (k + 180) in
+    let gain = int_shr (pos p *ℤ u) 32 in
     let w = unsigned_abs (rise k +ℤ pos 17452406) in
     let back = 34904812 - w in
     let g = unsigned_abs (gain +ℤ pos 17452406) in
     let up = raised (rise k) 17452406 (rise-small k h) in
     let spot = spot-at k p r h small part in
     let few : w ≤ 34904812 = spot.few in
-    let is_back : u +ℤ pos 17452406 ≡ pos back = turned-rise u (rise k) w back is_rise up (omega (arith, few)) in
-    let is_g = raised gain 17452406 little in
-    let cut = cut-rising (pos p *ℤ u) gain (p * 17452406) (p * back) g is_gain (multiplied p 17452406 back u is_back) is_g in
+    let is_back : u +ℤ pos 17452406 ≡ pos back = turned-rise u (rise k) w back (degree_rise-second k) up (omega (arith, few)) in
+    let is_g = raised gain 17452406 (gain-small p u in_degree (degree_rise-small (k + 180) (omega (arith, h)))) in
+    let cut = cut-rising (pos p *ℤ u) gain (p * 17452406) (p * back) g refl (multiplied p 17452406 back u is_back) is_g in
     let both : p * back + p * w ≡ p * 34904812 =
     (let sum : back + w ≡ 34904812 = omega (arith, few) in (let all = ap (λ n. p * n) sum in omega (arith, all))) in
     let under = cut.0 in
@@ -232,12 +253,35 @@ near-second k p r sine u gain h small part is_sine is_rise is_gain little =
     let near = falling-near p r w _ _ _ g spot (omega (arith, under, both)) (omega (arith, over, both)) in
     let place : 600000000 * (k + 180) + r - 108000000000 ≡ 600000000 * k + r = omega arith in
     let half = isin_of-second (600000000 * (k + 180) + r) (omega arith) ∙ ap (λ i. neg_ℤ (half_of i)) place ∙ ap neg_ℤ (half_of-num (600000000 * k + r) (omega arith)) in
-    near-falling _ _ g sine gain (isin_of (600000000 * (k + 180) + r)) (is_sine ∙ ap neg_ℤ (sym (sine_at-size k))) is_g half near
+    near-falling _ _ g (degree_sine (k + 180)) gain (isin_of (600000000 * (k + 180) + r)) (degree_sine-second k ∙ ap neg_ℤ (sym (sine_at-size k))) is_g half near
+
+-- at a part of a turn
+pub chord-near : (turn : ℕ) → turn < 18446744073709551616 → unsigned_abs (chord_sine_of turn -ℤ isin_of (units_of turn)) ≤ 38100
+unfolding chord_sine_of
+chord-near turn in_turn =
+    let k = turn * 360 / 18446744073709551616 in
+    let p = turn * 360 % 18446744073709551616 / 4294967296 in
+    let r = turn * 360 % 18446744073709551616 * 600000000 / 18446744073709551616 in
+    let in_circle : k < 360 = omega (arith, in_turn) in
+    let in_degree : p < 4294967296 = omega arith in
+    let small : r < 600000000 = omega arith in
+    let part : IsPart p r = record { least = omega arith; most = omega arith } in
+    let place : 600000000 * k + r ≡ units_of turn = omega arith in
+    rw (← place)
+    (elim (cases_lt k 180) [
+      | inl first ↦ near-first k p r first small part in_degree
+      | inr second ↦ (let back : (k - 180) + 180 ≡ k = omega (arith, second) in
+          rw back at (near-second (k - 180) p r (omega (arith, in_circle)) small part in_degree))
+    ])
+
+pub chord-size : (turn : ℕ) → turn < 18446744073709551616 → unsigned_abs (chord_sine_of turn) ≤ 1000038100
+chord-size turn in_turn =
+    near-size (chord_sine_of turn) (isin_of (units_of turn)) (chord-near turn in_turn) (isin_of_size (units_of turn) (omega (arith, in_turn)))
+  where
+    near-size : (z sine : ℤ) → unsigned_abs (z -ℤ sine) ≤ 38100 → unsigned_abs sine ≤ 1000000000 → unsigned_abs z ≤ 1000038100
+    near-size z sine near most = omega (arith, ints, near, most)
 
 -- the sum in the code
 pub chord-sum : (here gain sine : ℤ) → here ≡ sine → unsigned_abs gain ≤ 17452406 → unsigned_abs sine ≤ 1000000000
     → to_z w64 (of_z w64 (to_z w64 (of_z w64 here) +ℤ to_z w64 (of_z w64 gain))) ≡ sine +ℤ gain
 chord-sum here gain sine is_here small most = omega (arith, ints)
-
-pub near-size : (z sine : ℤ) → unsigned_abs (z -ℤ sine) ≤ 38100 → unsigned_abs sine ≤ 1000000000 → unsigned_abs z ≤ 1000038100
-near-size z sine near most = omega (arith, ints, near, most)

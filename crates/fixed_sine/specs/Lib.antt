@@ -3,4 +3,5 @@ pub mod Table
 pub mod Sine
 pub mod Rate
 pub mod Turn
+pub mod Chords
 pub mod Workings

@@ -9,7 +9,3 @@ units_of turn = turn * circle / 2 ^ 64
 -- the first part that lies past so many units
 abbrev pub turn_of : ℕ → ℕ
 turn_of units = units * 2 ^ 64 / circle + 1
-
--- how far the sine by the chord over a degree may be from the sine, in billionths
-abbrev pub chord_error : ℕ
-chord_error = 38100

@@ -1,7 +1,7 @@
 //! The chords of the sine over whole degrees, all round the circle.
 
-ghost use Rattle.std.specs.Prelude.{◌≡◌, ◌<◌, ◌≤◌, ◌-◌, pos, neg_ℤ, unsigned_abs};
-ghost use Rattle.fixed_sine.specs.Table.{sine_at, rise};
+ghost use Rattle.std.specs.Prelude.{◌≡◌, ◌<◌, ◌≤◌, unsigned_abs};
+ghost use Rattle.fixed_sine.specs.Chords.{degree_sine, degree_rise};
 
 /// A chord of the sine over a degree.
 #[derive(Clone, Copy)]
@@ -379,8 +379,8 @@ static CHORDS: [(i32, i32); 360] = [
 /// The chord over the degree that begins at so many degrees.
 pub fn chord_at(degrees: usize) -> Chord
     requires { degrees < 360 }
-    ensures first { degrees < 180 → (result.sine ≡ sine_at (pos degrees)) × (result.rise ≡ rise degrees) }
-    ensures second { 180 ≤ degrees → (result.sine ≡ neg_ℤ (sine_at (pos (degrees - 180)))) × (result.rise ≡ neg_ℤ (rise (degrees - 180))) }
+    ensures sine { result.sine ≡ degree_sine degrees }
+    ensures rise { result.rise ≡ degree_rise degrees }
     ensures sine_size { unsigned_abs result.sine ≤ 1000000000 }
     ensures rise_size { unsigned_abs result.rise ≤ 17452406 }
 {

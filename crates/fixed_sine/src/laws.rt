@@ -6,6 +6,8 @@ ghost use Rattle.fixed_sine.specs.Circle.{circle};
 ghost use Rattle.fixed_sine.specs.Table.{sine_at, rise, correction};
 ghost use Rattle.fixed_sine.specs.Sine.{isin_of, icos_of};
 ghost use Rattle.fixed_sine.specs.Rate.{step_of, RateLaw};
+ghost use Rattle.fixed_sine.specs.Turn.{units_of};
+ghost use Rattle.fixed_sine.specs.Chords.{chord_error, chord_sine_of};
 
 /// Two checks of the whole table: no degree gains more than 17,454,000 with a quarter of its
 /// correction, and the squares of the sines of `k` and `90 - k` degrees sum to nearly 10^18.
@@ -26,6 +28,12 @@ pub fn sine_sizes()
 /// From any place the sine changes by at most the step, whatever the speed.
 pub fn sine_rates()
     ensures { (w : ℕ) → RateLaw w }
+{}
+
+/// The sine by a chord is at most 38,100 from the sine.
+pub fn chords_are_near()
+    ensures { (turn : ℕ) → turn < 2 ^ 64
+        → unsigned_abs (chord_sine_of turn -ℤ isin_of (units_of turn)) ≤ chord_error }
 {}
 
 /// Values of the definitions at places of their own.
@@ -56,4 +64,17 @@ pub fn worked_rows()
     ensures below_zero { int_rem_euclid (negsuc 0) (pos circle) ≡ pos 215999999999 }
     ensures turn_back { int_rem_euclid (negsuc 215999999999) (pos circle) ≡ pos 0 }
     ensures least_number { int_rem_euclid (negsuc (2 ^ 127 - 1)) (pos circle) ≡ pos 148115894272 }
+{}
+
+/// Sines by chords at parts of a turn, among them one that is nearly as far off as any may be.
+#[tactic(auto, unfolding(crate::specs::Table::sines, crate::specs::Table::sine_at, crate::specs::Chords::degree_sine, crate::specs::Chords::degree_rise, crate::specs::Chords::chord_sine_of))]
+pub fn worked_chords()
+    ensures at_zero { chord_sine_of 0 ≡ pos 0 }
+    ensures forty_five_and_a_half { chord_sine_of 2331463487093846108 ≡ pos 713223290 }
+    ensures part_before_ninety { chord_sine_of (2 ^ 62 - 1) ≡ pos 999999999 }
+    ensures ninety { chord_sine_of (2 ^ 62) ≡ pos 1000000000 }
+    ensures ninety_and_a_half { chord_sine_of 4637306496307540060 ≡ pos 999923847 }
+    ensures two_hundred_and_a_quarter { chord_sine_of 10261001391000938087 ≡ negsuc 346107094 }
+    ensures two_hundred_seventy { chord_sine_of (3 * 2 ^ 62) ≡ negsuc 999999999 }
+    ensures last_part { chord_sine_of (2 ^ 64 - 1) ≡ negsuc 0 }
 {}

@@ -1,12 +1,13 @@
-//! Sine and cosine by chords, sooner and not exactly.
+//! The sine by chords, sooner and not exactly.
 
-ghost use Rattle.std.specs.Prelude.{◌≡◌, ◌+◌, ◌*◌, ◌/◌, ◌%◌, ◌^◌, ◌<◌, ◌≤◌, pos, ◌-ℤ◌, ◌*ℤ◌, unsigned_abs};
+ghost use Rattle.std.specs.Prelude.{◌≡◌, ◌*◌, ◌/◌, ◌%◌, ◌^◌, ◌≤◌, pos, ◌-ℤ◌, ◌*ℤ◌, unsigned_abs};
 ghost use Rattle.std.specs.Int.{int_shr};
-ghost use Rattle.fixed_sine.specs.Sine.{isin_of, icos_of};
-ghost use Rattle.fixed_sine.specs.Turn.{units_of, chord_error};
+ghost use Rattle.fixed_sine.specs.Sine.{isin_of};
+ghost use Rattle.fixed_sine.specs.Turn.{units_of};
+ghost use Rattle.fixed_sine.specs.Chords.{chord_error, chord_sine_of};
 
 use crate::chords::chord_at;
-use crate::turn::{QUARTER_TURN, TURN};
+use crate::turn::TURN;
 
 /// How far the sine by a chord may be from the sine, in billionths.
 pub const CHORD_ERROR: i64 = 38_100;
@@ -18,22 +19,13 @@ const PART: u128 = 1 << 32;
 /// the sine there.
 #[inline]
 pub fn chord_sine(turn: u64) -> i64
+    ensures value { result ≡ chord_sine_of turn }
     ensures near { unsigned_abs (result -ℤ isin_of (units_of turn)) ≤ chord_error }
     ensures size { unsigned_abs result ≤ 1000038100 }
 {
     let spot = chord_spot(turn);
     let chord = chord_at(spot.degrees);
     i64::from(chord.sine) + gain_over_chord(spot.part, chord.rise)
-}
-
-/// The cosine by the chord of the degree a quarter further on, at most [`CHORD_ERROR`] from the
-/// cosine there.
-#[inline]
-pub fn chord_cosine(turn: u64) -> i64
-    ensures near { unsigned_abs (result -ℤ icos_of (units_of turn)) ≤ chord_error }
-    ensures size { unsigned_abs result ≤ 1000038100 }
-{
-    chord_sine(turn.wrapping_add(QUARTER_TURN))
 }
 
 /// A place on the circle: whole degrees, and 2^32nds of one past them.

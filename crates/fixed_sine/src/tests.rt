@@ -73,7 +73,8 @@ fn sines_and_cosines_of_turns(rt: HostRuntime) {
         assert!(rt; place < CIRCLE as u64);
         let turn = turn_of(place);
         assert_eq!(rt; turn_sine(turn), sine, "the sine at {place}");
-        assert_eq!(rt; turn_cosine(turn), cosine, "the cosine at {place}");
+        let ahead = turn.wrapping_add(QUARTER_TURN);
+        assert_eq!(rt; turn_sine(ahead), cosine, "the cosine at {place}");
     }
 }
 
@@ -95,8 +96,9 @@ fn sines_and_cosines_by_chords(rt: HostRuntime) {
         assert!(rt; place < CIRCLE as u64);
         let turn = turn_of(place);
         assert_eq!(rt; chord_sine(turn), sine, "the sine by a chord at {place}");
+        let ahead = turn.wrapping_add(QUARTER_TURN);
         assert_eq!(rt;
-            chord_cosine(turn),
+            chord_sine(ahead),
             cosine,
             "the cosine by a chord at {place}"
         );

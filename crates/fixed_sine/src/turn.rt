@@ -6,7 +6,7 @@
 ghost use Rattle.std.specs.Prelude.{◌≡◌, ◌+◌, ◌*◌, ◌/◌, ◌%◌, ◌^◌, ◌≤◌, ◌<◌, pos, ◌+ℤ◌, ◌-ℤ◌, ◌*ℤ◌, unsigned_abs};
 ghost use Rattle.std.specs.Int.{int_shr};
 ghost use Rattle.fixed_sine.specs.Circle.{circle, degree};
-ghost use Rattle.fixed_sine.specs.Sine.{isin_of, icos_of};
+ghost use Rattle.fixed_sine.specs.Sine.{isin_of};
 ghost use Rattle.fixed_sine.specs.Turn.{turn_of, units_of};
 
 use crate::circle::CIRCLE;
@@ -52,15 +52,6 @@ pub fn turn_sine(turn: u64) -> i64
     } else {
         i64::from(degree.sine) + gain.whole
     }
-}
-
-/// The cosine at the unit in which a part of a turn lies.
-#[inline]
-pub fn turn_cosine(turn: u64) -> i64
-    ensures value { result ≡ icos_of (units_of turn) }
-    ensures size { unsigned_abs result ≤ 1000000000 }
-{
-    turn_sine(turn.wrapping_add(QUARTER_TURN))
 }
 
 /// A place on the circle: whole degrees, and units past them.

@@ -56,6 +56,8 @@ impl Curve for Hills {
 
     ghost meaning = { λ h. hills h.first.at h.first.value h.second.at h.second.value h.rate };
 
+    ghost near = { λ h. (hills h.first.at h.first.value h.second.at h.second.value h.rate).track.value };
+
     ghost error = { λ _. 0 };
 
     ghost count = { λ h. h.asked };
@@ -81,8 +83,8 @@ impl Curve for Hills {
         self.value(m)
     }
 
-    fn exact_value(&self, _m: i64, near: i128) -> i128 {
-        near
+    fn exact_value(&self, _m: i64, told: i128) -> i128 {
+        told
     }
 
     fn error(&self) -> i128 {

@@ -2,6 +2,7 @@
 
 ghost use Rattle.std.specs.Prelude.{◌≡◌, ◌*◌, pos, true, unsigned_abs};
 ghost use Rattle.std.specs.Bool.{OnTrue};
+ghost use Rattle.station_curve.specs.Near.{near_level_of};
 ghost use Rattle.station_curve.specs.Errors.{level_error_of};
 ghost use Rattle.station_curve.specs.Limits.{IsGentle};
 ghost use Rattle.rate_bound.specs.Scale.{IsScale};
@@ -90,11 +91,13 @@ impl<'a> MarkCurve<'a> {
 }
 
 impl<'a> Curve for MarkCurve<'a> {
-    ghost use Rattle.rate_bound.specs.Meanings.{mark_meaning};
+    ghost use Rattle.rate_bound.specs.Meanings.{over_mark, mark_meaning};
     ghost use Rattle.rate_bound.specs.Workings.MarkLaw.{mark_lawful};
     ghost use Rattle.rate_bound.specs.Workings.Narrow.{level_narrow};
 
     ghost meaning = { λ c. mark_meaning c.version c.station.now c.times c.plus c.mark c.slack };
+
+    ghost near = { λ c m. over_mark c.times c.plus c.mark (near_level_of c.station.now m) };
 
     ghost error = { λ c. unsigned_abs c.times * level_error_of c.station.now };
 
@@ -122,7 +125,7 @@ impl<'a> Curve for MarkCurve<'a> {
         over_mark(self.times, self.plus, self.mark, self.station.near_level(m))
     }
 
-    fn exact_value(&self, m: i64, _near: i128) -> i128 {
+    fn exact_value(&self, m: i64, _told: i128) -> i128 {
         over_mark(self.times, self.plus, self.mark, self.station.level(m))
     }
 

@@ -1,6 +1,7 @@
 //! The slope of a station as a curve.
 
 ghost use Rattle.std.specs.Prelude.{◌≡◌, pos};
+ghost use Rattle.station_curve.specs.Near.{near_slope_of};
 ghost use Rattle.station_curve.specs.Errors.{slope_error_of};
 ghost use Rattle.station_curve.specs.Limits.{IsGentle};
 ghost use Rattle.rate_bound.specs.declared.version.Version.TheVariants.{First, Second};
@@ -65,6 +66,8 @@ impl<'a> Curve for TurnCurve<'a> {
 
     ghost meaning = { λ c. turn_meaning c.version c.station.now };
 
+    ghost near = { λ c. near_slope_of c.station.now };
+
     ghost error = { λ c. slope_error_of c.station.now };
 
     ghost count = { λ c. c.evaluations };
@@ -91,7 +94,7 @@ impl<'a> Curve for TurnCurve<'a> {
         self.station.near_slope(m)
     }
 
-    fn exact_value(&self, m: i64, _near: i128) -> i128 {
+    fn exact_value(&self, m: i64, _told: i128) -> i128 {
         self.station.slope(m)
     }
 

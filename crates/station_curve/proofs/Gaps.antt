@@ -36,7 +36,7 @@ scaled_gap (negsuc x) b c m near =
     rw (turned x b, turned x c) (turned_gap (pos (suc x) *ℤ b) (pos (suc x) *ℤ c) (suc x * m) (gap_times (suc x) b c m near))
 
 -- sums whose parts are near each other
-regrouped : (a x b y : ℤ) → (a +ℤ x) -ℤ (b +ℤ y) ≡ (a -ℤ b) +ℤ (x -ℤ y)
+pub regrouped : (a x b y : ℤ) → (a +ℤ x) -ℤ (b +ℤ y) ≡ (a -ℤ b) +ℤ (x -ℤ y)
 regrouped a x b y = omega (arith, ints)
 
 pub sums_gap : (f g : Harmonic → ℤ) (rate : Harmonic → ℕ) → ((h : Harmonic) → unsigned_abs (f h -ℤ g h) ≤ rate h) → (hs : List Harmonic) (a b : ℤ) (c : ℕ) → unsigned_abs (a -ℤ b) ≤ c → unsigned_abs (fold (λ sum h. sum +ℤ f h) a hs -ℤ fold (λ sum h. sum +ℤ g h) b hs) ≤ fold (λ sum h. sum + rate h) c hs

@@ -13,6 +13,7 @@ pub mod Whole
 mod Around
 mod Answering
 pub mod Gaps
+pub mod GreatestYear
 pub mod Nearly
 pub mod YearChanges
 pub mod Steps

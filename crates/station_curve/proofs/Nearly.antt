@@ -1,106 +1,119 @@
 -- How far levels and slopes by chords are from those of a tide.
-use Rattle.std.proofs.Common.{◌≡◌, ℕ, zero, suc, ◌*◌, ◌<◌, ◌≤◌, List, [], ◌∷◌, length, get_or, take, ◌+◌, sym, ap, subst, ℤ, pos, ◌+ℤ◌, ◌-ℤ◌, ◌*ℤ◌, arith, refl}
-use Rattle.std.specs.Prelude.{unsigned_abs, fold, max, map, All}
-use Rattle.std.specs.Int.{int_max}
-use Rattle.std.proofs.lemmas.Int.{ints, clamps}
-use Rattle.std.proofs.lemmas.List.Folds.{fold-map}
-use Rattle.std.proofs.lemmas.List.Sums.{fold_more}
-use Rattle.fixed_sine.specs.Turn.{chord_error}
-use Rattle.year_blend.specs.declared.parts.Place.TheVariants.{Plain}
+use Rattle.std.proofs.Common.{◌≡◌, ℕ, ◌*◌, ◌<◌, ◌≤◌, List, [], ◌∷◌, length, ◌+◌, sym, ap, ◌^◌, ℤ, pos, ◌+ℤ◌, ◌-ℤ◌, ◌*ℤ◌, arith, refl, lit<}
+use Rattle.std.specs.Prelude.{unsigned_abs, fold}
+use Rattle.std.proofs.lemmas.Int.{ints, unsigned_abs-mul}
+use mir.Syntax.{w128}
+use mir.Val.{to_z, of_z}
+use Rattle.fixed_sine.specs.Sine.{isin_of, icos_of}
+use Rattle.fixed_sine.specs.Turn.{units_of}
+use Rattle.fixed_sine.specs.Chords.{chord_error, chord_sine_of}
+use Rattle.fixed_sine.proofs.ChordLemmas.{chord-near}
+use Rattle.year_blend.specs.declared.parts.Place.{Place}
+use Rattle.year_blend.specs.declared.parts.Place.TheVariants.{Plain, Blend}
+use Rattle.year_blend.specs.Places.{start_of}
 use Rattle.year_blend.specs.Weights.{total_weight}
-use Rattle.station_curve.specs.declared.years.Year.{Year}
-use Rattle.station_curve.specs.Waves.{Harmonic, Tide, amount_of, steepness_of}
+use Rattle.station_curve.specs.Waves.{Harmonic, Tide, phase_at, height_at, fall_at, heights_of, falls_of, amount_of, steepness_of}
+use Rattle.station_curve.specs.Levels.{minutes_into, waves_in, place_in_tide, year_level, year_slope, level_of, slope_of}
+use Rattle.station_curve.specs.Near.{turn_after, turn_ahead, near_height_at, near_fall_at, near_heights_of, near_falls_of, near_year_level, near_year_slope, sooner, near_level_of, near_slope_of}
 use Rattle.station_curve.specs.Errors.{greatest_of, level_error_of, slope_error_of}
-use Rattle.station_curve.specs.Levels.{waves_in, place_in_tide, year_level, year_slope, level_of, slope_of}
+use Rattle.station_curve.specs.Workings.Nearness.{IsNear, IsNearPlace}
 use Rattle.station_curve.proofs.Blending.{level_plain, slope_plain}
-use Rattle.station_curve.proofs.Gaps.{scaled_gap}
+use Rattle.station_curve.proofs.Gaps.{scaled_gap, turned_gap, regrouped}
+use Rattle.station_curve.proofs.GreatestYear.{greatest-each}
+use Rattle.station_curve.proofs.Products.{cast_small, abs_below, abs_plus, abs_times}
+use Rattle.station_curve.proofs.Turning.{sine_after, cosine_ahead, turn_after-below, turn_ahead-below}
+use Rattle.station_curve.proofs.YearChanges.{same_mean}
 
--- the greatest value of any year
-fold-least : (value : List Harmonic → ℕ) (years : List (List Harmonic)) (a : ℕ) → a ≤ fold (λ most hs. max most (value hs)) a years
-fold-least value [] a = omega arith
-fold-least value (y ∷ ys) a = let rest = fold-least value ys (max a (value y)) in omega (arith, rest)
+-- waves by chords
+sums_near : (most : ℕ) (f g : Harmonic → ℤ) (size : Harmonic → ℕ) → ((h : Harmonic) → unsigned_abs (f h -ℤ g h) ≤ size h * most) → (hs : List Harmonic) (a b : ℤ) (c : ℕ)
+    → unsigned_abs (a -ℤ b) ≤ most * c
+    → unsigned_abs (fold (λ sum h. sum +ℤ f h) a hs -ℤ fold (λ sum h. sum +ℤ g h) b hs) ≤ most * fold (λ sum h. sum + size h) c hs
+sums_near most f g size each [] a b c near = near
+sums_near most f g size each (h ∷ hs) a b c near =
+    let all : most * c + size h * most ≡ most * (c + size h) = omega arith in
+    sums_near most f g size each hs (a +ℤ f h) (b +ℤ g h) (c + size h)
+    (rw (regrouped a (f h) b (g h)) (rw all at (abs_plus (a -ℤ b) (f h -ℤ g h) (most * c) (size h * most) near (each h))))
 
-fold-each : (value : List Harmonic → ℕ) (years : List (List Harmonic)) (a k : ℕ) (d : List Harmonic) → k < length years
-    → value (get_or years k d) ≤ fold (λ most hs. max most (value hs)) a years
-fold-each value [] a k d h = absurd (omega (arith, h))
-fold-each value (y ∷ ys) a zero d h = let rest = fold-least value ys (max a (value y)) in omega (arith, rest)
-fold-each value (y ∷ ys) a (suc k) d h = fold-each value ys (max a (value y)) k d (omega (arith, h))
+chord_gap : (turn : ℕ) (factor sine : ℤ) → turn < 18446744073709551616 → isin_of (units_of turn) ≡ sine
+    → unsigned_abs ((factor *ℤ chord_sine_of turn) -ℤ (factor *ℤ sine)) ≤ unsigned_abs factor * chord_error
+chord_gap turn factor sine in_turn is =
+    scaled_gap factor (chord_sine_of turn) sine chord_error (rw (← is) (chord-near turn in_turn))
 
-fold-most : (value : List Harmonic → ℕ) (years : List (List Harmonic)) (a most : ℕ) → a ≤ most
-    → All (λ hs. value hs ≤ most) years → fold (λ most hs. max most (value hs)) a years ≤ most
-fold-most value [] a most h all = h
-fold-most value (y ∷ ys) a most h all =
-    let here : value y ≤ most = all 0 y (omega arith) in
-    fold-most value ys (max a (value y)) most (omega (arith, h, here)) (λ k d below. all (suc k) d (omega (arith, below)))
+near_height_gap : (t : ℕ) → t ≤ 600000 → (h : Harmonic) → unsigned_abs (near_height_at t h -ℤ height_at t h) ≤ unsigned_abs h.amplitude * chord_error
+near_height_gap t few h = chord_gap (turn_ahead h t) h.amplitude (icos_of (phase_at h t)) (turn_ahead-below h t) (cosine_ahead h t few)
 
-pub greatest-each : (value : List Harmonic → ℕ) (years : List (List Harmonic)) (k : ℕ) (d : List Harmonic) → k < length years
-    → value (get_or years k d) ≤ greatest_of value years
-unfolding greatest_of
-greatest-each value years k d h = fold-each value years 0 k d h
+near_fall_gap : (t : ℕ) → t ≤ 600000 → (h : Harmonic) → unsigned_abs (near_fall_at t h -ℤ fall_at t h) ≤ unsigned_abs h.amplitude * h.speed * chord_error
+near_fall_gap t few h =
+    rw (unsigned_abs-mul h.amplitude (pos h.speed)) at (chord_gap (turn_after h t) (h.amplitude *ℤ pos h.speed) (isin_of (phase_at h t)) (turn_after-below h t) (sine_after h t few))
 
-pub greatest-most : (value : List Harmonic → ℕ) (years : List (List Harmonic)) (most : ℕ) → All (λ hs. value hs ≤ most) years
-    → greatest_of value years ≤ most
-unfolding greatest_of
-greatest-most value years most all = fold-most value years 0 most (omega arith) all
+few_minutes : (tide : Tide) (m : ℤ) (year : ℕ) → IsNear tide.first_year year m → minutes_into tide.first_year year m ≤ 600000
+few_minutes tide m year near = abs_below ((m -ℤ start_of tide.first_year year) +ℤ pos 60) 600000 near.least near.most
 
--- over the years as they are kept
-unfoldable pub greatest_so_far : (List Harmonic → ℕ) → List Year → ℕ
-greatest_so_far value years = fold (λ most y. max most (value y.waves.items)) 0 years
+year_level_near : (tide : Tide) (m : ℤ) (year : ℕ) → IsNear tide.first_year year m
+    → unsigned_abs (near_year_level tide m year -ℤ year_level tide m year) ≤ chord_error * amount_of (waves_in tide year)
+unfolding near_year_level year_level
+year_level_near tide m year near =
+    let t = minutes_into tide.first_year year m in
+    rw (same_mean (pos (10 ^ 9) *ℤ tide.datum) (near_heights_of t (waves_in tide year)) (heights_of t (waves_in tide year)))
+    (sums_near chord_error (near_height_at t) (height_at t) (λ h. unsigned_abs h.amplitude) (near_height_gap t (few_minutes tide m year near)) (waves_in tide year) (pos 0) (pos 0) 0 (omega arith))
 
-pub greatest-kept : (value : List Harmonic → ℕ) (years : List Year)
-    → greatest_so_far value years ≡ greatest_of value (map (λ y. y.waves.items) years)
-unfolding greatest_of greatest_so_far
-greatest-kept value years = sym (fold-map (λ most hs. max most (value hs)) (λ y. y.waves.items) 0 years)
+year_slope_near : (tide : Tide) (m : ℤ) (year : ℕ) → IsNear tide.first_year year m
+    → unsigned_abs (near_year_slope tide m year -ℤ year_slope tide m year) ≤ chord_error * steepness_of (waves_in tide year)
+unfolding near_year_slope year_slope
+year_slope_near tide m year near =
+    let t = minutes_into tide.first_year year m in
+    let hs = waves_in tide year in
+    turned_gap (near_falls_of t hs) (falls_of t hs) (chord_error * steepness_of hs)
+    (sums_near chord_error (near_fall_at t) (fall_at t) (λ h. unsigned_abs h.amplitude * h.speed) (near_fall_gap t (few_minutes tide m year near)) hs (pos 0) (pos 0) 0 (omega arith))
 
-pub greatest-none : (value : List Harmonic → ℕ) → pos 0 ≡ pos (greatest_so_far value [])
-unfolding greatest_so_far
-greatest-none value = refl
+-- by the place of a minute
+pub near_level_of-plain : (tide : Tide) (m : ℤ) (year : ℕ) → Plain year ≡ place_in_tide tide m → near_level_of tide m ≡ pos total_weight *ℤ near_year_level tide m year
+unfolding near_level_of
+near_level_of-plain tide m year at = ap (sooner (near_year_level tide m) (level_of tide m)) (sym at)
 
-pub greatest-more : (value : List Harmonic → ℕ) (years : List Year) (i : ℕ) (y : Year) (most here more : ℤ) → i < length years
-    → y ≡ get_or years i y → most ≡ pos (greatest_so_far value (take i years)) → here ≡ pos (value y.waves.items)
-    → more ≡ int_max most here → more ≡ pos (greatest_so_far value (take (i + 1) years))
-unfolding greatest_so_far
-greatest-more value years i y most here more inside at is_most is_here is_more =
-    let step = fold_more (λ most (y : Year). max most (value y.waves.items)) 0 years i y inside in
-    let last : value (get_or years i y).waves.items ≡ value y.waves.items = ap (λ (y : Year). value y.waves.items) (sym at) in
-    omega (arith, ints, clamps, step, last, is_most, is_here, is_more)
+pub near_level_of-blend : (tide : Tide) (m : ℤ) (year : ℕ) (x : ℤ) → Blend year x ≡ place_in_tide tide m → near_level_of tide m ≡ level_of tide m
+unfolding near_level_of
+near_level_of-blend tide m year x at = ap (sooner (near_year_level tide m) (level_of tide m)) (sym at)
 
--- by all of the weight
-in_error : (value : ℤ) (near exact : ℤ) (size most : ℕ) → unsigned_abs (near -ℤ exact) ≤ chord_error * size → size ≤ most
-    → value ≡ pos total_weight *ℤ near → unsigned_abs (value -ℤ (pos total_weight *ℤ exact)) ≤ total_weight * (chord_error * most)
-in_error value near exact size most close small is_value =
+pub near_slope_of-plain : (tide : Tide) (m : ℤ) (year : ℕ) → Plain year ≡ place_in_tide tide m → near_slope_of tide m ≡ pos total_weight *ℤ near_year_slope tide m year
+unfolding near_slope_of
+near_slope_of-plain tide m year at = ap (sooner (near_year_slope tide m) (slope_of tide m)) (sym at)
+
+pub near_slope_of-blend : (tide : Tide) (m : ℤ) (year : ℕ) (x : ℤ) → Blend year x ≡ place_in_tide tide m → near_slope_of tide m ≡ slope_of tide m
+unfolding near_slope_of
+near_slope_of-blend tide m year x at = ap (sooner (near_year_slope tide m) (slope_of tide m)) (sym at)
+
+-- an error of a year within the greatest one, by all of the weight
+in_error : (near exact : ℤ) (size most : ℕ) → unsigned_abs (near -ℤ exact) ≤ chord_error * size → size ≤ most
+    → unsigned_abs ((pos total_weight *ℤ near) -ℤ (pos total_weight *ℤ exact)) ≤ total_weight * (chord_error * most)
+in_error near exact size most close small =
     let gap = scaled_gap (pos total_weight) near exact (chord_error * size) close in
-    rw is_value (omega (arith, gap, small))
-
-pub near_level_plain : (tide : Tide) (m : ℤ) (year : ℕ) (near value : ℤ) → Plain year ≡ place_in_tide tide m
-    → year < length tide.years → unsigned_abs (near -ℤ year_level tide m year) ≤ chord_error * amount_of (waves_in tide year)
-    → value ≡ pos total_weight *ℤ near → unsigned_abs (value -ℤ level_of tide m) ≤ level_error_of tide
-unfolding level_error_of
-near_level_plain tide m year near value at in_years close is_value =
-    rw (← level_plain tide m year (year_level tide m year) (pos total_weight *ℤ year_level tide m year) at refl refl)
-    (in_error value near (year_level tide m year) (amount_of (waves_in tide year)) (greatest_of amount_of tide.years) close (greatest-each amount_of tide.years year [] in_years) is_value)
-
-pub near_slope_plain : (tide : Tide) (m : ℤ) (year : ℕ) (near value : ℤ) → Plain year ≡ place_in_tide tide m
-    → year < length tide.years → unsigned_abs (near -ℤ year_slope tide m year) ≤ chord_error * steepness_of (waves_in tide year)
-    → value ≡ pos total_weight *ℤ near → unsigned_abs (value -ℤ slope_of tide m) ≤ slope_error_of tide
-unfolding slope_error_of
-near_slope_plain tide m year near value at in_years close is_value =
-    rw (← slope_plain tide m year (year_slope tide m year) (pos total_weight *ℤ year_slope tide m year) at refl refl)
-    (in_error value near (year_slope tide m year) (steepness_of (waves_in tide year)) (greatest_of steepness_of tide.years) close (greatest-each steepness_of tide.years year [] in_years) is_value)
+    omega (arith, gap, small)
 
 -- the exact value is near itself
-pub no_gap : (value exact : ℤ) (n : ℕ) → value ≡ exact → unsigned_abs (value -ℤ exact) ≤ n
+no_gap : (value exact : ℤ) (n : ℕ) → value ≡ exact → unsigned_abs (value -ℤ exact) ≤ n
 no_gap value exact n same = omega (arith, ints, same)
 
-pub mean_added : (mean near exact : ℤ) (n : ℕ) → unsigned_abs (near -ℤ exact) ≤ n → unsigned_abs ((mean +ℤ near) -ℤ (mean +ℤ exact)) ≤ n
-mean_added mean near exact n close = omega (arith, ints, close)
+pub level_near : (tide : Tide) (m : ℤ) (p : Place) → p ≡ place_in_tide tide m → IsNearPlace tide.first_year (length tide.years) m p
+    → unsigned_abs (near_level_of tide m -ℤ level_of tide m) ≤ level_error_of tide
+unfolding level_error_of
+level_near tide m (Plain year) at near =
+    rw (near_level_of-plain tide m year at, ← level_plain tide m year (year_level tide m year) (pos total_weight *ℤ year_level tide m year) at refl refl)
+    (in_error (near_year_level tide m year) (year_level tide m year) (amount_of (waves_in tide year)) (greatest_of amount_of tide.years) (year_level_near tide m year near.1) (greatest-each amount_of tide.years year [] near.0))
+level_near tide m (Blend year x) at near = no_gap (near_level_of tide m) (level_of tide m) _ (near_level_of-blend tide m year x at)
 
-pub whole_error : (n : ℕ) → pos (total_weight * chord_error) *ℤ pos n ≡ pos (total_weight * (chord_error * n))
-whole_error n = omega (arith, ints)
+pub slope_near : (tide : Tide) (m : ℤ) (p : Place) → p ≡ place_in_tide tide m → IsNearPlace tide.first_year (length tide.years) m p
+    → unsigned_abs (near_slope_of tide m -ℤ slope_of tide m) ≤ slope_error_of tide
+unfolding slope_error_of
+slope_near tide m (Plain year) at near =
+    rw (near_slope_of-plain tide m year at, ← slope_plain tide m year (year_slope tide m year) (pos total_weight *ℤ year_slope tide m year) at refl refl)
+    (in_error (near_year_slope tide m year) (year_slope tide m year) (steepness_of (waves_in tide year)) (greatest_of steepness_of tide.years) (year_slope_near tide m year near.1) (greatest-each steepness_of tide.years year [] near.0))
+slope_near tide m (Blend year x) at near = no_gap (near_slope_of tide m) (slope_of tide m) _ (near_slope_of-blend tide m year x at)
 
--- at the same minutes of the same waves
-pub moved : (value : ℕ → List Harmonic → ℤ) (size : List Harmonic → ℕ) (near : ℤ) (t u : ℕ) (hs waves : List Harmonic) → t ≡ u → hs ≡ waves
-    → unsigned_abs (near -ℤ value t hs) ≤ chord_error * size hs → unsigned_abs (near -ℤ value u waves) ≤ chord_error * size waves
-moved value size near t u hs waves same_time same_waves close =
-    subst (λ hs. unsigned_abs (near -ℤ value u hs) ≤ chord_error * size hs) same_waves
-    (subst (λ t. unsigned_abs (near -ℤ value t hs) ≤ chord_error * size hs) same_time close)
+-- a near value of a year by all of the weight, as it is told
+pub full_weight : (near told : ℤ) → unsigned_abs near ≤ 2 * 10 ^ 26 → told ≡ pos total_weight *ℤ to_z w128 (of_z w128 near) → to_z w128 (of_z w128 told) ≡ pos total_weight *ℤ near
+full_weight near told small is =
+    let kept = cast_small w128 near (2 * 10 ^ 26) small (lit< tt) in
+    let whole : told ≡ pos total_weight *ℤ near = rw kept at is in
+    let most = abs_times (pos total_weight) near total_weight (2 * 10 ^ 26) (omega arith) small in
+    rw whole (cast_small w128 (pos total_weight *ℤ near) (total_weight * (2 * 10 ^ 26)) most (lit< tt))

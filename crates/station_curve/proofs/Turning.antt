@@ -1,8 +1,12 @@
 -- How parts of a turn go on with the minutes.
-use Rattle.std.proofs.Common.{◌≡◌, ℕ, ◌+◌, ◌-◌, ◌*◌, ◌/◌, ◌%◌, ◌^◌, ◌<◌, ◌≤◌, ap, arith}
-use Rattle.std.proofs.lemmas.Nat.{mul-le}
+use Rattle.std.proofs.Common.{◌≡◌, ℕ, ◌+◌, ◌-◌, ◌*◌, ◌/◌, ◌%◌, ◌^◌, ◌<◌, ◌≤◌, sym, ap, ◌∙◌, arith, lit<}
+use Rattle.std.proofs.lemmas.Nat.{mul-le, mod_below}
 use Rattle.fixed_sine.specs.Circle.{circle}
+use Rattle.fixed_sine.specs.Sine.{isin_of, icos_of}
 use Rattle.fixed_sine.specs.Turn.{units_of, turn_of}
+use Rattle.fixed_sine.proofs.CircleLemmas.{icos_of-ahead}
+use Rattle.station_curve.specs.Waves.{Harmonic, phase_at}
+use Rattle.station_curve.specs.Near.{turn_after, turn_ahead}
 
 -- a part that lies within a unit, however many whole turns it has
 unwound : (x z e : ℕ) → x * 216000000000 ≡ z * 18446744073709551616 + e → e < 18446744073709551616 → x % 18446744073709551616 * 216000000000 / 18446744073709551616 ≡ z % 216000000000
@@ -27,3 +31,19 @@ drifted phase speed t few =
 -- a phase is the unit that its part lies in
 pub units_of-turn_of : (phase : ℕ) → phase < circle → units_of (turn_of phase) ≡ phase
 units_of-turn_of phase h = omega arith
+
+-- the sine and the cosine of a wave by its parts of a turn
+pub sine_after : (h : Harmonic) (t : ℕ) → t ≤ 600000 → isin_of (units_of (turn_after h t)) ≡ isin_of (phase_at h t)
+sine_after h t few = ap isin_of (drifted h.phase h.speed t few)
+
+a_quarter_on : (turn : ℕ) → turn < 18446744073709551616 → isin_of (units_of ((turn + 4611686018427387904) % 18446744073709551616)) ≡ icos_of (units_of turn)
+a_quarter_on turn in_turn = sym (icos_of-ahead (units_of turn) (units_of ((turn + 4611686018427387904) % 18446744073709551616)) (omega (arith, in_turn)))
+
+pub turn_after-below : (h : Harmonic) (t : ℕ) → turn_after h t < 18446744073709551616
+turn_after-below h t = mod_below (turn_of h.phase + turn_of h.speed * t) 18446744073709551616 (lit< tt)
+
+pub turn_ahead-below : (h : Harmonic) (t : ℕ) → turn_ahead h t < 18446744073709551616
+turn_ahead-below h t = mod_below (turn_after h t + 4611686018427387904) 18446744073709551616 (lit< tt)
+
+pub cosine_ahead : (h : Harmonic) (t : ℕ) → t ≤ 600000 → isin_of (units_of (turn_ahead h t)) ≡ icos_of (phase_at h t)
+cosine_ahead h t few = a_quarter_on (turn_after h t) (turn_after-below h t) ∙ ap icos_of (drifted h.phase h.speed t few)

@@ -68,7 +68,7 @@ year_slope_gap tide m year since =
     let hs = waves_in tide year in
     rw (minutes_onward (start_of tide.first_year year) m since) (turned_gap (falls_of (t + 1) hs) (falls_of t hs) (far_of hs) (falls_gap t hs))
 
-same_mean : (d a b : ℤ) → (d +ℤ a) -ℤ (d +ℤ b) ≡ a -ℤ b
+pub same_mean : (d a b : ℤ) → (d +ℤ a) -ℤ (d +ℤ b) ≡ a -ℤ b
 same_mean d a b = omega (arith, ints)
 
 pub year_level_gap : (tide : Tide) (m : ℤ) (year : ℕ) → IsSince tide.first_year year m → unsigned_abs (year_level tide (m +ℤ pos 1) year -ℤ year_level tide m year) ≤ near_of (waves_in tide year)

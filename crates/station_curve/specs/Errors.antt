@@ -1,6 +1,6 @@
 -- How far a level and a slope found by chords of the sine may be from those of a tide (this project).
 use Rattle.std.specs.Prelude.{ℕ, ◌*◌, List, fold, max}
-use Rattle.fixed_sine.specs.Turn.{chord_error}
+use Rattle.fixed_sine.specs.Chords.{chord_error}
 use Rattle.year_blend.specs.Weights.{total_weight}
 use Rattle.station_curve.specs.Waves.{Harmonic, Tide, amount_of, steepness_of}
 

@@ -1,5 +1,6 @@
 pub mod Waves
 pub mod Levels
+pub mod Near
 pub mod Errors
 pub mod Schureman
 pub mod Sums

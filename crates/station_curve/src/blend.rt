@@ -2,7 +2,7 @@
 
 ghost use Rattle.std.specs.Prelude.{◌≡◌, ◌*◌, ◌^◌, ◌≤◌, pos, ◌+ℤ◌, ◌-ℤ◌, ◌*ℤ◌, ◌≤ℤ◌, unsigned_abs};
 ghost use Rattle.fixed_sine.specs.Circle.{radian};
-ghost use Rattle.fixed_sine.specs.Turn.{chord_error};
+ghost use Rattle.fixed_sine.specs.Chords.{chord_error};
 ghost use Rattle.year_blend.specs.Weights.{total_weight, weight_slope_of, IsNearNewYear};
 
 use fixed_sine::{CHORD_ERROR, RADIAN};

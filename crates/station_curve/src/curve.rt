@@ -57,8 +57,8 @@ impl StationCurve {
     ghost use Rattle.decimal_text.specs.Expected.{Gives};
     ghost use Rattle.station_curve.specs.Curves.{tide_over, curve_of, curve_over, wants_memory, Predicts, PredictsOver};
     ghost use Rattle.station_curve.specs.Workings.Prepared.{AreReady};
-    ghost use Rattle.fixed_sine.specs.Turn.{chord_error};
-    ghost use Rattle.station_curve.specs.Waves.{heights_of, falls_of, amount_of, steepness_of};
+    ghost use Rattle.station_curve.specs.Waves.{heights_of};
+    ghost use Rattle.station_curve.specs.Near.{near_year_level, near_year_slope, near_level_of, near_slope_of};
     ghost use Rattle.station_curve.specs.Errors.{level_error_of, slope_error_of};
     ghost use Rattle.station_curve.specs.Limits.{IsGentle, AreGentle};
     ghost use Rattle.station_curve.specs.Workings.Nearness.{IsNear, IsNearPlace, IsAround};
@@ -227,30 +227,30 @@ impl StationCurve {
     }
 
     /// A level found sooner, at most [`level_error`](StationCurve::level_error) from that at a
-    /// minute, from the first to the last.
+    /// minute, from the first to the last: by chords of the sine, and exactly at a new year.
     pub fn near_level(&self, m: i64) -> i128
         requires { InDomain self.now.first_year (length self.now.years) m }
+        ensures value { result ≡ near_level_of self.now m }
         ensures near { unsigned_abs (result -ℤ level_of self.now m) ≤ level_error_of self.now }
         ensures size { unsigned_abs result ≤ total_weight * (12 * 10 ^ 18) }
     {
-        self.known();
-        match self.year_around(m, m) {
-            Some(year) => by_full_weight(self.near_year_level(year, m)),
-            None => self.level(m),
+        match self.place(m) {
+            Place::Plain { year } => by_full_weight(self.near_year_level(year, m)),
+            Place::Blend { .. } => self.level(m),
         }
     }
 
     /// A slope found sooner, at most [`slope_error`](StationCurve::slope_error) from that at a
-    /// minute, from the first to the last.
+    /// minute, from the first to the last: by chords of the sine, and exactly at a new year.
     pub fn near_slope(&self, m: i64) -> i128
         requires { InDomain self.now.first_year (length self.now.years) m }
+        ensures value { result ≡ near_slope_of self.now m }
         ensures near { unsigned_abs (result -ℤ slope_of self.now m) ≤ slope_error_of self.now }
         ensures size { unsigned_abs result < 2 * 10 ^ 37 }
     {
-        self.known();
-        match self.year_around(m, m) {
-            Some(year) => by_full_weight(self.near_year_slope(year, m)),
-            None => self.slope(m),
+        match self.place(m) {
+            Place::Plain { year } => by_full_weight(self.near_year_slope(year, m)),
+            Place::Blend { .. } => self.slope(m),
         }
     }
 
@@ -342,8 +342,7 @@ impl StationCurve {
     fn near_year_level(&self, year: u32, m: i64) -> i128
         requires year { year < length self.now.years }
         requires near { IsNear self.now.first_year year m }
-        ensures near { unsigned_abs (result -ℤ year_level self.now m year)
-            ≤ chord_error * amount_of (waves_in self.now year) }
+        ensures value { result ≡ near_year_level self.now m year }
         ensures size { unsigned_abs result ≤ 12 * 10 ^ 18 }
     {
         let year = &self.years[year as usize];
@@ -354,8 +353,7 @@ impl StationCurve {
     fn near_year_slope(&self, year: u32, m: i64) -> i128
         requires year { year < length self.now.years }
         requires near { IsNear self.now.first_year year m }
-        ensures near { unsigned_abs (result -ℤ year_slope self.now m year)
-            ≤ chord_error * steepness_of (waves_in self.now year) }
+        ensures value { result ≡ near_year_slope self.now m year }
         ensures size { unsigned_abs result ≤ 2 * 10 ^ 26 }
     {
         let year = &self.years[year as usize];

@@ -6,6 +6,8 @@ ghost use Rattle.station_curve.specs.declared.fault.CurveFault.TheVariants.{Hydr
 ghost use Rattle.station_curve.specs.Curves.{waves_of, is_touched, waves_over, tide_of, curve_of};
 ghost use Rattle.station_curve.specs.Schureman.{amplitude_of, phase_of, predicted_level, predicted_slope, predicted_millionths};
 ghost use Rattle.station_curve.specs.Waves.{heights_of, falls_of};
+ghost use Rattle.station_curve.specs.Near.{near_level_of, near_slope_of};
+ghost use Rattle.station_curve.specs.Errors.{level_error_of, slope_error_of};
 ghost use Rattle.station_curve.specs.Sums.{sums_of};
 ghost use Rattle.station_curve.specs.Worked.{small_book, small_station, small_wave, pier_book, shifted_book, pier, harbour_book, harbour};
 
@@ -88,4 +90,31 @@ pub fn worked_sums()
         ≡ record { amount = pos 1615490; steep = pos 472298888140580; near = pos 13739175163240; far = pos 4017639740183984896080 } }
     ensures harbour_2001 { sums_of (waves_of harbour_book harbour 1)
         ≡ record { amount = pos 1449234; steep = pos 422079284261828; near = pos 12278286689384; far = pos 3576482855350780498128 } }
+{}
+
+/// Levels by chords a minute before noon and at noon, the exact one in a blend, and levels of two
+/// waves, below and above the exact ones.
+pub fn worked_near_levels()
+    ensures before_noon { near_level_of (tide_of pier_book pier) (pos 15791759) ≡ pos 4146884178278400000000000 }
+    ensures noon { near_level_of (tide_of pier_book pier) (pos 15791760) ≡ pos 4147200000000000000000000 }
+    ensures first_blended { near_level_of (tide_of shifted_book pier) (pos 15778021) ≡ pos 3609538927329170264000000 }
+    ensures harbour_2000 { near_level_of (tide_of harbour_book harbour) (pos 15778380) ≡ pos 12459527526861020160000000 }
+    ensures harbour_2001 { near_level_of (tide_of harbour_book harbour) (pos 16390080) ≡ pos 5407345547725158604800000 }
+{}
+
+/// Slopes there.
+pub fn worked_near_slopes()
+    ensures before_noon { near_slope_of (tide_of pier_book pier) (pos 15791759) ≡ pos 10856792724480000000000000000000 }
+    ensures noon { near_slope_of (tide_of pier_book pier) (pos 15791760) ≡ pos 0 }
+    ensures harbour_new_year { near_slope_of (tide_of harbour_book harbour) (pos 16305140) ≡ negsuc 3274988533158132834799953510399999 }
+    ensures harbour_2000 { near_slope_of (tide_of harbour_book harbour) (pos 15778380) ≡ negsuc 1845451738900420719211339775999999 }
+    ensures harbour_2001 { near_slope_of (tide_of harbour_book harbour) (pos 16390080) ≡ pos 802806795183784473007950643200000 }
+{}
+
+/// How far they may be off: for one wave, and for two by the year that has the larger ones.
+pub fn worked_errors()
+    ensures pier_level { level_error_of (tide_of pier_book pier) ≡ 158008320000000000000 }
+    ensures pier_slope { slope_error_of (tide_of pier_book pier) ≡ 47402496000000000000000000000 }
+    ensures harbour_level { level_error_of (tide_of harbour_book harbour) ≡ 255260860876800000000 }
+    ensures harbour_slope { slope_error_of (tide_of harbour_book harbour) ≡ 74627153852960969625600000000 }
 {}

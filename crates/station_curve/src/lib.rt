@@ -15,6 +15,7 @@ mod fault;
 mod greatest;
 mod laws;
 mod reach;
+mod sooner;
 mod summing;
 mod wave;
 mod year_sums;
@@ -24,7 +25,8 @@ pub use changes::{year_changes, year_sizes};
 pub use curve::StationCurve;
 pub use fault::CurveFault;
 pub use laws::{
-    worked_constants, worked_levels, worked_limits, worked_reach, worked_slopes, worked_sums,
-    worked_waves,
+    worked_constants, worked_errors, worked_levels, worked_limits, worked_near_levels,
+    worked_near_slopes, worked_reach, worked_slopes, worked_sums, worked_waves,
 };
+pub use sooner::near_values;
 pub use year_sums::Sums;

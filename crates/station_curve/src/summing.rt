@@ -1,8 +1,8 @@
 //! Sums over the waves of a year.
 
-ghost use Rattle.std.specs.Prelude.{◌≡◌, ◌*◌, ◌^◌, ◌≤◌, ◌-ℤ◌, unsigned_abs};
-ghost use Rattle.fixed_sine.specs.Turn.{chord_error};
+ghost use Rattle.std.specs.Prelude.{◌≡◌, ◌*◌, ◌^◌, ◌≤◌, unsigned_abs};
 ghost use Rattle.station_curve.specs.Waves.{heights_of, falls_of, amount_of, steepness_of};
+ghost use Rattle.station_curve.specs.Near.{near_heights_of, near_falls_of};
 
 use crate::wave::Wave;
 
@@ -38,7 +38,7 @@ pub fn falls(waves: &[Wave], minutes: u64) -> i128
 pub fn near_heights(waves: &[Wave], minutes: u64) -> i64
     requires time { minutes ≤ 600000 }
     requires amount { amount_of waves.now ≤ 10 ^ 9 }
-    ensures near { unsigned_abs (result -ℤ heights_of minutes waves.now) ≤ chord_error * amount_of waves.now }
+    ensures value { result ≡ near_heights_of minutes waves.now }
     ensures size { unsigned_abs result ≤ 2 * 10 ^ 18 }
 {
     let mut sum = 0;
@@ -52,7 +52,7 @@ pub fn near_heights(waves: &[Wave], minutes: u64) -> i64
 pub fn near_falls(waves: &[Wave], minutes: u64) -> i128
     requires time { minutes ≤ 600000 }
     requires steepness { steepness_of waves.now ≤ 10 ^ 17 }
-    ensures near { unsigned_abs (result -ℤ falls_of minutes waves.now) ≤ chord_error * steepness_of waves.now }
+    ensures value { result ≡ near_falls_of minutes waves.now }
     ensures size { unsigned_abs result ≤ 2 * 10 ^ 26 }
 {
     let mut sum = 0;

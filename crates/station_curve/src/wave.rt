@@ -1,13 +1,13 @@
 //! A constituent in one year at one station.
 
-ghost use Rattle.std.specs.Prelude.{◌≡◌, ◌*◌, ◌^◌, ◌<◌, ◌≤◌, pos, ◌-ℤ◌, ◌*ℤ◌, unsigned_abs};
+ghost use Rattle.std.specs.Prelude.{◌≡◌, ℕ, ◌*◌, ◌^◌, ◌<◌, ◌≤◌, pos, ◌*ℤ◌, unsigned_abs};
 ghost use Rattle.fixed_sine.specs.Circle.{circle};
-ghost use Rattle.fixed_sine.specs.Turn.{units_of, chord_error};
-ghost use Rattle.station_curve.specs.Waves.{Harmonic, phase_at, height_at, fall_at};
+ghost use Rattle.station_curve.specs.Waves.{Harmonic, height_at, fall_at};
+ghost use Rattle.station_curve.specs.Near.{turn_after, turn_ahead, near_height_at, near_fall_at};
 ghost use Rattle.station_curve.specs.Sums.{height_rate_of, fall_rate_of};
 
 use crate::year_sums::Sums;
-use fixed_sine::{chord_cosine, chord_sine, step, turn_cosine, turn_of, turn_sine};
+use fixed_sine::{QUARTER_TURN, chord_sine, step, turn_of, turn_sine};
 use std::marker::Model;
 
 /// A constituent in one year at one station.
@@ -23,6 +23,8 @@ pub struct Wave {
     pace: u64,
     /// The part of a turn where it stands an hour before the year begins.
     start: u64,
+    /// The part a quarter of a turn further on, where the sine is the cosine at `start`.
+    ahead: u64,
 }
 
 impl Model for Wave {
@@ -34,7 +36,7 @@ impl Model for Wave {
 
     ghost view = { λ w. record { amplitude = w.amplitude; speed = w.speed; phase = units_of w.start } };
 
-    ghost invariant = { λ w. IsWave w.amplitude w.speed w.steepness w.pace w.start };
+    ghost invariant = { λ w. IsWave w.amplitude w.speed w.steepness w.pace w.start w.ahead };
 }
 
 impl Wave {
@@ -46,12 +48,14 @@ impl Wave {
         requires phase { phase < circle }
         ensures { result ≡ record { amplitude = amplitude; speed = speed; phase = phase } }
     {
+        let start = turn_of(phase);
         Wave {
             amplitude,
             speed,
             steepness: amplitude * speed as i64,
             pace: turn_of(speed),
-            start: turn_of(phase),
+            start,
+            ahead: start.wrapping_add(QUARTER_TURN),
         }
     }
 
@@ -61,7 +65,7 @@ impl Wave {
         ensures value { result ≡ height_at minutes self.now }
         ensures size { unsigned_abs result ≤ 10 ^ 9 * unsigned_abs self.now.amplitude }
     {
-        self.amplitude * turn_cosine(self.turn_after(minutes))
+        self.by_amplitude(turn_sine(self.turn_ahead(minutes)))
     }
 
     /// What it takes off the level a minute, `minutes` after an hour before the year.
@@ -71,28 +75,26 @@ impl Wave {
         ensures size { unsigned_abs result
             ≤ 10 ^ 9 * (unsigned_abs self.now.amplitude * self.now.speed) }
     {
-        i128::from(self.steepness) * i128::from(turn_sine(self.turn_after(minutes)))
+        self.by_steepness(turn_sine(self.turn_after(minutes)))
     }
 
-    /// Its part of the level nearly, found sooner: by a chord of the cosine.
+    /// Its part of the level nearly, found sooner: by a chord.
     pub fn near_height(&self, minutes: u64) -> i64
         requires { minutes ≤ 600000 }
-        ensures near { unsigned_abs (result -ℤ height_at minutes self.now)
-            ≤ chord_error * unsigned_abs self.now.amplitude }
+        ensures value { result ≡ near_height_at minutes self.now }
         ensures size { unsigned_abs result ≤ 1000038100 * unsigned_abs self.now.amplitude }
     {
-        self.amplitude * chord_cosine(self.turn_after(minutes))
+        self.by_amplitude(chord_sine(self.turn_ahead(minutes)))
     }
 
-    /// What it takes off the level a minute nearly, found sooner: by a chord of the sine.
+    /// What it takes off the level a minute nearly, found sooner: by a chord.
     pub fn near_fall(&self, minutes: u64) -> i128
         requires { minutes ≤ 600000 }
-        ensures near { unsigned_abs (result -ℤ fall_at minutes self.now)
-            ≤ chord_error * (unsigned_abs self.now.amplitude * self.now.speed) }
+        ensures value { result ≡ near_fall_at minutes self.now }
         ensures size { unsigned_abs result
             ≤ 1000038100 * (unsigned_abs self.now.amplitude * self.now.speed) }
     {
-        i128::from(self.steepness) * i128::from(chord_sine(self.turn_after(minutes)))
+        self.by_steepness(chord_sine(self.turn_after(minutes)))
     }
 
     /// What it adds to each sum of its year.
@@ -116,11 +118,39 @@ impl Wave {
         }
     }
 
+    /// The amplitude times a sine.
+    fn by_amplitude(&self, sine: i64) -> i64
+        requires { unsigned_abs sine ≤ 1000038100 }
+        ensures value { result ≡ self.now.amplitude *ℤ sine }
+        ensures size { (most : ℕ) → unsigned_abs sine ≤ most
+            → unsigned_abs result ≤ most * unsigned_abs self.now.amplitude }
+    {
+        self.amplitude * sine
+    }
+
+    /// The amplitude times the speed and a sine.
+    fn by_steepness(&self, sine: i64) -> i128
+        requires { unsigned_abs sine ≤ 1000038100 }
+        ensures value { result ≡ (self.now.amplitude *ℤ pos self.now.speed) *ℤ sine }
+        ensures size { (most : ℕ) → unsigned_abs sine ≤ most
+            → unsigned_abs result ≤ most * (unsigned_abs self.now.amplitude * self.now.speed) }
+    {
+        i128::from(self.steepness) * i128::from(sine)
+    }
+
     /// The part of a turn where it stands, `minutes` after an hour before the year.
     fn turn_after(&self, minutes: u64) -> u64
         requires { minutes ≤ 600000 }
-        ensures { units_of result ≡ phase_at self.now minutes }
+        ensures { result ≡ turn_after self.now minutes }
     {
         self.start.wrapping_add(self.pace.wrapping_mul(minutes))
+    }
+
+    /// The part a quarter of a turn further on.
+    fn turn_ahead(&self, minutes: u64) -> u64
+        requires { minutes ≤ 600000 }
+        ensures { result ≡ turn_ahead self.now minutes }
+    {
+        self.ahead.wrapping_add(self.pace.wrapping_mul(minutes))
     }
 }

@@ -44,6 +44,8 @@ impl Curve for Line {
 
     ghost meaning = { λ l. line l.start l.falls l.rate };
 
+    ghost near = { λ l m. (line l.start l.falls l.rate).track.value m +ℤ pos 1 };
+
     ghost error = { λ _. 1 };
 
     ghost count = { λ l. l.asked };
@@ -70,7 +72,7 @@ impl Curve for Line {
         height(self.start, self.falls, m) as i128 + 1
     }
 
-    fn exact_value(&self, m: i64, _near: i128) -> i128 {
+    fn exact_value(&self, m: i64, _told: i128) -> i128 {
         height(self.start, self.falls, m) as i128
     }
 

@@ -1,6 +1,6 @@
 //! A value that changes side after each minute.
 
-ghost use Rattle.std.specs.Prelude.{◌≡◌, ◌≤◌, unsigned_abs};
+ghost use Rattle.std.specs.Prelude.{◌≡◌, ◌≤◌, pos, unsigned_abs};
 ghost use Rattle.curve_law.specs.Samples.{ripple};
 
 use crate::curve::Curve;
@@ -31,6 +31,8 @@ impl Curve for Ripple {
 
     ghost meaning = { λ _. ripple };
 
+    ghost near = { λ _ _. pos 0 };
+
     ghost error = { λ _. 1 };
 
     ghost count = { λ r. r.asked };
@@ -57,7 +59,7 @@ impl Curve for Ripple {
         0
     }
 
-    fn exact_value(&self, m: i64, _near: i128) -> i128 {
+    fn exact_value(&self, m: i64, _told: i128) -> i128 {
         wave(m)
     }
 

@@ -5,7 +5,7 @@ use Rattle.std.proofs.lemmas.Nat.{mul-le}
 use Rattle.station_curve.specs.Waves.{Tide, amount_of, steepness_of}
 use Rattle.station_curve.specs.Limits.{IsGentle}
 use Rattle.station_curve.specs.Errors.{level_error_of, slope_error_of}
-use Rattle.station_curve.proofs.Nearly.{greatest-most}
+use Rattle.station_curve.proofs.GreatestYear.{greatest-most}
 use Rattle.rate_bound.specs.Scale.{IsScale}
 
 pub slope_narrow : (tide : Tide) → IsGentle tide → slope_error_of tide ≤ 10 ^ 36

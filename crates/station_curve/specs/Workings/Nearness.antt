@@ -1,5 +1,5 @@
 -- What keeps all numbers of a curve within their types.
-use Rattle.std.specs.Prelude.{◌≡◌, ℕ, suc, ◌-◌, ◌<◌, ◌≤◌, ℤ, pos, ◌+ℤ◌, ◌-ℤ◌, ◌*ℤ◌, ◌≤ℤ◌, unsigned_abs}
+use Rattle.std.specs.Prelude.{◌≡◌, ℕ, suc, ◌+◌, ◌-◌, ◌%◌, ◌^◌, ◌<◌, ◌≤◌, ℤ, pos, ◌+ℤ◌, ◌-ℤ◌, ◌*ℤ◌, ◌≤ℤ◌, unsigned_abs}
 use Rattle.fixed_sine.specs.Turn.{units_of, turn_of}
 use Rattle.year_blend.specs.declared.parts.Place.{Place}
 use Rattle.year_blend.specs.declared.parts.Place.TheVariants.{Plain, Blend}
@@ -7,14 +7,16 @@ use Rattle.year_blend.specs.Places.{start_of}
 use Rattle.year_blend.specs.Weights.{IsNearNewYear}
 use Rattle.station_curve.specs.Limits.{most_amount, most_steepness}
 
--- a wave with the product of its amplitude and its speed, and with its speed and its phase as parts of a turn
-pub record IsWave (amplitude : ℤ) (speed : ℕ) (steepness : ℤ) (pace : ℕ) (start : ℕ) : Type 0 where
+-- a wave with the product of its amplitude and its speed, with its speed and its phase as parts of a turn, and with the part a
+-- quarter of a turn past its phase
+pub record IsWave (amplitude : ℤ) (speed : ℕ) (steepness : ℤ) (pace : ℕ) (start : ℕ) (ahead : ℕ) : Type 0 where
   pub amount : unsigned_abs amplitude ≤ most_amount
   pub steep : unsigned_abs steepness ≤ most_steepness
   pub product : steepness ≡ amplitude *ℤ pos speed
   pub quick : speed ≤ 3600000000
   pub paced : pace ≡ turn_of speed
   pub started : start ≡ turn_of (units_of start)
+  pub turned : ahead ≡ (start + 2 ^ 62) % 2 ^ 64
 
 -- a minute that a year's constants are used at: at most an hour before it or after it
 pub record IsNear (first_year : ℤ) (year : ℕ) (m : ℤ) : Type 0 where

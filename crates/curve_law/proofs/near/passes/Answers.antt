@@ -1,7 +1,6 @@
 use Rattle.std.proofs.Common.{◌≡◌, ◌+ℤ◌, pos, ◌<ℤ◌, unsigned_abs, to_z, of_z, arith}
 use Rattle.std.proofs.lemmas.Int.{ints, to_z-of_z}
 use mir.Syntax.{w128}
-use Rattle.curve_law.proofs.NearLemmas.{less-than}
 use Rattle.curve_law.proofs.near.passes.Goals as goal
 
 pub returns-then-size-error-2 : goal.returns-then-size-error-2
@@ -10,5 +9,5 @@ returns-then-size-error-2 c = λ sum near.
     let m = to_z-of_z w128 c.args.most c.ranges.most in
     let size : c.abs-size.result ≡ pos (unsigned_abs c.args.near) = rw n at c.abs-size.ensures.value in
     let s : to_z w128 (of_z w128 (to_z w128 (of_z w128 c.abs-size.result) +ℤ to_z w128 (of_z w128 c.args.error))) ≡ c.abs-size.result +ℤ c.args.error = omega (arith, ints, size) in
-    let less : (c.abs-size.result +ℤ c.args.error) <ℤ c.args.most = less-than (c.abs-size.result +ℤ c.args.error) c.args.most (rw (s, m) at c.if-size-error-2.true) in
+    let less : (c.abs-size.result +ℤ c.args.error) <ℤ c.args.most = (let told = rw (s, m) at c.if-size-error-2.true in grind (arith, ints)) in
     omega (arith, ints, size, less, near)

@@ -1,7 +1,7 @@
 use Rattle.std.proofs.Common.{◌≡◌, ◌*◌, pos, ◌+ℤ◌, ◌*ℤ◌, inl, inr, refl, sym, w64, to_z, of_z, FitsSigned, rules, arith}
 use Rattle.std.proofs.lemmas.Int.{ints, to_z-of_z}
 use mir.Syntax.{w128}
-use Rattle.curve_law.proofs.NearLemmas.{some-told, told-side, told-crossed, too_short, told-far, near-size}
+use Rattle.curve_law.proofs.NearLemmas.{some-told, told-side, told-crossed, too_short, told-far, near-sizes}
 use Rattle.curve_law.proofs.QuietLemmas.{no_rate-quiet, rate-positive}
 use Rattle.curve_law.proofs.near.quiet_as_told.Goals as goal
 
@@ -23,13 +23,8 @@ returns-then-branch g c =
 
 pub overflow_add-near : goal.overflow_add-near
 overflow_add-near g c =
-    let law = g.met.C.Curve.lawful c.args.curve.now in
-    let narrow = g.met.C.Curve.narrow c.args.curve.now in
-    let here = law.values c.args.a (record { first = c.requires.span.first; last = (let last = c.requires.span.last in omega (arith, ints, last)) }) in
-    let there = law.values (c.args.a +ℤ pos c.args.n) (record { first = (let first = c.requires.span.first in omega (arith, ints, first)); last = c.requires.span.last }) in
-    let near = near-size c.args.near _ _ here narrow c.requires.near in
-    let end_near = near-size c.args.end_near _ _ there narrow c.requires.end_near in
-    omega (arith, ints, near, end_near)
+    let sizes = near-sizes (g.C.Curve.meaning c.args.curve.now) c.args.a c.args.n _ c.args.near c.args.end_near (g.met.C.Curve.lawful c.args.curve.now) (g.met.C.Curve.narrow c.args.curve.now) c.requires.span c.requires.near c.requires.end_near in
+    omega (arith, ints, sizes.0, sizes.1)
 
 pub most_change-requires-clause-positive : goal.most_change-requires-clause-positive
 most_change-requires-clause-positive g c =
@@ -48,13 +43,8 @@ most_change-requires-clause-rate g c =
 
 pub passes-requires-clause-near : goal.passes-requires-clause-near
 passes-requires-clause-near g c =
-    let law = g.met.C.Curve.lawful c.args.curve.now in
-    let narrow = g.met.C.Curve.narrow c.args.curve.now in
-    let here = law.values c.args.a (record { first = c.requires.span.first; last = (let last = c.requires.span.last in omega (arith, ints, last)) }) in
-    let there = law.values (c.args.a +ℤ pos c.args.n) (record { first = (let first = c.requires.span.first in omega (arith, ints, first)); last = c.requires.span.last }) in
-    let near = near-size c.args.near _ _ here narrow c.requires.near in
-    let end_near = near-size c.args.end_near _ _ there narrow c.requires.end_near in
-    omega (arith, ints, near, end_near)
+    let sizes = near-sizes (g.C.Curve.meaning c.args.curve.now) c.args.a c.args.n _ c.args.near c.args.end_near (g.met.C.Curve.lawful c.args.curve.now) (g.met.C.Curve.narrow c.args.curve.now) c.requires.span c.requires.near c.requires.end_near in
+    omega (arith, ints, sizes.0, sizes.1)
 
 pub returns-in-Some : goal.returns-in-Some
 returns-in-Some g c =
@@ -72,13 +62,9 @@ returns-in-Some g c =
     let second = told-side c.args.end_near c.error-error.result (meaning.track.value (c.args.a +ℤ pos c.args.n)) bound c.in_ok-side_of-2.field-0 c.error-error.ensures end_told c.requires.end_near in
     let rate = simp to_z-of_z at c.in-Some.ensures in
     let most = rw (to_z-of_z w128 c.in-Some.rate rate_fits) at c.most_change.ensures.value in
-    let law = g.met.C.Curve.lawful c.args.curve.now in
     let narrow = g.met.C.Curve.narrow c.args.curve.now in
-    let here = law.values c.args.a (record { first = c.requires.span.first; last = (let last = c.requires.span.last in omega (arith, ints, last)) }) in
-    let there = law.values (c.args.a +ℤ pos c.args.n) (record { first = (let first = c.requires.span.first in omega (arith, ints, first)); last = c.requires.span.last }) in
-    let size = near-size c.args.near _ _ here narrow c.requires.near in
-    let end_size = near-size c.args.end_near _ _ there narrow c.requires.end_near in
-    let sum : to_z w128 (of_z w128 (to_z w128 (of_z w128 c.args.near) +ℤ to_z w128 (of_z w128 c.args.end_near))) ≡ c.args.near +ℤ c.args.end_near = omega (arith, ints, size, end_size) in
+    let sizes = near-sizes meaning c.args.a c.args.n bound c.args.near c.args.end_near (g.met.C.Curve.lawful c.args.curve.now) narrow c.requires.span c.requires.near c.requires.end_near in
+    let sum : to_z w128 (of_z w128 (to_z w128 (of_z w128 c.args.near) +ℤ to_z w128 (of_z w128 c.args.end_near))) ≡ c.args.near +ℤ c.args.end_near = omega (arith, ints, sizes.0, sizes.1) in
     let twice : to_z w128 (of_z w128 (pos 2 *ℤ to_z w128 (of_z w128 c.error-error.result))) ≡ pos (2 * bound) = omega (arith, ints, c.error-error.ensures, narrow) in
     let change : to_z w128 (of_z w128 c.most_change.result) ≡ c.most_change.result = omega (arith, ints, c.most_change.ensures.size) in
     some-told c.passes.result c.passes.ensures

@@ -5,7 +5,7 @@ use mir.Syntax.{w128}
 use Rattle.station_curve.specs.declared.years.Year.{Year}
 use Rattle.station_curve.specs.Waves.{amount_of, steepness_of}
 use Rattle.station_curve.specs.Sums.{sums_of}
-use Rattle.station_curve.proofs.Nearly.{greatest_so_far, greatest-none, greatest-more, greatest-kept}
+use Rattle.station_curve.proofs.GreatestYear.{greatest_so_far, greatest-none, greatest-more, greatest-kept}
 use Rattle.station_curve.proofs.greatest.greatest_of_years.Goals as goal
 
 pub loop-year-init : goal.loop-year-init

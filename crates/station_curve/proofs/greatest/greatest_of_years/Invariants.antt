@@ -1,6 +1,6 @@
 use Rattle.std.proofs.Common.{◌≡◌, take, pos}
 use Rattle.station_curve.specs.Waves.{amount_of, steepness_of}
-use Rattle.station_curve.proofs.Nearly.{greatest_so_far}
+use Rattle.station_curve.proofs.GreatestYear.{greatest_so_far}
 use Rattle.station_curve.proofs.greatest.greatest_of_years.Given as goal
 
 abbrev pub invariant-loop-year : goal.invariant-loop-year

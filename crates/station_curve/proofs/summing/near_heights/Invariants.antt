@@ -1,13 +1,10 @@
-use Rattle.std.proofs.Common.{◌*◌, ◌≤◌, ◌-ℤ◌, take}
+use Rattle.std.proofs.Common.{◌≡◌, ◌*◌, ◌≤◌, take}
 use Rattle.std.specs.Prelude.{unsigned_abs}
-use Rattle.fixed_sine.specs.Turn.{chord_error}
-use Rattle.station_curve.specs.Waves.{heights_of, amount_of}
+use Rattle.station_curve.specs.Waves.{amount_of}
+use Rattle.station_curve.specs.Near.{near_heights_of}
 use Rattle.station_curve.proofs.summing.near_heights.Given as goal
 
 abbrev pub invariant-loop-wave : goal.invariant-loop-wave
 invariant-loop-wave l =
     let read = take l.wave-index l.waves in
-    record {
-      near : unsigned_abs (l.sum -ℤ heights_of l.minutes read) ≤ chord_error * amount_of read;
-      size : unsigned_abs l.sum ≤ 1000038100 * amount_of read;
-    }
+    record { value : l.sum ≡ near_heights_of l.minutes read; size : unsigned_abs l.sum ≤ 1000038100 * amount_of read }

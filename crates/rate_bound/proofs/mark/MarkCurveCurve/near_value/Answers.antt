@@ -1,24 +1,36 @@
-use Rattle.std.proofs.Common.{◌*◌, ◌^◌, FitsSigned, rules, lit<}
+use Rattle.std.proofs.Common.{◌≡◌, ◌*◌, ◌^◌, FitsSigned, rules, ap, ◌∙◌, lit<}
 use Rattle.std.proofs.lemmas.Int.{to_z-of_z}
 use mir.Syntax.{w64, w128}
+use mir.Val.{to_z, of_z}
 use Rattle.year_blend.specs.Weights.{total_weight}
 use Rattle.station_curve.specs.Levels.{level_of}
 use Rattle.station_curve.specs.Errors.{level_error_of}
 use Rattle.station_curve.proofs.Products.{cast_small}
+use Rattle.rate_bound.specs.Meanings.{over_mark}
 use Rattle.rate_bound.proofs.Telling.{near-mark}
 use Rattle.rate_bound.proofs.mark.MarkCurveCurve.near_value.Goals as goal
+use Rattle.rate_bound.proofs.mark.MarkCurveCurve.near_value.Goals.{After-over_mark}
 
-pub returns-clause-near : goal.returns-clause-near
-returns-clause-near c =
+scaled : (c : After-over_mark) → to_z w128 (of_z w128 c.over_mark.result) ≡ over_mark c.args.self.now.times c.args.self.now.plus c.args.self.now.mark c.near_level.result
+scaled c =
     let curve = c.args.self.now in
-    let tide = curve.station.now in
-    let minute = to_z-of_z w64 c.args.m c.ranges.m in
     let times_fits : FitsSigned w64 curve.times = search rules in
     let plus_fits : FitsSigned w64 curve.plus = search rules in
     let mark_fits : FitsSigned w64 curve.mark = search rules in
     let fits : FitsSigned w128 c.over_mark.result = search rules in
     let level = cast_small w128 c.near_level.result (total_weight * (12 * 10 ^ 18)) c.near_level.ensures.size (lit< tt) in
+    to_z-of_z w128 c.over_mark.result fits
+    ∙ rw (to_z-of_z w64 curve.times times_fits, to_z-of_z w64 curve.plus plus_fits, to_z-of_z w64 curve.mark mark_fits, level) at c.over_mark.ensures
+
+pub returns-clause-value : goal.returns-clause-value
+returns-clause-value c =
+    let curve = c.args.self.now in
+    let minute = to_z-of_z w64 c.args.m c.ranges.m in
+    scaled c ∙ ap (over_mark curve.times curve.plus curve.mark) (rw minute at c.near_level.ensures.value)
+
+pub returns-clause-near : goal.returns-clause-near
+returns-clause-near c =
+    let curve = c.args.self.now in
+    let minute = to_z-of_z w64 c.args.m c.ranges.m in
     let near = rw minute at c.near_level.ensures.near in
-    let scaled = rw (to_z-of_z w64 curve.times times_fits, to_z-of_z w64 curve.plus plus_fits, to_z-of_z w64 curve.mark mark_fits, level) at c.over_mark.ensures in
-    rw (to_z-of_z w128 c.over_mark.result fits, scaled)
-    (near-mark curve.times curve.plus curve.mark c.near_level.result (level_of tide c.args.m) (level_error_of tide) near)
+    rw (scaled c) (near-mark curve.times curve.plus curve.mark c.near_level.result (level_of curve.station.now c.args.m) (level_error_of curve.station.now) near)

@@ -1,30 +1,30 @@
-use Rattle.std.proofs.Common.{◌≡◌, ◌≤◌, ◌*◌, ◌^◌, length, pos, ◌*ℤ◌, sym, arith, lit<}
-use Rattle.std.specs.Prelude.{unsigned_abs}
-use Rattle.std.proofs.lemmas.Int.{ints, to_z-of_z}
+use Rattle.std.proofs.Common.{FitsSigned, rules, pos, ◌*ℤ◌, ap, sym, ◌∙◌, arith}
+use Rattle.std.proofs.lemmas.Int.{to_z-of_z}
 use mir.Syntax.{w64, w128}
 use Rattle.year_blend.specs.Weights.{total_weight}
-use Rattle.station_curve.proofs.Around.{around_plain, around_near}
-use Rattle.station_curve.proofs.Nearly.{near_level_plain}
-use Rattle.station_curve.proofs.Products.{cast_small, abs_times}
+use Rattle.station_curve.proofs.Nearly.{full_weight, near_level_of-plain, near_level_of-blend, level_near}
 use Rattle.station_curve.proofs.curve.StationCurve.near_level.Goals as goal
 
-pub near_year_level-requires-clause-near : goal.near_year_level-requires-clause-near
-near_year_level-requires-clause-near c =
-    let tide = c.args.self.now in
-    let years = c.known.ensures.years in
+pub returns-in-Plain-clause-value : goal.returns-in-Plain-clause-value
+returns-in-Plain-clause-value c =
     let same = to_z-of_z w64 c.args.m c.ranges.m in
-    let around = rw same at c.in-Some.ensures in
-    rw same (around_near tide.first_year (length tide.years) c.args.m c.in-Some.year years.least around).1
+    let place = rw same at c.in-Plain.ensures.value in
+    full_weight c.near_year_level.result c.by_full_weight.result (omega (arith, c.near_year_level.ensures.size)) c.by_full_weight.ensures
+    ∙ rw (near_level_of-plain c.args.self.now c.args.m c.in-Plain.year place) (ap (λ z. pos total_weight *ℤ z) (rw same at c.near_year_level.ensures.value))
 
-pub returns-in-Some-clause-near : goal.returns-in-Some-clause-near
-returns-in-Some-clause-near c =
-    let tide = c.args.self.now in
+pub returns-in-Plain-clause-near : goal.returns-in-Plain-clause-near
+returns-in-Plain-clause-near c =
     let same = to_z-of_z w64 c.args.m c.ranges.m in
-    let around = rw same at c.in-Some.ensures in
-    let plain = sym (around_plain tide.first_year (length tide.years) c.args.m c.args.m c.in-Some.year c.known.ensures.years.least (omega (arith, ints)) around) in
-    let year = cast_small w128 c.near_year_level.result (12 * 10 ^ 18) c.near_year_level.ensures.size (lit< tt) in
-    let value : c.by_full_weight.result ≡ pos total_weight *ℤ c.near_year_level.result = rw year at c.by_full_weight.ensures in
-    let most = abs_times (pos total_weight) c.near_year_level.result total_weight (12 * 10 ^ 18) (omega arith) c.near_year_level.ensures.size in
-    let small : unsigned_abs c.by_full_weight.result ≤ total_weight * (12 * 10 ^ 18) = rw value most in
-    rw (cast_small w128 c.by_full_weight.result (total_weight * (12 * 10 ^ 18)) small (lit< tt))
-    (near_level_plain tide c.args.m c.in-Some.year c.near_year_level.result c.by_full_weight.result plain around.one_of (rw same at c.near_year_level.ensures.near) value)
+    rw (returns-in-Plain-clause-value c) (level_near c.args.self.now c.args.m c.place.result (rw same at c.place.ensures.value) (rw same at c.place.ensures.near))
+
+pub returns-in-Blend-clause-value : goal.returns-in-Blend-clause-value
+returns-in-Blend-clause-value c =
+    let same = to_z-of_z w64 c.args.m c.ranges.m in
+    let fits : FitsSigned w128 c.level.result = search rules in
+    to_z-of_z w128 c.level.result fits ∙ rw same at c.level.ensures.value
+    ∙ sym (near_level_of-blend c.args.self.now c.args.m c.in-Blend.year c.in-Blend.x (rw same at c.in-Blend.ensures.value))
+
+pub returns-in-Blend-clause-near : goal.returns-in-Blend-clause-near
+returns-in-Blend-clause-near c =
+    let same = to_z-of_z w64 c.args.m c.ranges.m in
+    rw (returns-in-Blend-clause-value c) (level_near c.args.self.now c.args.m c.place.result (rw same at c.place.ensures.value) (rw same at c.place.ensures.near))

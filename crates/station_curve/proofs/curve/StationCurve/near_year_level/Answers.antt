@@ -2,9 +2,8 @@ use Rattle.std.proofs.Common.{◌≡◌, ◌*◌, ◌^◌, pos, ◌+ℤ◌, ◌*
 use Rattle.std.proofs.lemmas.Int.{ints, to_z-of_z}
 use mir.Syntax.{w64, w128}
 use mir.Val.{to_z, of_z}
-use Rattle.station_curve.specs.Waves.{heights_of, amount_of}
-use Rattle.station_curve.specs.Levels.{minutes_into, waves_in, year_level}
-use Rattle.station_curve.proofs.Nearly.{mean_added, moved}
+use Rattle.station_curve.specs.Levels.{minutes_into, waves_in}
+use Rattle.station_curve.specs.Near.{near_heights_of, near_year_level}
 use Rattle.station_curve.proofs.Products.{cast_small}
 use Rattle.station_curve.proofs.Ready.{year_of}
 use Rattle.station_curve.proofs.curve.StationCurve.near_year_level.Goals as goal
@@ -14,14 +13,13 @@ near_heights-requires-clause-amount c =
     let y = year_of c.self.inside c.args.self.now c.args.year c.index-year.result.now c.self.invariant c.self.view_is c.requires.year c.index-year.ensures in
     rw c.as_slice.ensures.value y.amount
 
-pub returns-clause-near : goal.returns-clause-near
-unfolding year_level
-returns-clause-near c =
+pub returns-clause-value : goal.returns-clause-value
+unfolding near_year_level
+returns-clause-value c =
     let tide = c.args.self.now in
     let y = year_of c.self.inside tide c.args.year c.index-year.result.now c.self.invariant c.self.view_is c.requires.year c.index-year.ensures in
     let same = to_z-of_z w64 c.args.m c.ranges.m in
-    let minutes : c.minutes_to.result ≡ minutes_into tide.first_year c.args.year c.args.m =
-    rw (same, y.start) at c.minutes_to.ensures.value in
+    let minutes : c.minutes_to.result ≡ minutes_into tide.first_year c.args.year c.args.m = rw (same, y.start) at c.minutes_to.ensures.value in
     let waves : c.as_slice.result.now ≡ waves_in tide c.args.year = c.as_slice.ensures.value ∙ y.waves in
     let heights : c.from.result ≡ c.near_heights.result =
     c.from.ensures ∙ cast_small w64 c.near_heights.result (2 * 10 ^ 18) c.near_heights.ensures.size (lit< tt) in
@@ -29,6 +27,7 @@ returns-clause-near c =
     omega (arith, ints, c.mean_level.ensures.size, c.near_heights.ensures.size, heights) in
     let datum : to_z w64 (of_z w64 c.self.inside.datum) ≡ tide.datum =
     cast_small w64 c.self.inside.datum (10 ^ 10) c.self.invariant.gentle.datum (lit< tt) ∙ ap (λ t. t.datum) c.self.view_is in
-    let mean : c.mean_level.result ≡ pos (10 ^ 9) *ℤ tide.datum = c.mean_level.ensures.value ∙ ap (λ d. pos (10 ^ 9) *ℤ d) datum in
-    let near = moved heights_of amount_of c.near_heights.result _ _ _ _ minutes waves c.near_heights.ensures.near in
-    rw (sum, heights, mean) (mean_added (pos (10 ^ 9) *ℤ tide.datum) c.near_heights.result _ _ near)
+    sum ∙ ap (λ x. x +ℤ c.from.result) (c.mean_level.ensures.value ∙ ap (λ d. pos (10 ^ 9) *ℤ d) datum)
+    ∙ ap (λ y. (pos (10 ^ 9) *ℤ tide.datum) +ℤ y)
+    (heights ∙ c.near_heights.ensures.value ∙ ap (λ t. near_heights_of t c.as_slice.result.now) minutes
+    ∙ ap (near_heights_of (minutes_into tide.first_year c.args.year c.args.m)) waves)

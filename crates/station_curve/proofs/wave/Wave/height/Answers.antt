@@ -1,13 +1,20 @@
-use Rattle.std.proofs.Common.{◌≡◌, ◌*◌, ◌^◌, ◌≤◌, ◌*ℤ◌, ap, arith, lit<}
-use Rattle.std.specs.Prelude.{unsigned_abs}
+use Rattle.std.proofs.Common.{FitsSigned, rules, ◌^◌, ◌*ℤ◌, ap, ◌∙◌, lit<}
+use Rattle.std.proofs.lemmas.Int.{to_z-of_z}
 use mir.Syntax.{w64}
-use Rattle.station_curve.proofs.Products.{times, abs_times}
+use Rattle.fixed_sine.specs.Sine.{isin_of}
+use Rattle.fixed_sine.specs.Turn.{units_of}
+use Rattle.station_curve.proofs.Products.{cast_small}
+use Rattle.station_curve.proofs.Turning.{cosine_ahead}
 use Rattle.station_curve.proofs.wave.Wave.height.Goals as goal
+
+pub returns-clause-value : goal.returns-clause-value
+returns-clause-value c =
+    let fits : FitsSigned w64 c.by_amplitude.result = search rules in
+    let same = cast_small w64 c.turn_sine.result (10 ^ 9) c.turn_sine.ensures.size (lit< tt) in
+    to_z-of_z w64 c.by_amplitude.result fits ∙ c.by_amplitude.ensures.value ∙ ap (λ z. c.args.self.now.amplitude *ℤ z) (same ∙ c.turn_sine.ensures.value ∙ ap (λ turn. isin_of (units_of turn)) c.turn_ahead.ensures ∙ cosine_ahead c.args.self.now c.args.minutes c.requires)
 
 pub returns-clause-size : goal.returns-clause-size
 returns-clause-size c =
-    let amplitude = c.self.inside.amplitude in
-    let same : amplitude ≡ c.args.self.now.amplitude = ap (λ h. h.amplitude) c.self.view_is in
-    let size = abs_times amplitude c.turn_cosine.result (unsigned_abs amplitude) (10 ^ 9) (omega arith) c.turn_cosine.ensures.size in
-    let bound : unsigned_abs (amplitude *ℤ c.turn_cosine.result) ≤ 10 ^ 9 * unsigned_abs c.args.self.now.amplitude = rw (← same) (omega (arith, size)) in
-    rw (times w64 amplitude c.turn_cosine.result (10 ^ 9) (10 ^ 9) c.self.invariant.amount c.turn_cosine.ensures.size (lit< tt) (lit< tt) (lit< tt)) bound
+    let fits : FitsSigned w64 c.by_amplitude.result = search rules in
+    let same = cast_small w64 c.turn_sine.result (10 ^ 9) c.turn_sine.ensures.size (lit< tt) in
+    rw (to_z-of_z w64 c.by_amplitude.result fits) (c.by_amplitude.ensures.size (10 ^ 9) (rw same c.turn_sine.ensures.size))

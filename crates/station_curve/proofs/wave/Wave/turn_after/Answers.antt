@@ -1,6 +1,5 @@
 use Rattle.std.proofs.Common.{◌≡◌, ◌+◌, ◌*◌, ◌%◌, ap, ◌∙◌, arith}
-use Rattle.fixed_sine.specs.Turn.{units_of, turn_of}
-use Rattle.station_curve.proofs.Turning.{drifted}
+use Rattle.fixed_sine.specs.Turn.{turn_of}
 use Rattle.station_curve.proofs.wave.Wave.turn_after.Goals as goal
 
 pub returns : goal.returns
@@ -9,6 +8,5 @@ returns c =
     let wrapped : (c.self.inside.start + c.self.inside.pace * c.args.minutes % 18446744073709551616) % 18446744073709551616 ≡ (c.self.inside.start + c.self.inside.pace * c.args.minutes) % 18446744073709551616 = omega arith in
     let start : c.self.inside.start ≡ turn_of wave.phase = c.self.invariant.started ∙ ap (λ h. turn_of h.phase) c.self.view_is in
     let pace : c.self.inside.pace ≡ turn_of wave.speed = c.self.invariant.paced ∙ ap (λ h. turn_of h.speed) c.self.view_is in
-    ap units_of (wrapped ∙ ap (λ s. (s + c.self.inside.pace * c.args.minutes) % 18446744073709551616) start
-    ∙ ap (λ p. (turn_of wave.phase + p * c.args.minutes) % 18446744073709551616) pace)
-    ∙ drifted wave.phase wave.speed c.args.minutes c.requires
+    wrapped ∙ ap (λ s. (s + c.self.inside.pace * c.args.minutes) % 18446744073709551616) start
+    ∙ ap (λ p. (turn_of wave.phase + p * c.args.minutes) % 18446744073709551616) pace

@@ -1,0 +1,18 @@
+//! What holds of levels and slopes found sooner.
+
+ghost use Rattle.std.specs.Prelude.{◌≤◌, length, ℤ, ◌-ℤ◌, unsigned_abs};
+ghost use Rattle.year_blend.specs.Places.{AreYears, InDomain};
+ghost use Rattle.station_curve.specs.Waves.{Tide};
+ghost use Rattle.station_curve.specs.Levels.{level_of, slope_of};
+ghost use Rattle.station_curve.specs.Near.{near_level_of, near_slope_of};
+ghost use Rattle.station_curve.specs.Errors.{level_error_of, slope_error_of};
+
+/// How far they may be from the level and the slope of a tide, at each minute of its years.
+pub fn near_values()
+    ensures level { (tide : Tide) (m : ℤ) → AreYears tide.first_year (length tide.years)
+        → InDomain tide.first_year (length tide.years) m
+        → unsigned_abs (near_level_of tide m -ℤ level_of tide m) ≤ level_error_of tide }
+    ensures slope { (tide : Tide) (m : ℤ) → AreYears tide.first_year (length tide.years)
+        → InDomain tide.first_year (length tide.years) m
+        → unsigned_abs (near_slope_of tide m -ℤ slope_of tide m) ≤ slope_error_of tide }
+{}
