@@ -26,7 +26,7 @@ use year_blend::{Place, Stretch, TOTAL_WEIGHT, place, stretch, weight, year_star
 ///
 /// Levels are in billionths of a millionth of the station's unit, times the weights of a blend
 /// ([`TOTAL_WEIGHT`]); slopes are how much such a level rises in a minute, times the units of a
-/// radian. No call but `new` takes memory.
+/// radian. No call but `new` and `over` takes memory.
 #[derive(Debug, Drop)]
 pub struct StationCurve {
     first_year: i32,
@@ -83,8 +83,8 @@ impl StationCurve {
 
     /// The curve of a station for the minutes from `first` to `last`, which are at most 10^12 in size.
     ///
-    /// Of other minutes it tells nothing: a year that doesn't come within an hour of these has no waves.
-    /// It is made sooner than that of all minutes. It is refused where that one is.
+    /// A year that doesn't come within an hour of these has no waves, so at other minutes it is no
+    /// prediction. It is made sooner than the curve of all minutes, and refused where that one is.
     pub fn over(
         alloc: Global,
         book: &Book,
@@ -147,14 +147,14 @@ impl StationCurve {
         }
     }
 
-    /// The first minute that it tells.
+    /// The first minute of its years.
     pub fn first(&self) -> i64
         ensures { result ≡ year_start_of self.now.first_year }
     {
         year_start(self.first_year)
     }
 
-    /// The last minute that it tells.
+    /// The first minute after its years, which is the last one that has a level.
     pub fn last(&self) -> i64
         ensures { result ≡ year_start_of (self.now.first_year +ℤ pos (length self.now.years)) }
     {
