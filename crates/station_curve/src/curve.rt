@@ -10,6 +10,7 @@ ghost use Rattle.year_blend.specs.Stretches.{stretch_of};
 ghost use Rattle.year_blend.specs.Weights.{total_weight};
 
 use crate::blend::{by_full_weight, drift, error_of, mixed, weighted};
+use crate::calendar::{calendar_place, calendar_stretch};
 use crate::fault::{CurveFault, is_hydraulic};
 use crate::greatest::{Greatest, greatest_of_years};
 use crate::reach::{Reach, all_minutes};
@@ -20,7 +21,7 @@ use decimal_text::rounded;
 use harmonics_text::{Book, SoundBook, Station};
 use std::alloc::{AllocError, Global};
 use std::marker::Model;
-use year_blend::{Place, Stretch, TOTAL_WEIGHT, place, stretch, weight, year_start};
+use year_blend::{Place, Stretch, TOTAL_WEIGHT, weight, year_start};
 
 /// The level and the slope of a station at each minute of a book's years.
 ///
@@ -281,6 +282,7 @@ impl StationCurve {
 
     /// Where the minutes from `m` to `m + n` lie, both included and told: in the plain part of one
     /// year, or across one new year. `n` is at most [`LONGEST_SPAN`](year_blend::LONGEST_SPAN).
+    #[inline]
     pub fn stretch(&self, m: i64, n: u32) -> Stretch
         requires first { InDomain self.now.first_year (length self.now.years) m }
         requires last { InDomain self.now.first_year (length self.now.years) (m +ℤ pos n) }
@@ -290,11 +292,12 @@ impl StationCurve {
         self.known();
         match self.year_around(m, m + i64::from(n)) {
             Some(year) => Stretch::Within { year },
-            None => stretch(self.first_year, self.years(), m, n),
+            None => calendar_stretch(self.first_year, self.years(), m, n),
         }
     }
 
     /// The place of a minute among the years.
+    #[inline]
     fn place(&self, m: i64) -> Place
         requires { InDomain self.now.first_year (length self.now.years) m }
         ensures value { result ≡ place_in_tide self.now m }
@@ -302,7 +305,7 @@ impl StationCurve {
     {
         match self.year_around(m, m) {
             Some(year) => Place::Plain { year },
-            None => place(self.first_year, self.years(), m),
+            None => calendar_place(self.first_year, self.years(), m),
         }
     }
 

@@ -8,6 +8,7 @@
 #![tactic(auto)]
 
 mod blend;
+mod calendar;
 mod changes;
 mod constants;
 mod curve;
