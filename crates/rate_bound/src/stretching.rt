@@ -10,7 +10,6 @@ use station_curve::StationCurve;
 use year_blend::Stretch;
 
 /// Where `n` minutes of a station from `a` on lie, at most `LONGEST_SPAN` of them.
-#[inline]
 pub fn stretch_of(station: &StationCurve, a: i64, n: u32) -> Stretch
     requires first { InDomain station.now.first_year (length station.now.years) a }
     requires last { InDomain station.now.first_year (length station.now.years) (a +ℤ pos n) }

@@ -91,7 +91,7 @@ in_error near exact size most close small =
     omega (arith, gap, small)
 
 -- the exact value is near itself
-no_gap : (value exact : ℤ) (n : ℕ) → value ≡ exact → unsigned_abs (value -ℤ exact) ≤ n
+pub no_gap : (value exact : ℤ) (n : ℕ) → value ≡ exact → unsigned_abs (value -ℤ exact) ≤ n
 no_gap value exact n same = omega (arith, ints, same)
 
 pub level_near : (tide : Tide) (m : ℤ) (p : Place) → p ≡ place_in_tide tide m → IsNearPlace tide.first_year (length tide.years) m p

@@ -10,18 +10,18 @@ ghost use Rattle.year_blend.specs.Stretches.{stretch_of};
 ghost use Rattle.year_blend.specs.Weights.{total_weight};
 
 use crate::blend::{by_full_weight, drift, error_of, mixed, weighted};
-use crate::calendar::{calendar_place, calendar_stretch};
+use crate::calendar::calendar_year_of;
 use crate::fault::{CurveFault, is_hydraulic};
 use crate::greatest::{Greatest, greatest_of_years};
 use crate::reach::{Reach, all_minutes};
-use crate::summing::{falls, heights, near_falls, near_heights};
+use crate::summing::{falls, heights, mean_level, near_falls, near_heights};
 use crate::year_sums::Sums;
 use crate::years::{Year, years_of};
 use decimal_text::rounded;
 use harmonics_text::{Book, SoundBook, Station};
 use std::alloc::{AllocError, Global};
 use std::marker::Model;
-use year_blend::{Place, Stretch, TOTAL_WEIGHT, weight, year_start};
+use year_blend::{Place, Stretch, TOTAL_WEIGHT, place, stretch, weight, year_start};
 
 /// The level and the slope of a station at each minute of a book's years.
 ///
@@ -38,9 +38,6 @@ pub struct StationCurve {
 
 /// The whole minutes of a mean year of the calendar.
 const MEAN_YEAR: u64 = 525_949;
-
-/// Billionths of a millionth in a millionth.
-const BILLION: i128 = 1_000_000_000;
 
 impl Model for StationCurve {
     ghost use Rattle.station_curve.specs.Waves.{Tide};
@@ -62,7 +59,7 @@ impl StationCurve {
     ghost use Rattle.station_curve.specs.Near.{near_year_level, near_year_slope, near_level_of, near_slope_of};
     ghost use Rattle.station_curve.specs.Errors.{level_error_of, slope_error_of};
     ghost use Rattle.station_curve.specs.Limits.{IsGentle, AreGentle};
-    ghost use Rattle.station_curve.specs.Workings.Nearness.{IsNear, IsNearPlace, IsAround};
+    ghost use Rattle.station_curve.specs.Workings.Nearness.{IsNear, IsNearPlace, IsPlainYear, IsAround};
     ghost use Rattle.station_curve.specs.Sums.{sums_of};
     ghost use Rattle.station_curve.specs.Levels.{minutes_into, waves_in, place_in_tide, year_level, year_slope, level_of, slope_of, millionths_of};
 
@@ -235,9 +232,9 @@ impl StationCurve {
         ensures near { unsigned_abs (result -ℤ level_of self.now m) ≤ level_error_of self.now }
         ensures size { unsigned_abs result ≤ total_weight * (12 * 10 ^ 18) }
     {
-        match self.place(m) {
-            Place::Plain { year } => by_full_weight(self.near_year_level(year, m)),
-            Place::Blend { .. } => self.level(m),
+        match self.plain_year(m) {
+            Some(year) => by_full_weight(self.near_year_level(year, m)),
+            None => self.level(m),
         }
     }
 
@@ -249,9 +246,9 @@ impl StationCurve {
         ensures near { unsigned_abs (result -ℤ slope_of self.now m) ≤ slope_error_of self.now }
         ensures size { unsigned_abs result < 2 * 10 ^ 37 }
     {
-        match self.place(m) {
-            Place::Plain { year } => by_full_weight(self.near_year_slope(year, m)),
-            Place::Blend { .. } => self.slope(m),
+        match self.plain_year(m) {
+            Some(year) => by_full_weight(self.near_year_slope(year, m)),
+            None => self.slope(m),
         }
     }
 
@@ -282,7 +279,6 @@ impl StationCurve {
 
     /// Where the minutes from `m` to `m + n` lie, both included and told: in the plain part of one
     /// year, or across one new year. `n` is at most [`LONGEST_SPAN`](year_blend::LONGEST_SPAN).
-    #[inline]
     pub fn stretch(&self, m: i64, n: u32) -> Stretch
         requires first { InDomain self.now.first_year (length self.now.years) m }
         requires last { InDomain self.now.first_year (length self.now.years) (m +ℤ pos n) }
@@ -292,12 +288,11 @@ impl StationCurve {
         self.known();
         match self.year_around(m, m + i64::from(n)) {
             Some(year) => Stretch::Within { year },
-            None => calendar_stretch(self.first_year, self.years(), m, n),
+            None => stretch(self.first_year, self.years(), m, n),
         }
     }
 
     /// The place of a minute among the years.
-    #[inline]
     fn place(&self, m: i64) -> Place
         requires { InDomain self.now.first_year (length self.now.years) m }
         ensures value { result ≡ place_in_tide self.now m }
@@ -305,7 +300,18 @@ impl StationCurve {
     {
         match self.year_around(m, m) {
             Some(year) => Place::Plain { year },
-            None => calendar_place(self.first_year, self.years(), m),
+            None => place(self.first_year, self.years(), m),
+        }
+    }
+
+    /// The year in whose plain part a minute lies, or none in a blend.
+    fn plain_year(&self, m: i64) -> Option<u32>
+        requires { InDomain self.now.first_year (length self.now.years) m }
+        ensures { IsPlainYear self.now.first_year (length self.now.years) m result }
+    {
+        match self.year_around(m, m) {
+            Some(year) => Some(year),
+            None => calendar_year_of(self.first_year, self.years(), m),
         }
     }
 
@@ -384,13 +390,4 @@ impl StationCurve {
         let year = &self.years[year as usize];
         heights(year.waves.as_slice(), year.minutes_to(m))
     }
-}
-
-/// The mean level of every minute.
-fn mean_level(datum: i64) -> i128
-    requires { unsigned_abs datum ≤ 10 ^ 10 }
-    ensures value { result ≡ pos (10 ^ 9) *ℤ datum }
-    ensures size { unsigned_abs result ≤ 10 ^ 19 }
-{
-    BILLION * i128::from(datum)
 }

@@ -1,10 +1,13 @@
 //! Sums over the waves of a year.
 
-ghost use Rattle.std.specs.Prelude.{◌≡◌, ◌*◌, ◌^◌, ◌≤◌, unsigned_abs};
+ghost use Rattle.std.specs.Prelude.{◌≡◌, ◌*◌, ◌^◌, ◌≤◌, pos, ◌*ℤ◌, unsigned_abs};
 ghost use Rattle.station_curve.specs.Waves.{heights_of, falls_of, amount_of, steepness_of};
 ghost use Rattle.station_curve.specs.Near.{near_heights_of, near_falls_of};
 
 use crate::wave::Wave;
+
+/// Billionths of a millionth in a millionth.
+const BILLION: i128 = 1_000_000_000;
 
 /// The sum of the waves' heights.
 pub fn heights(waves: &[Wave], minutes: u64) -> i64
@@ -60,4 +63,13 @@ pub fn near_falls(waves: &[Wave], minutes: u64) -> i128
         sum += wave.near_fall(minutes);
     }
     sum
+}
+
+/// The mean level of every minute, in billionths of a millionth.
+pub fn mean_level(datum: i64) -> i128
+    requires { unsigned_abs datum ≤ 10 ^ 10 }
+    ensures value { result ≡ pos (10 ^ 9) *ℤ datum }
+    ensures size { unsigned_abs result ≤ 10 ^ 19 }
+{
+    BILLION * i128::from(datum)
 }

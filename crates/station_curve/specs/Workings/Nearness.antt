@@ -1,9 +1,9 @@
 -- What keeps all numbers of a curve within their types.
-use Rattle.std.specs.Prelude.{◌≡◌, ℕ, suc, ◌+◌, ◌-◌, ◌%◌, ◌^◌, ◌<◌, ◌≤◌, ℤ, pos, ◌+ℤ◌, ◌-ℤ◌, ◌*ℤ◌, ◌≤ℤ◌, unsigned_abs}
+use Rattle.std.specs.Prelude.{◌≡◌, ℕ, suc, ◌+◌, ◌-◌, ◌%◌, ◌^◌, ◌<◌, ◌≤◌, Option, Some, None, ℤ, pos, ◌+ℤ◌, ◌-ℤ◌, ◌*ℤ◌, ◌≤ℤ◌, unsigned_abs}
 use Rattle.fixed_sine.specs.Turn.{units_of, turn_of}
 use Rattle.year_blend.specs.declared.parts.Place.{Place}
 use Rattle.year_blend.specs.declared.parts.Place.TheVariants.{Plain, Blend}
-use Rattle.year_blend.specs.Places.{start_of}
+use Rattle.year_blend.specs.Places.{start_of, place_of}
 use Rattle.year_blend.specs.Weights.{IsNearNewYear}
 use Rattle.station_curve.specs.Limits.{most_amount, most_steepness}
 
@@ -28,6 +28,12 @@ abbrev pub IsNearPlace : ℤ → ℕ → ℤ → Place → Type 0
 IsNearPlace first_year years m (Plain year) = (year < years) × IsNear first_year year m
 IsNearPlace first_year years m (Blend year x) =
     (0 < year) × (year < years) × IsNear first_year year m × IsNear first_year (year - 1) m × IsNearNewYear x
+
+-- a year that a minute lies in the plain part of, or none where it is in a blend
+abbrev pub IsPlainYear : ℤ → ℕ → ℤ → Option ℕ → Type 0
+IsPlainYear first_year years m (Some year) =
+    (Plain year ≡ place_of first_year years m) × (year < years) × IsNear first_year year m
+IsPlainYear first_year years m None = (year : ℕ) × (x : ℤ) × (Blend year x ≡ place_of first_year years m)
 
 -- minutes from one to another that are an hour or more from both ends of their year
 pub record IsAround (first_year : ℤ) (years : ℕ) (first last : ℤ) (year : ℕ) : Type 0 where

@@ -27,13 +27,13 @@ returns-in-None-clause-value c =
     let years = c.self.invariant.gentle.years in
     let first : to_z w32 (of_z w32 c.self.inside.first_year) ≡ c.args.self.now.first_year =
     cast_small w32 c.self.inside.first_year 8800 (abs_within c.self.inside.first_year 2 8800 years.least years.most) (lit< tt) ∙ ap (λ t. t.first_year) c.self.view_is in
-    rw (first, c.years.ensures, to_z-of_z w64 c.args.m c.ranges.m) at c.calendar_place.ensures.value
+    rw (first, c.years.ensures, to_z-of_z w64 c.args.m c.ranges.m) at c.place.ensures.value
 
 pub returns-in-None-clause-near : goal.returns-in-None-clause-near
 returns-in-None-clause-near c =
     let years = c.self.invariant.gentle.years in
     let first : to_z w32 (of_z w32 c.self.inside.first_year) ≡ c.args.self.now.first_year =
     cast_small w32 c.self.inside.first_year 8800 (abs_within c.self.inside.first_year 2 8800 years.least years.most) (lit< tt) ∙ ap (λ t. t.first_year) c.self.view_is in
-    near_place c.args.self.now.first_year (length c.args.self.now.years) c.args.m c.calendar_place.result
+    near_place c.args.self.now.first_year (length c.args.self.now.years) c.args.m c.place.result
     (gentle_of c.self.inside c.args.self.now c.self.invariant c.self.view_is).years.least
-    (rw (first, c.years.ensures, to_z-of_z w64 c.args.m c.ranges.m) at c.calendar_place.ensures.rule)
+    (rw (first, c.years.ensures, to_z-of_z w64 c.args.m c.ranges.m) at c.place.ensures.rule)

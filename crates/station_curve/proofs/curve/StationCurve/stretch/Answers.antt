@@ -32,4 +32,4 @@ returns-in-None c =
     let years = c.self.invariant.gentle.years in
     let first : to_z w32 (of_z w32 c.self.inside.first_year) ≡ c.args.self.now.first_year =
     cast_small w32 c.self.inside.first_year 8800 (abs_within c.self.inside.first_year 2 8800 years.least years.most) (lit< tt) ∙ ap (λ t. t.first_year) c.self.view_is in
-    rw (first, c.years.ensures, to_z-of_z w64 c.args.m c.ranges.m) at c.calendar_stretch.ensures
+    rw (first, c.years.ensures, to_z-of_z w64 c.args.m c.ranges.m) at c.stretch.ensures.value

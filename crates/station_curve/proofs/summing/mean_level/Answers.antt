@@ -1,7 +1,7 @@
 use Rattle.std.proofs.Common.{◌^◌, pos, ◌∙◌, lit<, lit≤}
 use mir.Syntax.{w64, w128}
 use Rattle.station_curve.proofs.Products.{cast_small, times, abs_times}
-use Rattle.station_curve.proofs.curve.mean_level.Goals as goal
+use Rattle.station_curve.proofs.summing.mean_level.Goals as goal
 
 pub returns-clause-value : goal.returns-clause-value
 returns-clause-value c =
