@@ -22,7 +22,7 @@ use Rattle.station_curve.specs.Sums.{sums_of}
 use Rattle.station_curve.specs.Workings.Nearness.{IsNear, IsNearPlace}
 use Rattle.station_curve.specs.Levels.{minutes_into, blended, drift, waves_in, place_in_tide, year_level, year_slope, level_of, slope_of, millionths_of}
 use Rattle.station_curve.specs.Schureman.{constituents_of, amplitude_of, speed_of, phase_of, predicted_year_level, predicted_year_slope, predicted_level, predicted_slope, predicted_millionths}
-use Rattle.station_curve.specs.Curves.{wave_of, waves_of, is_present, is_touched, waves_over, tide_over, Predicts, PredictsOver}
+use Rattle.station_curve.specs.Curves.{wave_of, waves_of, is_present, is_touched, tide_over, PredictsOver}
 use Rattle.station_curve.proofs.BookValues.{speed_pos}
 use Rattle.station_curve.proofs.Circling.{phase_onward}
 use Rattle.station_curve.proofs.Gentle.{fold-present, sums-present, first-tide_over, length-tide_over, waves_in-tide_over, over-touched}

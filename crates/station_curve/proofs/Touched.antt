@@ -1,5 +1,5 @@
 -- The years that tell a minute come within an hour of it.
-use Rattle.std.proofs.Common.{◌≡◌, ℕ, zero, suc, ◌-◌, ◌<◌, Bool, true, ◌&&◌, int_le, sym, ℤ, pos, negsuc, ◌+ℤ◌, ◌-ℤ◌, ◌≤ℤ◌, ◌<ℤ◌, ◌⊎◌, inl, inr, arith}
+use Rattle.std.proofs.Common.{◌≡◌, ℕ, zero, suc, ◌-◌, Bool, true, ◌&&◌, int_le, sym, ℤ, pos, ◌+ℤ◌, ◌≤ℤ◌, inl, inr, arith}
 use Rattle.std.proofs.lemmas.Int.{ints}
 use Rattle.std.proofs.lemmas.Bool.{and_from}
 use Rattle.harmonics_text.specs.declared.book.Book.{Book}
@@ -7,7 +7,6 @@ use Rattle.harmonics_text.specs.Books.{IsBook}
 use Rattle.year_blend.specs.declared.parts.Place.{Place}
 use Rattle.year_blend.specs.declared.parts.Place.TheVariants.{Plain, Blend}
 use Rattle.year_blend.specs.Places.{start_of, AreYears, InDomain, IsInYear, IsInBlend, IsPlaceOf, place_of}
-use Rattle.year_blend.specs.Years.{year_start_of}
 use Rattle.year_blend.proofs.PlaceLemmas.{le_test, start_of-later, place_of-rule}
 use Rattle.station_curve.specs.Curves.{is_touched}
 

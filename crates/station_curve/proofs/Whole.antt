@@ -1,12 +1,11 @@
 -- The tide of all minutes of a book's years.
-use Rattle.std.proofs.Common.{◌≡◌, ℕ, zero, suc, ◌<◌, true, List, length, get_or, None, ℤ, pos, ◌+ℤ◌, refl, sym, ap, subst, ◌∙◌, arith}
+use Rattle.std.proofs.Common.{◌≡◌, ℕ, suc, ◌<◌, true, List, length, get_or, None, ℤ, pos, ◌+ℤ◌, refl, sym, ap, subst, ◌∙◌, arith}
 use Rattle.std.specs.Prelude.{filter}
 use Rattle.std.proofs.lemmas.Int.{ints}
 use Rattle.std.proofs.lemmas.List.FromFn.{get_or-map-range_with_len, length-map-range_with_len}
 use Rattle.harmonics_text.specs.declared.book.Station.{Station}
 use Rattle.harmonics_text.specs.declared.book.Book.{Book}
 use Rattle.harmonics_text.specs.Books.{IsBook, IsStation}
-use Rattle.year_blend.specs.Places.{start_of}
 use Rattle.year_blend.specs.Years.{year_start_of}
 use Rattle.year_blend.proofs.PlaceLemmas.{start_of-later}
 use Rattle.station_curve.specs.Curves.{waves_of, is_present, is_touched, tide_of, tide_over, curve_of, curve_over, first_fault, Predicts, PredictsOver}
@@ -44,7 +43,7 @@ whole_years b s book =
     let over = length-tide_over b s (first_of b) (last_of b) in
     same_list (tide_over b s (first_of b) (last_of b)).years (tide_of b s).years (over ∙ sym (length-tide_of b s))
     (λ k d h. let below : k < b.years = omega (arith, h, over) in
-        waves_in-tide_over b s (first_of b) (last_of b) k d below ∙ over-touched b s (first_of b) (last_of b) k (touched_all b k book below) ∙ sym (waves_in-tide_of b s k d below))
+    waves_in-tide_over b s (first_of b) (last_of b) k d below ∙ over-touched b s (first_of b) (last_of b) k (touched_all b k book below) ∙ sym (waves_in-tide_of b s k d below))
 
 pub whole_tide : (b : Book) (s : Station) → IsBook b → tide_over b s (first_of b) (last_of b) ≡ tide_of b s
 unfolding tide_of tide_over

@@ -4,7 +4,6 @@ use Rattle.std.specs.Bool.{IsTrue}
 use Rattle.std.proofs.lemmas.Int.{ints}
 use Rattle.cert_text.specs.Certificates.{IsStationName}
 use Rattle.curve_law.specs.Meaning.{Meaning, AgreeOver, IsLawful, IsSpan}
-use Rattle.curve_law.proofs.CoverLemmas.{by_test}
 use Rattle.decimal_text.specs.Expected.{Excused}
 use Rattle.harmonics_text.specs.declared.book.Book.{Book}
 use Rattle.highest_water.specs.declared.peak.Peak.{Peak}

@@ -1,5 +1,3 @@
-use Rattle.std.proofs.Common.{◌≤◌, ap, arith, lit<}
-use Rattle.std.proofs.lemmas.Int.{ints}
 use Rattle.station_curve.proofs.ReadyYears.{near_start}
 use Rattle.station_curve.proofs.reach.all_minutes.Goals as goal
 

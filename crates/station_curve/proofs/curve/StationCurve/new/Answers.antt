@@ -1,4 +1,3 @@
-use Rattle.std.proofs.Common.{sym}
 use Rattle.station_curve.specs.Curves.{Predicts, PredictsOver}
 use Rattle.station_curve.proofs.Answering.{at_station, ok_too}
 use Rattle.station_curve.proofs.Whole.{first_of, last_of, whole_curve, whole_predicts}
