@@ -38,6 +38,16 @@ over_ok false book station first last tide is ok =
 pub curve_allowed : (book : Book) (station : Station) (first last : ℤ) (tide : Tide) → tide_from (curve_over book station first last) ≡ Ok tide → tide_from (curve_of book station) ≡ Ok (tide_of book station)
 curve_allowed book station first last tide ok = over_ok _ book station first last tide refl ok
 
+-- and it is of these minutes alone
+over_only : (hydraulic : Bool) (fault : Option CurveFault) (book : Book) (station : Station) (first last : ℤ) (tide : Tide) → is_hydraulic station.units ≡ hydraulic → first_fault book station book.years ≡ fault → tide_from (curve_over book station first last) ≡ Ok tide → tide ≡ tide_over book station first last
+unfolding curve_over
+over_only true fault book station first last tide is found ok = absurd (let none = rw is at ok in cc)
+over_only false (Some fault) book station first last tide is found ok = absurd (let none = rw (is, found) at ok in cc)
+over_only false None book station first last tide is found ok = let same = rw (is, found) at ok in cc
+
+pub curve_alone : (book : Book) (station : Station) (first last : ℤ) (tide : Tide) → tide_from (curve_over book station first last) ≡ Ok tide → tide ≡ tide_over book station first last
+curve_alone book station first last tide ok = over_only _ _ book station first last tide refl refl ok
+
 both_refused : (over whole : Tide) (fault : Option CurveFault) (refusal : Refusal) → tide_from (tide_or over fault) ≡ Err refusal → tide_from (tide_or whole fault) ≡ Err refusal
 both_refused over whole None refusal refused = absurd cc
 both_refused over whole (Some fault) refusal refused = refused

@@ -1,13 +1,14 @@
 //! The highest water of a station over a span.
 
-ghost use Rattle.std.specs.Prelude.{◌≡◌, ◌<◌, ◌≤◌, ◌^◌, ◌+ℤ◌, length, unsigned_abs, IfErr, IfOk, OnOk};
+ghost use Rattle.std.specs.Prelude.{◌≡◌, ◌<◌, ◌≤◌, ◌^◌, ◌+ℤ◌, length, unsigned_abs, IfErr, IfOk, OnOk, slice_get};
+ghost use Rattle.std.specs.Option.{ForSome};
 ghost use Rattle.cert_text.specs.Certificates.{IsStationName};
 ghost use Rattle.highest_water.specs.declared.verdict.PeakVerdict.{PeakVerdict};
 ghost use Rattle.tide_fault.specs.Faults.{IsToldRefusal};
 ghost use Rattle.station_span.specs.Peaks.{highest_site};
 ghost use Rattle.station_span.specs.Workings.Levels.{HasLevel};
 ghost use Rattle.station_span.specs.Workings.Peaks.{FindsHighest, HasHighest, IsSourceIn, tide_levels, tide_peak, tide_verdict};
-ghost use Rattle.station_span.specs.Workings.Spans.{IsNear};
+ghost use Rattle.station_span.specs.Workings.Spans.{IsMadeFor, IsNear};
 
 use crate::asked::Asked;
 use crate::levels::{check_level, source};
@@ -34,6 +35,8 @@ pub fn find_level(
 ) -> Result<Found, Refusal>
     requires near { IsNear asked.now }
     ensures exact { FindsHighest book.now asked.now (highest_site book.now table.now name.now asked.now) result }
+    ensures alone { IfOk result (λ found. ForSome (slice_get book.now.stations found.basis.station)
+        (λ s. IsMadeFor Reach.Highest book.now asked.now s found)) }
     ensures named { OnOk result (IsStationName name.now) }
     ensures told { IfErr result (IsToldRefusal table.now) }
 {

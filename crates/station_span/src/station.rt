@@ -10,7 +10,7 @@ ghost use Rattle.station_curve.specs.Limits.{IsGentle};
 ghost use Rattle.station_table.specs.Bases.{IsBasis, basis_of, is_equal};
 ghost use Rattle.tide_fault.specs.Faults.{wants_memory_of_refusal, IsToldRefusal};
 ghost use Rattle.station_span.specs.Sites.{basis_from, site_in, site_at, lacks_minute, level_unit, moved, reached, has_minute, has_span, span_in, length_in, mark_in, span_limit, tide_from};
-ghost use Rattle.station_span.specs.Workings.Spans.{IsBeside, IsNear, IsNearSpan, HasLevels, IsReached, FindsIn};
+ghost use Rattle.station_span.specs.Workings.Spans.{IsBeside, IsNear, IsNearSpan, HasLevels, IsReached, IsMadeFor, FindsIn};
 ghost use Rattle.year_blend.specs.Places.{AreYears, InDomain};
 ghost use Rattle.year_blend.specs.Years.{year_start_of};
 ghost use Rattle.zone_time.specs.Moments.{IsMoment};
@@ -50,6 +50,8 @@ pub fn find_station(
 ) -> Result<Found, Refusal>
     requires near { IsNear asked.now }
     ensures exact { FindsIn reach book.now asked.now (site_in reach book.now table.now name.now asked.now) result }
+    ensures alone { IfOk result (λ found. ForSome (slice_get book.now.stations found.basis.station)
+        (λ s. IsMadeFor reach book.now asked.now s found)) }
     ensures named { OnOk result (IsStationName name.now) }
     ensures told { IfErr result (IsToldRefusal table.now) }
 {
@@ -85,6 +87,8 @@ fn find_at(
     requires place { slice_get book.now.stations basis.station ≡ Some station.now }
     requires near { IsNear asked.now }
     ensures exact { FindsIn reach book.now asked.now (site_at reach book.now (record { basis = basis; station = station.now }) asked.now) result }
+    ensures alone { IfOk result (λ found. IsMadeFor reach book.now asked.now station.now found) }
+    ensures same { IfOk result (λ found. found.basis ≡ basis) }
     ensures told { IfErr result (IsToldRefusal []) }
 {
     let units = level_units(station.units)?;

@@ -3,10 +3,11 @@ use Rattle.std.specs.Prelude.{◌≡◌, ℤ, negsuc, pos, ◌-ℤ◌, ◌≤ℤ
 use Rattle.std.specs.Option.{ForSome}
 use Rattle.decimal_text.specs.Expected.{Excused}
 use Rattle.event_list.specs.declared.span.Span.{Span}
+use Rattle.harmonics_text.specs.declared.book.Station.{Station}
 use Rattle.harmonics_text.specs.declared.book.Book.{Book}
 use Rattle.harmonics_text.specs.declared.book.Units.{Units}
 use Rattle.harmonics_text.specs.declared.book.Units.TheVariants.{Feet, Meters, Knots, KnotsSquared}
-use Rattle.station_curve.specs.Curves.{Predicts, PredictsOver}
+use Rattle.station_curve.specs.Curves.{tide_over, Predicts, PredictsOver}
 use Rattle.station_curve.specs.Limits.{IsGentle}
 use Rattle.station_table.specs.declared.basis.Basis.{Basis}
 use Rattle.station_table.specs.Bases.{IsBasis, is_equal}
@@ -67,6 +68,12 @@ abbrev pub PredictsReached : Reach → Book → Asked → Site → Found → Typ
 PredictsReached reach book asked site found =
     let span = reached reach found.basis asked.begin asked.end in
     PredictsOver book site.station span.begin span.end found.curve
+
+-- a curve that is made for these minutes alone
+abbrev pub IsMadeFor : Reach → Book → Asked → Station → Found → Type 0
+IsMadeFor reach book asked station found =
+    let span = reached reach found.basis asked.begin asked.end in
+    found.curve ≡ tide_over book station span.begin span.end
 
 -- what was found of a site: its curve predicts it over the minutes that are looked at
 pub record IsFound (reach : Reach) (book : Book) (asked : Asked) (site : Site) (found : Found) : Type 0 where

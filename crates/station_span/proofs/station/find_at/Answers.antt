@@ -1,7 +1,7 @@
 use Rattle.std.proofs.Common.{refl, sym}
 use Rattle.std.proofs.lemmas.Result.{err_from_is_err_and}
 use Rattle.station_curve.specs.Curves.{tide_of}
-use Rattle.station_span.proofs.FoundLemmas.{HasCurve, curve_allowed, curve_excused, excused_by, refused_span, refused_curve, refused_length, refused_mark, found_whole}
+use Rattle.station_span.proofs.FoundLemmas.{HasCurve, curve_allowed, curve_alone, curve_excused, excused_by, refused_span, refused_curve, refused_length, refused_mark, found_whole}
 use Rattle.station_span.proofs.SpanLemmas.{has_offsets}
 use Rattle.station_span.specs.Sites.{Site}
 use Rattle.station_span.proofs.station.find_at.Goals as goal
@@ -57,3 +57,7 @@ returns-clause-exact c =
         mark = c.in_ok-check_mark.ensures.here;
       },
     )
+
+pub returns-clause-alone : goal.returns-clause-alone
+returns-clause-alone c =
+    curve_alone c.args.book.now c.args.station.now _ _ c.in_ok-curve.curve (rw c.reached-span.ensures.exact at c.in_ok-curve.ensures.exact)
