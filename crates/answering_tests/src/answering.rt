@@ -1,5 +1,6 @@
 //! Answers, streamed answers and refusals, over a pier and a stream.
 
+mod case;
 mod rows;
 mod sizes;
 
@@ -9,9 +10,10 @@ ghost use Rattle.question.specs.Asked.{IsAsked};
 ghost use Rattle.tide_answer.specs.Givens.{IsGiven};
 ghost use Rattle.tide_fault.specs.Faults.{IsTold};
 
+use case::{Case, asked, written};
 use decimal_text::{Bytes, Text};
 use harmonics_text::{Book, BookFault, read_book};
-use question::{AskFault, Command, Question, SoundQuestion, pairs_of_words, read_question};
+use question::SoundQuestion;
 use rows::{
     ANSWERS, ASK_FAULTS, CUT_SHORT, HALF_SLACK, PEAK_VERDICTS, REFUSALS, STREAMS, VERDICTS,
 };
@@ -20,15 +22,13 @@ use station_table::{OffsetFault, OffsetTable, read_offsets};
 use std::alloc::{AllocError, Global};
 use std::process::Abort;
 use std::test::Fail;
-use texts_for_tests::words_of;
 use tide_answer::{
-    Fault, Given, Slot, accepted_is_true, accepted_peak_is_true, answer, answer_alone, answer_into,
+    Fault, Listed, Slot, accepted_is_true, accepted_peak_is_true, answer_alone,
     certified_is_accepted, fault_line, fault_status, highest_is_told, peak_certified_is_accepted,
-    peak_certified_is_short, prepare, station_events, worked_rows,
+    peak_certified_is_short, station_events, worked_rows,
 };
 use tide_edge::MemorySink;
 use tide_fault::worked_lines;
-use zone_time::Zone;
 
 const PIER: &[u8] =
     b"1\nS2 30\n1999\n3\nS2\n0 0 0\n*END*\n3\nS2\n1 1 1\n*END*\nPier\n0:00 :UTC\n0 feet\nS2 1 0\n\
@@ -51,39 +51,24 @@ fn table(alloc: Global) -> Result<OffsetTable, OffsetFault> {
     read_offsets(alloc, TABLE)
 }
 
-/// The question that the words of a line ask.
-fn asked(alloc: Global, line: &str) -> Result<Question, AskFault>
-    ensures { IfOk result IsAsked }
+/// A question over both.
+fn pier_case(alloc: Global, line: &str, certificate: &str) -> Result<Case, Fail>
+    ensures book { IfOk result (λ case. IsBook case.book) }
+    ensures question { IfOk result (λ case. IsAsked case.question) }
+    ensures given { IfOk result (λ case. IsGiven case.given) }
 {
-    let words = words_of(alloc, line)?;
-    let pairs = pairs_of_words(alloc, &words)?;
-    read_question(alloc, &pairs)
-}
-
-/// Universal time, a certificate's text, and three o'clock on 2000-01-10.
-fn given(alloc: Global, certificate: &str) -> Result<Given, AllocError>
-    ensures { IfOk result IsGiven }
-{
-    if certificate.len() > 1000 {
-        return Err(AllocError);
-    }
-    Ok(Given {
-        zone: Zone::Utc,
-        certificate: Bytes::from_vec(Vec::from_slice(alloc, certificate.as_bytes())?),
-        now: 15_791_220,
-    })
+    Case::new(
+        alloc,
+        pier(alloc)?,
+        table(alloc)?,
+        line,
+        certificate.as_bytes(),
+    )
 }
 
 // The answer's text, or the line of its refusal.
 fn told(alloc: Global, line: &str, certificate: &str) -> Result<Bytes, Fail> {
-    let book = pier(alloc)?;
-    let table = table(alloc)?;
-    let question = asked(alloc, line)?;
-    let given = given(alloc, certificate)?;
-    match answer(alloc, &book, &table, &question, &given) {
-        Ok(answer) => Ok(answer.text),
-        Err(refusal) => Ok(fault_line(alloc, &Fault::Refused(refusal), &table)?),
-    }
+    pier_case(alloc, line, certificate)?.told(alloc)
 }
 
 #[test]
@@ -95,17 +80,20 @@ fn questions_have_their_answers(rt: HostRuntime) -> Result<(), Fail> {
     Ok(())
 }
 
+// The events that a question asks for its sheets.
+fn listed(alloc: Global, line: &str) -> Result<Listed, Fail> {
+    let case = pier_case(alloc, line, "")?;
+    match station_events(alloc, &case.book, &case.table, &case.question, &case.given) {
+        Ok(listed) => Ok(listed),
+        Err(_) => Err(Fail::from(AllocError)),
+    }
+}
+
 #[test]
 fn a_report_has_the_events_of_a_question(rt: HostRuntime) -> Result<(), Fail> {
     let alloc = rt.alloc();
-    let book = pier(alloc)?;
-    let table = table(alloc)?;
     let line = "report|file=f|station=Outer|begin=2000-01-10T00:00Z|end=2000-01-10T12:00Z|sheets=a";
-    let question = asked(alloc, line)?;
-    let given = given(alloc, "")?;
-    let Ok(listed) = station_events(alloc, &book, &table, &question, &given) else {
-        return Err(Fail::from(AllocError));
-    };
+    let listed = listed(alloc, line)?;
     assert_eq!(rt; listed.name.as_str(), "Outer");
     assert_eq!(rt; listed.events.as_slice().len(), 2);
     Ok(())
@@ -118,22 +106,9 @@ fn streamed(
     most: u64,
     failing: u64,
 ) -> Result<(MemorySink, Option<u64>), Fail> {
-    let book = pier(alloc)?;
-    let table = table(alloc)?;
-    let question = asked(alloc, line)?;
-    let given = given(alloc, "")?;
-    if !matches!(question.command, Command::Predict | Command::Certify) {
-        return Err(Fail::from(AllocError));
-    }
-    let Ok(ready) = prepare(alloc, &book, &table, &question, &given) else {
-        return Err(Fail::from(AllocError));
-    };
-    if !ready.streams() {
-        return Err(Fail::from(AllocError));
-    }
-    let mut sink = MemorySink::new(alloc, most.max(1), 100_000, [failing].to_vec(alloc)?)?;
-    let written = answer_into(&ready, &mut sink);
-    Ok((sink, written.err().map(|fault| fault.sent)))
+    let sink = MemorySink::new(alloc, most.max(1), 100_000, [failing].to_vec(alloc)?)?;
+    let ready = pier_case(alloc, line, "")?.ready(alloc)?;
+    Ok(written(&ready, sink)?)
 }
 
 #[test]

@@ -183,6 +183,17 @@ fn echo<D: Door>(door: &mut D) -> Result<bool, Failed>
     sent.map(|_| true)
 }
 
+/// A request in two pieces, and one without a byte.
+fn requests(alloc: Global) -> Result<Vec<Vec<Bytes>>, AllocError> {
+    let mut pieces = Vec::new(alloc);
+    pieces.push(Bytes::from_vec(b"pier".to_vec(alloc)?))?;
+    pieces.push(Bytes::from_vec(b" files".to_vec(alloc)?))?;
+    let mut requests = Vec::new(alloc);
+    requests.push(pieces)?;
+    requests.push(Vec::new(alloc))?;
+    Ok(requests)
+}
+
 #[test]
 fn a_door_in_memory_fails_when_told(rt: HostRuntime) -> Result<(), Fail> {
     let alloc = rt.alloc();
@@ -195,13 +206,7 @@ fn a_door_in_memory_fails_when_told(rt: HostRuntime) -> Result<(), Fail> {
         (3, 7, [Ok(true), Ok(true), Err(Failed)], "pie"),
         (0, 0, [Err(Failed), Ok(true), Ok(false)], ""),
     ] {
-        let mut pieces = Vec::new(alloc);
-        pieces.push(Bytes::from_vec(b"pier".to_vec(alloc)?))?;
-        pieces.push(Bytes::from_vec(b" files".to_vec(alloc)?))?;
-        let mut requests = Vec::new(alloc);
-        requests.push(pieces)?;
-        requests.push(Vec::new(alloc))?;
-        let mut door = MemoryDoor::new(alloc, requests, room, [failing].to_vec(alloc)?)?;
+        let mut door = MemoryDoor::new(alloc, requests(alloc)?, room, [failing].to_vec(alloc)?)?;
         assert_eq!(rt; door.listen(80), Ok(()));
         let outcomes = [echo(&mut door), echo(&mut door), echo(&mut door)];
         assert_eq!(rt; outcomes, expected, "room {room}, call {failing} fails");

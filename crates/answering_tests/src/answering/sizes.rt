@@ -2,18 +2,16 @@
 
 ghost use Rattle.std.specs.Prelude.{IfOk};
 ghost use Rattle.harmonics_text.specs.Books.{IsBook};
+ghost use Rattle.question.specs.Asked.{IsAsked};
 ghost use Rattle.tide_answer.specs.Givens.{IsGiven};
 
-use super::asked;
-use decimal_text::{Bytes, MOST_BYTES};
+use super::case::{Case, written};
+use decimal_text::Bytes;
 use harmonics_text::{Book, BookFault, read_book};
-use question::Command;
 use station_table::{OffsetTable, read_offsets};
 use std::alloc::{AllocError, Global};
 use std::test::Fail;
-use tide_answer::{Fault, Given, answer, answer_into, fault_line, prepare};
 use tide_edge::MemorySink;
-use zone_time::Zone;
 
 // A harbour of ten constituents in the year 2000.
 const FILE: &[u8] =
@@ -48,20 +46,6 @@ fn harbour(alloc: Global) -> Result<Book, BookFault>
     read_book(alloc, FILE)
 }
 
-// Universal time, a certificate's text, and three o'clock on 2000-01-10.
-fn given(alloc: Global, certificate: &[u8]) -> Result<Given, AllocError>
-    ensures { IfOk result IsGiven }
-{
-    if certificate.len() > MOST_BYTES {
-        return Err(AllocError);
-    }
-    Ok(Given {
-        zone: Zone::Utc,
-        certificate: Bytes::from_vec(Vec::from_slice(alloc, certificate)?),
-        now: 15_791_220,
-    })
-}
-
 // A command's line about the year, with more words.
 fn line_of(alloc: Global, command: &str, more: &str) -> Result<String, AllocError> {
     let mut line = String::from_str(alloc, command)?;
@@ -71,35 +55,26 @@ fn line_of(alloc: Global, command: &str, more: &str) -> Result<String, AllocErro
     Ok(line)
 }
 
-// The answer's text.
-fn answered(alloc: Global, line: &str, certificate: &[u8]) -> Result<Bytes, Fail> {
+// A question about the harbour.
+fn harbour_case(alloc: Global, line: &str, certificate: &[u8]) -> Result<Case, Fail>
+    ensures book { IfOk result (λ case. IsBook case.book) }
+    ensures question { IfOk result (λ case. IsAsked case.question) }
+    ensures given { IfOk result (λ case. IsGiven case.given) }
+{
     let book = harbour(alloc)?;
-    let table = OffsetTable::new(alloc);
-    let question = asked(alloc, line)?;
-    let given = given(alloc, certificate)?;
-    match answer(alloc, &book, &table, &question, &given) {
-        Ok(answer) => Ok(answer.text),
-        Err(_) => Err(Fail::from(AllocError)),
-    }
+    Case::new(alloc, book, OffsetTable::new(alloc), line, certificate)
+}
+
+// The answer's text, or the line of its refusal.
+fn told(alloc: Global, line: &str, certificate: &[u8]) -> Result<Bytes, Fail> {
+    harbour_case(alloc, line, certificate)?.told(alloc)
 }
 
 // The text that is written as it is found.
 fn streamed(alloc: Global, line: &str) -> Result<MemorySink, Fail> {
-    let book = harbour(alloc)?;
-    let table = OffsetTable::new(alloc);
-    let question = asked(alloc, line)?;
-    let given = given(alloc, b"")?;
-    if !matches!(question.command, Command::Predict | Command::Certify) {
-        return Err(Fail::from(AllocError));
-    }
-    let Ok(ready) = prepare(alloc, &book, &table, &question, &given) else {
-        return Err(Fail::from(AllocError));
-    };
-    let mut sink = MemorySink::new(alloc, 65_536, 4_000_000, Vec::new(alloc))?;
-    if ready.streams() {
-        let _written = answer_into(&ready, &mut sink);
-    }
-    Ok(sink)
+    let sink = MemorySink::new(alloc, 65_536, 4_000_000, Vec::new(alloc))?;
+    let ready = harbour_case(alloc, line, b"")?.ready(alloc)?;
+    Ok(written(&ready, sink)?.0)
 }
 
 const YEAR: &str = "|begin=2000-01-01T00:00Z|end=2001-01-01T00:00Z";
@@ -113,19 +88,19 @@ const LINES: &[(&str, &str, usize)] = &[
 ];
 
 #[test]
-fn a_year_of_ten_constituents_is_answered(rt: HostRuntime) -> Result<(), Fail> {
+fn a_year_of_ten_constituents_is_told(rt: HostRuntime) -> Result<(), Fail> {
     let alloc = rt.alloc();
     for &(command, more, lines) in LINES {
         let mut line = line_of(alloc, command, YEAR)?;
         line.push_str(more)?;
-        let text = answered(alloc, line.as_str(), b"")?;
+        let text = told(alloc, line.as_str(), b"")?;
         assert_eq!(rt;
             text.as_slice().iter().filter(|b| **b == b'\n').count(),
             lines
         );
     }
     let clock = line_of(alloc, "clock", "")?;
-    assert!(rt; !answered(alloc, clock.as_str(), b"")?.as_slice().is_empty());
+    assert!(rt; !told(alloc, clock.as_str(), b"")?.as_slice().is_empty());
     Ok(())
 }
 
@@ -148,22 +123,12 @@ const LOST_LINE: &str = "refused: no reference \
 fn the_longest_reference_is_told(rt: HostRuntime) -> Result<(), Fail> {
     let alloc = rt.alloc();
     let book = harbour(alloc)?;
-    let Ok(table) = read_offsets(alloc, LOST) else {
-        return Err(Fail::from(AllocError));
-    };
-    let question = asked(
-        alloc,
-        "predict|file=f|offsets=o|station=Dock|begin=2000-01-01T00:00Z|end=2000-01-02T00:00Z",
-    )?;
-    let given = given(alloc, b"")?;
-    match answer(alloc, &book, &table, &question, &given) {
-        Ok(_) => Err(Fail::from(AllocError)),
-        Err(refusal) => {
-            let line = fault_line(alloc, &Fault::Refused(refusal), &table)?;
-            assert_eq!(rt; line.as_slice(), LOST_LINE.as_bytes());
-            Ok(())
-        }
-    }
+    let table = read_offsets(alloc, LOST)?;
+    let line =
+        "predict|file=f|offsets=o|station=Dock|begin=2000-01-01T00:00Z|end=2000-01-02T00:00Z";
+    let told = Case::new(alloc, book, table, line, b"")?.told(alloc)?;
+    assert_eq!(rt; told.as_slice(), LOST_LINE.as_bytes());
+    Ok(())
 }
 
 // A year is predicted, certified and checked, at once and as it is found.
@@ -180,9 +145,9 @@ fn a_year_of_ten_constituents_is_certified(rt: HostRuntime) -> Result<(), Fail> 
         "certify",
         "|mark=6|begin=2000-01-01T00:00Z|end=2001-01-01T00:00Z",
     )?;
-    let listing = answered(alloc, predict.as_str(), b"")?;
-    let certificate = answered(alloc, certify.as_str(), b"")?;
-    let accepted = answered(alloc, "check|file=f|certificate=c", certificate.as_slice())?;
+    let listing = told(alloc, predict.as_str(), b"")?;
+    let certificate = told(alloc, certify.as_str(), b"")?;
+    let accepted = told(alloc, "check|file=f|certificate=c", certificate.as_slice())?;
     assert!(rt; listing.as_slice().len() > 100_000);
     assert!(rt; accepted.as_slice().starts_with(b"Accepted\n"));
     assert!(rt; accepted.as_slice().ends_with(listing.as_slice()));
