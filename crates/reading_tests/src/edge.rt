@@ -1,7 +1,8 @@
 //! The outside in memory, and that of the machine.
 
 ghost use Rattle.std.specs.Prelude.{◌≡◌, ◌≢◌, false, [], IsTrue, IfOk, MatchResult, OnErr, Ok, Err};
-ghost use Rattle.tide_edge.specs.Memory.{folder_of};
+ghost use Rattle.std.specs.List.{list_all};
+ghost use Rattle.tide_edge.specs.Memory.{are_pieces, folder_of};
 ghost use Rattle.tide_edge.specs.Whole.{whole};
 
 use decimal_text::{Bytes, Text};
@@ -184,7 +185,9 @@ fn echo<D: Door>(door: &mut D) -> Result<bool, Failed>
 }
 
 /// A request in two pieces, and one without a byte.
-fn requests(alloc: Global) -> Result<Vec<Vec<Bytes>>, AllocError> {
+fn requests(alloc: Global) -> Result<Vec<Vec<Bytes>>, AllocError>
+    ensures { IfOk result (λ requests. IsTrue (list_all (λ request. are_pieces request.items) requests.items)) }
+{
     let mut pieces = Vec::new(alloc);
     pieces.push(Bytes::from_vec(b"pier".to_vec(alloc)?))?;
     pieces.push(Bytes::from_vec(b" files".to_vec(alloc)?))?;
@@ -194,22 +197,25 @@ fn requests(alloc: Global) -> Result<Vec<Vec<Bytes>>, AllocError> {
     Ok(requests)
 }
 
+/// The room for replies, the call that fails, the outcomes of three connections, and the first reply.
+const DOORS: [(u64, u64, [Result<bool, Failed>; 3], &str); 7] = [
+    (4, 0, [Ok(true), Ok(true), Ok(false)], "pier"),
+    (4, 2, [Err(Failed), Ok(true), Ok(true)], "pier"),
+    (4, 3, [Err(Failed), Ok(true), Ok(false)], ""),
+    (4, 4, [Err(Failed), Ok(true), Ok(false)], ""),
+    (4, 5, [Ok(true), Err(Failed), Ok(true)], "pier"),
+    (3, 7, [Ok(true), Ok(true), Err(Failed)], "pie"),
+    (0, 0, [Err(Failed), Ok(true), Ok(false)], ""),
+];
+
 #[test]
 fn a_door_in_memory_fails_when_told(rt: HostRuntime) -> Result<(), Fail> {
     let alloc = rt.alloc();
-    for (room, failing, expected, first) in [
-        (4, 0, [Ok(true), Ok(true), Ok(false)], "pier"),
-        (4, 2, [Err(Failed), Ok(true), Ok(true)], "pier"),
-        (4, 3, [Err(Failed), Ok(true), Ok(false)], ""),
-        (4, 4, [Err(Failed), Ok(true), Ok(false)], ""),
-        (4, 5, [Ok(true), Err(Failed), Ok(true)], "pier"),
-        (3, 7, [Ok(true), Ok(true), Err(Failed)], "pie"),
-        (0, 0, [Err(Failed), Ok(true), Ok(false)], ""),
-    ] {
-        let mut door = MemoryDoor::new(alloc, requests(alloc)?, room, [failing].to_vec(alloc)?)?;
+    for (room, failing, expected, first) in &DOORS {
+        let mut door = MemoryDoor::new(alloc, requests(alloc)?, *room, [*failing].to_vec(alloc)?)?;
         assert_eq!(rt; door.listen(80), Ok(()));
         let outcomes = [echo(&mut door), echo(&mut door), echo(&mut door)];
-        assert_eq!(rt; outcomes, expected, "room {room}, call {failing} fails");
+        assert_eq!(rt; outcomes, *expected, "room {room}, call {failing} fails");
         assert_eq!(rt; door.reply(0), Some(first.as_bytes()));
         assert_eq!(rt; door.reply(1), Some(b"".as_slice()));
         assert_eq!(rt; door.reply(2), None);
