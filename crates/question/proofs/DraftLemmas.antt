@@ -69,11 +69,15 @@ has_entry-entry_of d key.Seed = refl
 has_entry-entry_of d key.Port = refl
 has_entry-entry_of d key.Sheets = refl
 
-pub has_entry-said : {origin : Origin} {said : Said} {d : Draft} → Holds origin said d → (k : Key) → has_entry d k ≡ is_some (said k)
+has_entry-said : {origin : Origin} {said : Said} {d : Draft} → Holds origin said d → (k : Key) → has_entry d k ≡ is_some (said k)
 has_entry-said {origin} {said} {d} h k = has_entry-entry_of d k ∙ is_some-read_as ((row_of k).form origin) (said k) (entry_of d k) (h.entries k)
 
+-- whether a key has an entry tells whether it was said
+pub told-said : {origin : Origin} {said : Said} {d : Draft} → Holds origin said d → (k : Key) (told : Bool) → told ≡ has_entry d k → is_some (said k) ≡ told
+told-said h k told is = sym (is ∙ has_entry-said h k)
+
 -- a value is there where the text has the form
-pub has_entry-put : (origin : Origin) (k : Key) (text : List ℕ) (d : Draft) → has_entry (put origin k text d) k ≡ has_form origin k text
+has_entry-put : (origin : Origin) (k : Key) (text : List ℕ) (d : Draft) → has_entry (put origin k text d) k ≡ has_form origin k text
 has_entry-put origin key.File text d = refl
 has_entry-put origin key.Offsets text d = refl
 has_entry-put origin key.Certificate text d = refl
@@ -87,6 +91,10 @@ has_entry-put origin key.Layout text d = refl
 has_entry-put origin key.Seed text d = refl
 has_entry-put origin key.Port text d = refl
 has_entry-put origin key.Sheets text d = refl
+
+-- whether the key has an entry then tells whether the text has the form
+pub told-put : (origin : Origin) (k : Key) (text : List ℕ) (d new : Draft) (told : Bool) → new ≡ put origin k text d → told ≡ has_entry new k → has_form origin k text ≡ told
+told-put origin k text d new told more is = sym (is ∙ ap (λ e. has_entry e k) more ∙ has_entry-put origin k text d)
 
 there : {V : Type 0} (v : Option V) → is_some v ≡ true → option_map Some v ≡ Some v
 there None h = absurd (cc)

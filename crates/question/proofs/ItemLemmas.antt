@@ -20,17 +20,17 @@ pub with_item-unknown : (origin : Origin) (command : Command) (place : ℕ) (ite
 unfolding with_item
 with_item-unknown origin command place item said text h k = rw (h, k)
 
-pub with_item-repeated : (origin : Origin) (command : Command) (place : ℕ) (item : Item) (said : Said) (text : List ℕ) (k : Key) → item.value ≡ Some text → key_named origin command item.key ≡ Some k → is_some (said k) ≡ true → with_item origin command place item said ≡ Err (RepeatedKey place)
+pub with_item-repeated : (origin : Origin) (command : Command) (place : ℕ) (item : Item) (said : Said) (text : List ℕ) (k : Key) → item.value ≡ Some text → Some k ≡ key_named origin command item.key → is_some (said k) ≡ true → with_item origin command place item said ≡ Err (RepeatedKey place)
 unfolding with_item
-with_item-repeated origin command place item said text k h named again = rw (h, named, again)
+with_item-repeated origin command place item said text k h named again = rw (h, ← named, again)
 
-pub with_item-bad : (origin : Origin) (command : Command) (place : ℕ) (item : Item) (said : Said) (text : List ℕ) (k : Key) → item.value ≡ Some text → key_named origin command item.key ≡ Some k → is_some (said k) ≡ false → has_form origin k text ≡ false → with_item origin command place item said ≡ Err (BadValue place)
+pub with_item-bad : (origin : Origin) (command : Command) (place : ℕ) (item : Item) (said : Said) (text : List ℕ) (k : Key) → item.value ≡ Some text → Some k ≡ key_named origin command item.key → is_some (said k) ≡ false → has_form origin k text ≡ false → with_item origin command place item said ≡ Err (BadValue place)
 unfolding with_item
-with_item-bad origin command place item said text k h named new bad = rw (h, named, new, bad)
+with_item-bad origin command place item said text k h named new bad = rw (h, ← named, new, bad)
 
-pub with_item-good : (origin : Origin) (command : Command) (place : ℕ) (item : Item) (said : Said) (text : List ℕ) (k : Key) → item.value ≡ Some text → key_named origin command item.key ≡ Some k → is_some (said k) ≡ false → has_form origin k text ≡ true → with_item origin command place item said ≡ Ok (also k text said)
+pub with_item-good : (origin : Origin) (command : Command) (place : ℕ) (item : Item) (said : Said) (text : List ℕ) (k : Key) → item.value ≡ Some text → Some k ≡ key_named origin command item.key → is_some (said k) ≡ false → has_form origin k text ≡ true → with_item origin command place item said ≡ Ok (also k text said)
 unfolding with_item
-with_item-good origin command place item said text k h named new good = rw (h, named, new, good)
+with_item-good origin command place item said text k h named new good = rw (h, ← named, new, good)
 
 -- no item is left
 pub with_items-none : (origin : Origin) (command : Command) (place : ℕ) (items : List Item) (i : ℕ) (said : Said) → length items ≤ i → with_items origin command place (drop i items) said ≡ Ok said

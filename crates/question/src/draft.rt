@@ -1,6 +1,6 @@
 //! A question while its items are gone through.
 
-ghost use Rattle.std.specs.Prelude.{◌≡◌, ◌&&◌, not, IfOk};
+ghost use Rattle.std.specs.Prelude.{◌≡◌, ◌&&◌, not, OnOk};
 ghost use Rattle.std.specs.List.{find};
 ghost use Rattle.question.specs.Keys.{all_keys, is_needed};
 
@@ -85,16 +85,16 @@ impl Draft {
         }
     }
 
-    /// The draft with what a text says for a key, which is nothing where the text hasn't the form
-    /// of the key's values.
-    pub fn with(
-        mut self,
+    /// Puts what a text says for a key, which is nothing where the text hasn't the form of the
+    /// key's values.
+    pub fn put(
+        &mut self,
         alloc: Global,
         origin: Origin,
         key: Key,
         text: &str,
-    ) -> Result<Draft, AllocError>
-        ensures { IfOk result (λ d. d ≡ put origin key text.now self) }
+    ) -> Result<(), AllocError>
+        ensures { OnOk result (self.new ≡ put origin key text.now self.old) }
     {
         match key {
             Key::File => self.file = some_text(alloc, text)?,
@@ -111,7 +111,7 @@ impl Draft {
             Key::Port => self.port = port(text),
             Key::Sheets => self.sheets = sheets(alloc, text)?,
         }
-        Ok(self)
+        Ok(())
     }
 
     /// The first key that the command needs and that hasn't been said.

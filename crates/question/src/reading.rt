@@ -3,7 +3,7 @@
 ghost use Rattle.std.specs.Prelude.{◌≡◌, ◌+◌, IfOk};
 ghost use Rattle.decimal_text.specs.Expected.{Gives};
 ghost use Rattle.question.specs.Asked.{IsAsked, NamesFiles};
-ghost use Rattle.question.specs.Questions.{Said, wants_memory, nothing_said, command_of, with_item, with_items, question_of};
+ghost use Rattle.question.specs.Questions.{Said, wants_memory, command_of, with_item, with_items, question_of};
 ghost use Rattle.question.specs.Workings.Drafts.{Holds, GivesDraft};
 
 use crate::command::{Command, command_named};
@@ -30,7 +30,14 @@ pub fn read_question(alloc: Global, pairs: &Pairs) -> Result<Question, AskFault>
     ensures named { IfOk result (NamesFiles pairs.now.origin) }
 {
     let command = read_command(pairs.origin, &pairs.command)?;
-    let draft = read_items(alloc, pairs.origin, command, pairs.items.as_slice())?;
+    let mut draft = Draft::new();
+    read_items(
+        alloc,
+        pairs.origin,
+        command,
+        pairs.items.as_slice(),
+        &mut draft,
+    )?;
     match draft.missing(pairs.origin, command) {
         Some(key) => Err(AskFault::MissingKey(key)),
         None => Ok(draft.question(command)),
@@ -46,23 +53,24 @@ fn read_command(origin: Origin, word: &Option<Text>) -> Result<Command, AskFault
     }
 }
 
-/// What the items say.
+/// Puts what the items say into the draft.
 fn read_items(
     alloc: Global,
     origin: Origin,
     command: Command,
     items: &[Item],
-) -> Result<Draft, AskFault>
-    ensures { GivesDraft origin (with_items origin command 1 items.now nothing_said) result }
+    draft: &mut Draft,
+) -> Result<(), AskFault>
+    ensures { (said : Said) → Holds origin said draft.old →
+        GivesDraft origin (with_items origin command 1 items.now said) draft.new result }
 {
-    let mut draft = Draft::new();
     for (at, item) in items.iter().enumerate() {
-        draft = read_item(alloc, origin, command, at as u64 + 1, item, draft)?;
+        read_item(alloc, origin, command, at as u64 + 1, item, draft)?;
     }
-    Ok(draft)
+    Ok(())
 }
 
-/// What an item says beside what was said before.
+/// Puts what an item says into the draft.
 #[tactic(auto, unfolding(crate::specs::Questions::with_item))]
 fn read_item(
     alloc: Global,
@@ -70,10 +78,10 @@ fn read_item(
     command: Command,
     place: u64,
     item: &Item,
-    draft: Draft,
-) -> Result<Draft, AskFault>
-    ensures { (said : Said) → Holds origin said draft →
-        GivesDraft origin (with_item origin command place item.now said) result }
+    draft: &mut Draft,
+) -> Result<(), AskFault>
+    ensures { (said : Said) → Holds origin said draft.old →
+        GivesDraft origin (with_item origin command place item.now said) draft.new result }
 {
     let Some(text) = &item.value else {
         return Err(AskFault::NotAPair(place));
@@ -84,9 +92,9 @@ fn read_item(
     if draft.has(key) {
         return Err(AskFault::RepeatedKey(place));
     }
-    let draft = draft.with(alloc, origin, key, text.as_str())?;
+    draft.put(alloc, origin, key, text.as_str())?;
     if draft.has(key) {
-        Ok(draft)
+        Ok(())
     } else {
         Err(AskFault::BadValue(place))
     }

@@ -71,10 +71,10 @@ read_as form (Some text) = option_map Some (form text)
 pub record Holds (origin : Origin) (said : Said) (d : Draft) : Type 0 where
   pub entries : (k : Key) → read_as ((row_of k).form origin) (said k) ≡ Some (entry_of d k)
 
--- a draft that holds what is expected to have been said
-abbrev pub GivesDraft : Origin → Result Said AskFault → Result Draft AskFault → Type 0
-GivesDraft origin expected (Ok d) = (said : Said) × (expected ≡ Ok said) × Holds origin said d
-GivesDraft origin expected (Err fault) = Excused (wants_memory fault) expected fault
+-- the draft holds what is expected to have been said
+abbrev pub GivesDraft : Origin → Result Said AskFault → Draft → Result (Unit {0}) AskFault → Type 0
+GivesDraft origin expected d (Ok done) = (said : Said) × (expected ≡ Ok said) × Holds origin said d
+GivesDraft origin expected d (Err fault) = Excused (wants_memory fault) expected fault
 
 -- the question of a draft
 abbrev pub asked_by : Command → Draft → Question
