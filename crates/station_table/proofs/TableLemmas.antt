@@ -10,6 +10,8 @@ use Rattle.station_table.specs.declared.header.Header.{Header}
 use Rattle.station_table.specs.declared.offsets.Offsets.{Offsets}
 use Rattle.station_table.specs.Reasons.{wants_memory}
 use Rattle.station_table.specs.Table.{at_row, header_of, offsets_of, rows_from, table_in, table_of}
+use Rattle.station_table.specs.Workings.Records.{Records, HasGiven, GivesHeader}
+use Rattle.station_table.proofs.RecordLemmas.{given_front}
 
 -- both steps went well
 bind_ok : {A B E : Type 0} (r : Result A E) (next : A → Result B E) (y : B) → (r >>= next) ≡ Ok y → (x : A) × (r ≡ Ok x) × (next x ≡ Ok y)
@@ -84,6 +86,13 @@ whole_table text names header seen table is first rows = rw (is, first) rows
 pub certain : (expected : Result (List Offsets) OffsetFault) (fault : OffsetFault) → expected ≡ Err fault → Excused (wants_memory fault) expected fault
 certain expected NoMemory is = tt
 certain expected (At row why) is = is
+
+-- the first record is the header, or the table's fault
+pub header_given : (text : List ℕ) (names : List (List ℕ)) (records : Records) (r : Result Header OffsetFault) → HasGiven text (names ∷ []) records → r ≡ header_of names → GivesHeader text records r
+header_given text names records (Ok header) given is = record { names = names; given = given; first = sym is }
+header_given text names records (Err fault) given is =
+    let more = given_front text (names ∷ []) records given in
+    certain (table_of text) fault (bad_header text names more.0 fault more.1 (sym is))
 
 -- what a row's fault says of the table's
 at_row_err : {A : Type 0} (row : ℕ) (r : Result A OffsetWhy) (fault : OffsetFault) → at_row row r ≡ Err fault → (why : OffsetWhy) × (r ≡ Err why) × (At row why ≡ fault)

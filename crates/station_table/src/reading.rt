@@ -1,12 +1,12 @@
 //! Reading a table.
 
-ghost use Rattle.std.specs.Prelude.{◌≡◌, ◌≤◌, [], length, IfOk};
+ghost use Rattle.std.specs.Prelude.{◌≡◌, ◌≤◌, ℕ, List, [], length, IfOk};
 ghost use Rattle.decimal_text.specs.Expected.{Gives};
 ghost use Rattle.csv.specs.Records.{fields_of};
 ghost use Rattle.station_table.specs.Offsets.{IsOffsets};
 ghost use Rattle.station_table.specs.Reasons.{wants_memory};
 ghost use Rattle.station_table.specs.Table.{at_row, offsets_of, table_of};
-ghost use Rattle.station_table.specs.Workings.Records.{HasGiven};
+ghost use Rattle.station_table.specs.Workings.Records.{HasGiven, HasHeader, GivesHeader};
 ghost use Rattle.decimal_text.specs.declared.limits.TheConstants.{MOST_BYTES};
 
 use crate::fault::OffsetFault;
@@ -33,21 +33,8 @@ pub fn read_offsets(alloc: Global, bytes: &[u8]) -> Result<OffsetTable, OffsetFa
     ensures { Gives wants_memory (table_of bytes.now) result }
 {
     let mut records = records_of(alloc, bytes);
-    let header = match records.next() {
-        Some(Ok(names)) => header_of(&names)?,
-        Some(Err(_)) => return Err(OffsetFault::NoMemory),
-        None => return Err(NO_HEADER),
-    };
-    let mut table = OffsetTable::new(alloc);
-    let mut row = 2;
-    for record in records {
-        match record {
-            Ok(record) => table.push(offsets_at(alloc, row, &record, header)?)?,
-            Err(_) => return Err(OffsetFault::NoMemory),
-        }
-        row += 1;
-    }
-    Ok(table)
+    let header = read_header(&mut records)?;
+    read_rows(alloc, &mut records, header)
 }
 
 /// The records of a text, of any lengths.
@@ -59,6 +46,38 @@ fn records_of(alloc: Global, bytes: &[u8]) -> ByteRecordsIntoIter<&[u8]>
         .flexible(true)
         .from_reader(alloc, bytes)
         .into_byte_records()
+}
+
+/// The header, which the first record is.
+fn read_header(records: &mut ByteRecordsIntoIter<&[u8]>) -> Result<Header, OffsetFault>
+    ensures { (text : List ℕ) → HasGiven text [] records.old → GivesHeader text records.new result }
+{
+    match records.next() {
+        Some(Ok(names)) => header_of(&names),
+        Some(Err(_)) => Err(OffsetFault::NoMemory),
+        None => Err(NO_HEADER),
+    }
+}
+
+/// The table of the rows that are left below the header.
+fn read_rows(
+    alloc: Global,
+    records: &mut ByteRecordsIntoIter<&[u8]>,
+    header: Header,
+) -> Result<OffsetTable, OffsetFault>
+    requires { (text : List ℕ) × HasHeader text header records.old × (length text ≤ MOST_BYTES) }
+    ensures { (text : List ℕ) → HasHeader text header records.old → Gives wants_memory (table_of text) result }
+{
+    let mut table = OffsetTable::new(alloc);
+    let mut row = 2;
+    for record in records {
+        match record {
+            Ok(record) => table.push(offsets_at(alloc, row, &record, header)?)?,
+            Err(_) => return Err(OffsetFault::NoMemory),
+        }
+        row += 1;
+    }
+    Ok(table)
 }
 
 /// The offsets of a row, by its number.

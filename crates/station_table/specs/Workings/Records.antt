@@ -1,10 +1,15 @@
 -- How far the records of a text have been read.
-use Rattle.std.specs.Prelude.{◌≡◌, ℕ, ◌<◌, List, Option, Some}
+use Rattle.std.specs.Prelude.{◌≡◌, ℕ, ◌<◌, List, [], ◌∷◌, Option, Some, Result, Ok, Err}
 use Rattle.std.specs.Borrow.{Bor}
 use Rattle.csv.specs.Reading.{Ready, Reached, default_config, owned_rows_left, owned_rows_reader, reader_config, reader_state, reader_trim, source_of, strip_bom}
 use Rattle.csv.specs.declared.iter.ByteRecordsIntoIter.{ByteRecordsIntoIter}
 use Rattle.csv.specs.declared.parser.State.TheVariants as st
 use Rattle.csv.specs.declared.reader.Trim.TheVariants as trim
+use Rattle.decimal_text.specs.Expected.{Excused}
+use Rattle.station_table.specs.declared.fault.OffsetFault.{OffsetFault}
+use Rattle.station_table.specs.declared.header.Header.{Header}
+use Rattle.station_table.specs.Reasons.{wants_memory}
+use Rattle.station_table.specs.Table.{header_of, table_of}
 
 abbrev pub Records : Type 0
 Records = ByteRecordsIntoIter (Bor (List ℕ))
@@ -21,3 +26,14 @@ pub record HasGiven (text : List ℕ) (rows : List (List (List ℕ))) (records :
   pub rest : List ℕ
   pub source : source_of held (owned_rows_reader records) ≡ Some rest
   pub reached : Reached default_config st.StartRecord (strip_bom text) rows (reader_state (owned_rows_reader records)) rest
+
+-- the text's header was given, and nothing more
+pub record HasHeader (text : List ℕ) (header : Header) (records : Records) : Type 0 where
+  pub names : List (List ℕ)
+  pub given : HasGiven text (names ∷ []) records
+  pub first : header_of names ≡ Ok header
+
+-- the text's header, or the fault of its table
+abbrev pub GivesHeader : List ℕ → Records → Result Header OffsetFault → Type 0
+GivesHeader text records (Ok header) = HasHeader text header records
+GivesHeader text records (Err fault) = Excused (wants_memory fault) (table_of text) fault

@@ -2,8 +2,8 @@ use Rattle.std.proofs.Common.{◌≡◌, ℕ, ◌+◌, List, ◌∷◌, length, 
 use Rattle.station_table.specs.Table.{header_of, rows_from}
 use Rattle.station_table.specs.declared.header.Header.{Header}
 use Rattle.station_table.specs.declared.offsets.Offsets.{Offsets}
-use Rattle.station_table.specs.Workings.Records.{Records, HasGiven}
-use Rattle.station_table.proofs.reading.read_offsets.Given as goal
+use Rattle.station_table.specs.Workings.Records.{Records, HasGiven, HasHeader}
+use Rattle.station_table.proofs.reading.read_rows.Given as goal
 
 -- the table so far is that of the records so far
 pub record IsSoFar (text : List ℕ) (header : Header) (row : ℕ) (table : List Offsets) (records : Records) : Type 0 where
@@ -15,4 +15,4 @@ pub record IsSoFar (text : List ℕ) (header : Header) (row : ℕ) (table : List
   pub number : row ≡ 2 + length seen
 
 abbrev pub invariant-loop-record : goal.invariant-loop-record
-invariant-loop-record l = IsSoFar l.fn.bytes l.header l.row l.table l.record-iterator
+invariant-loop-record l = (text : List ℕ) → HasHeader text l.header l.fn.records → IsSoFar text l.header l.row l.table l.record-iterator
