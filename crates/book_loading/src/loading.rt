@@ -1,6 +1,6 @@
 //! Loading a book from a file, in pieces.
 
-ghost use Rattle.std.specs.Prelude.{◌≡◌, ◌≤◌, ℕ, IsTrue, List, [], length, Option, Some, IfOk};
+ghost use Rattle.std.specs.Prelude.{◌≡◌, ◌≤◌, ℕ, IsTrue, List, [], length, Option, Some, IfOk, OnOk};
 ghost use Rattle.decimal_text.specs.Expected.{Gives};
 ghost use Rattle.harmonics_text.specs.Books.{IsBook};
 ghost use Rattle.book_loading.specs.Loading.{loaded, source_of, wants_memory};
@@ -51,22 +51,20 @@ pub fn load_book<F: Files>(
     ensures read { ReadWithin (one_file limit) (is_outside_fault source_of result) (F.state files.old) (F.state files.new) }
 {
     let mut room = vec![in alloc; 0; PIECE]?;
-    let reader = BookReader::new(alloc)?;
     match files.open(name) {
-        Ok(()) => load_rest(files, &mut room, reader, limit),
+        Ok(()) => load_rest(alloc, files, &mut room, limit),
         Err(_) => Err(LoadFault::Failed),
     }
 }
 
 /// Loads the book of the rest of the open file.
 fn load_rest<F: Files>(
+    alloc: Global,
     files: &mut F,
     room: &mut [u8],
-    reader: BookReader,
     limit: u64,
 ) -> Result<Book, LoadFault>
     requires room { length room.old ≡ PIECE }
-    requires unfed { reader.bytes ≡ [] }
     requires most { limit ≤ MOST_BYTES }
     ensures own { IsTrue (F.state files.old).store.tells
         → Meets source_of (IsTrue (F.state files.old).store.is_steady) (loaded limit (Some (F.state files.old).rest)) result }
@@ -74,7 +72,8 @@ fn load_rest<F: Files>(
     ensures sound { IfOk result IsBook }
     ensures read { IsReadOn limit (is_outside_fault source_of result) (F.state files.old) (F.state files.new) }
 {
-    let reader = feed_rest(files, room, reader, limit)?;
+    let mut reader = BookReader::new(alloc)?;
+    feed_rest(files, room, &mut reader, limit)?;
     Ok(reader.finish()?)
 }
 
@@ -83,22 +82,22 @@ fn load_rest<F: Files>(
 fn feed_rest<F: Files>(
     files: &mut F,
     room: &mut [u8],
-    mut reader: BookReader,
+    reader: &mut BookReader,
     limit: u64,
-) -> Result<BookReader, ReadAllFault>
+) -> Result<(), ReadAllFault>
     requires room { length room.old ≡ PIECE }
-    requires unfed { reader.bytes ≡ [] }
+    requires unfed { reader.old.bytes ≡ [] }
     requires most { limit ≤ MOST_BYTES }
     ensures whole { IsTrue (F.state files.old).store.tells
-        → Meets source_of_reading (IsTrue (F.state files.old).store.is_steady) (whole limit (Some (F.state files.old).rest)) (bytes_fed result) }
-    ensures within { IfOk result (λ reader. length reader.bytes ≤ limit) }
+        → Meets source_of_reading (IsTrue (F.state files.old).store.is_steady) (whole limit (Some (F.state files.old).rest)) (bytes_fed reader.new result) }
+    ensures within { OnOk result (length reader.new.bytes ≤ limit) }
     ensures read { IsReadOn limit (is_outside_fault source_of_reading result) (F.state files.old) (F.state files.new) }
 {
     let mut fed = 0;
     loop {
         let count = files.read(room)?;
         if count == 0 {
-            return Ok(reader);
+            return Ok(());
         }
         if count as u64 > limit - fed {
             return Err(ReadAllFault::TooLong);

@@ -18,8 +18,7 @@ use Rattle.harmonics_text.specs.Lines.{cut, is_comment, is_too_long, kept, numbe
 use Rattle.harmonics_text.specs.Reading.{At, book_of, GivesBook, FailsBook}
 use Rattle.harmonics_text.specs.Pieces.{ended_lines, pending_line, pending_length, judged_lines, fault_in, fault_so_far, GivesFault}
 use Rattle.harmonics_text.specs.Workings.Drafts.{IsDraft, after_line, book_in}
-use Rattle.harmonics_text.specs.Workings.Readers.{has_lf, IsProgress, nothing_read, on_line, held, with_pending, after_lines, with_bytes, finished, ended, GivesAt, Reads, ReadsOn}
-use Rattle.std.proofs.lemmas.List.{append-nil}
+use Rattle.harmonics_text.specs.Workings.Readers.{has_lf, IsProgress, nothing_read, on_line, held, with_pending, after_lines, with_bytes, finished, ended, GivesAt, reached, Reads, ReadsOn}
 use Rattle.harmonics_text.proofs.Ranges.{bind_ok}
 use Rattle.harmonics_text.proofs.Resume.{resume, resume_is_book}
 use Rattle.harmonics_text.proofs.Steps.{follow}
@@ -124,16 +123,14 @@ reads_more bytes piece (Ok p) after h on = subst (GivesAt after) (sym (in_pieces
 reads_more bytes piece (Err faults.NoMemory) after h on = rw on tt
 reads_more bytes piece (Err (faults.At line why)) after h on = rw on (in_pieces piece bytes drafts.Count 1 ∙ rw h refl)
 
-pub reads_fault : (bytes : List ℕ) (progress : Result Progress BookFault) (answer : Result (Unit {0}) BookFault) → Reads progress bytes → result_err answer ≡ result_err progress → GivesFault answer (fault_so_far bytes)
-reads_fault bytes (Ok p) (Ok x) h e = fault_is bytes ∙ rw h refl
-reads_fault bytes (Ok p) (Err fault) h e = absurd cc
-reads_fault bytes (Err fault) (Ok x) h e = absurd cc
-reads_fault bytes (Err f) (Err faults.NoMemory) h e = tt
-reads_fault bytes (Err faults.NoMemory) (Err (faults.At line why)) h e = absurd cc
-reads_fault bytes (Err (faults.At l w)) (Err (faults.At line why)) h e =
-    let number : l ≡ line = cc in
-    let reason : w ≡ why = cc in
-    fault_is bytes ∙ rw (h, number, reason) refl
+pub reads_fault : (bytes : List ℕ) (p : Progress) (fault : Option BookFault) (answer : Result (Unit {0}) BookFault) → Reads (reached p fault) bytes → fault ≡ result_err answer → GivesFault answer (fault_so_far bytes)
+reads_fault bytes p fault (Ok x) h is =
+    let all : Reads (Ok p) bytes = rw is at h in
+    fault_is bytes ∙ rw all refl
+reads_fault bytes p fault (Err faults.NoMemory) h is = tt
+reads_fault bytes p fault (Err (faults.At line why)) h is =
+    let all : Reads (Err (faults.At line why)) bytes = rw is at h in
+    fault_is bytes ∙ rw all refl
 
 pub reads_pending : (bytes : List ℕ) (p : Progress) → Reads (Ok p) bytes → (cond (is_comment p.pending) 0 (length p.pending) ≡ pending_length bytes) × (cond (is_comment p.pending) 0 (length p.pending) ≤ 4096)
 unfolding pending_length
@@ -191,11 +188,6 @@ pub fault_stands : (bytes more : List ℕ) (fault : At) → fault_so_far bytes �
 fault_stands bytes more fault e =
     let so_far : with_bytes drafts.Count 1 bytes ≡ Err fault = err_is (with_bytes drafts.Count 1 bytes) fault (sym (fault_is bytes) ∙ e) in
     book_is (bytes ++ more) ∙ rw (in_pieces more bytes drafts.Count 1, so_far) refl
-
--- what a reader answers of a whole file
-pub feed_fails : (bytes : List ℕ) (fault : BookFault) → GivesFault (Err fault) (fault_so_far bytes) → FailsBook fault (book_of bytes)
-feed_fails bytes faults.NoMemory gives = tt
-feed_fails bytes (faults.At line why) gives = ap book_of (sym (append-nil bytes)) ∙ fault_stands bytes [] (record { line = line; why = why }) gives
 
 abbrev some_fault : At → Option At
 some_fault fault = Some fault

@@ -1,11 +1,10 @@
 //! A file of harmonic constants that comes in pieces.
 
 ghost use Rattle.std.specs.Prelude.{◌≡◌, ◌+◌, ◌^◌, ◌++◌, ◌<◌, ◌≤◌, [], length, if◌then◌else◌, is_none, IfOk, IfSome, None};
-ghost use Rattle.std.specs.Result.{ForOk, result_err};
+ghost use Rattle.std.specs.Result.{result_err};
 ghost use Rattle.harmonics_text.specs.Books.{IsBook};
 ghost use Rattle.harmonics_text.specs.Reading.{GivesBook, book_of};
 ghost use Rattle.harmonics_text.specs.Pieces.{GivesFault, fault_so_far, pending_length};
-ghost use Rattle.harmonics_text.specs.Workings.Readers.{IsProgress, ReadsOn};
 ghost use Rattle.decimal_text.specs.declared.limits.TheConstants.{MOST_BYTES};
 
 use crate::book::Book;
@@ -14,7 +13,6 @@ use crate::history::History;
 use crate::progress::Progress;
 use std::alloc::{AllocError, Global};
 use std::marker::Model;
-use std::mem;
 
 /// Reads a file in pieces, which may be cut anywhere, within a comment or before a line's last byte
 /// too. It keeps no bytes but those of the line that has not ended, which are at most 4,096.
@@ -24,21 +22,22 @@ use std::mem;
 #[derive(Drop)]
 pub struct BookReader {
     alloc: Global,
-    /// How far the file is read, or the fault that was answered.
-    progress: Result<Progress, BookFault>,
+    /// How far the file is read, up to the fault.
+    progress: Progress,
+    /// The fault that was answered.
+    fault: Option<BookFault>,
     history: History,
 }
 
 impl Model for BookReader {
-    ghost use Rattle.std.specs.Result.{result_err};
     ghost use Rattle.harmonics_text.specs.Pieces.{Fed};
-    ghost use Rattle.harmonics_text.specs.Workings.Readers.{IsReader};
+    ghost use Rattle.harmonics_text.specs.Workings.Readers.{IsReader, reached};
 
     ghost Value = { Fed };
 
-    ghost view = { λ r. record { bytes = r.history.bytes; fault = result_err r.progress } };
+    ghost view = { λ r. record { bytes = r.history.bytes; fault = r.fault } };
 
-    ghost invariant = { λ r. IsReader r.progress r.history.bytes };
+    ghost invariant = { λ r. IsReader (reached r.progress r.fault) r.history.bytes };
 }
 
 impl BookReader {
@@ -46,9 +45,11 @@ impl BookReader {
     pub fn new(alloc: Global) -> Result<BookReader, AllocError>
         ensures { IfOk result (λ r. r ≡ record { bytes = []; fault = None }) }
     {
+        let progress = Progress::new(alloc)?;
         Ok(BookReader {
             alloc,
-            progress: Ok(Progress::new(alloc)?),
+            progress,
+            fault: None,
             history: History::new(),
         })
     }
@@ -65,9 +66,12 @@ impl BookReader {
         ensures again { IfSome self.old.fault (λ fault. result ≡ Err fault) }
     {
         self.history = self.history.then(piece);
-        let before = mem::replace(&mut self.progress, Err(BookFault::NoMemory));
-        self.progress = read_on(before, self.alloc, piece);
-        answered(&self.progress)
+        if let Some(fault) = self.fault {
+            return Err(fault);
+        }
+        let read = self.progress.read_piece(self.alloc, piece);
+        self.fault = read.err();
+        read
     }
 
     /// The book of all bytes that it was fed, or their first fault.
@@ -79,9 +83,13 @@ impl BookReader {
         let BookReader {
             alloc,
             progress,
+            fault,
             history: _,
         } = self;
-        progress?.into_book(alloc)
+        match fault {
+            Some(fault) => Err(fault),
+            None => progress.into_book(alloc),
+        }
     }
 
     /// How many bytes the line that has not ended has so far: at most 4,096, and 0 within a comment
@@ -90,32 +98,9 @@ impl BookReader {
         ensures exact { result ≡ (if is_none self.now.fault then pending_length self.now.bytes else 0) }
         ensures few { result ≤ 4096 }
     {
-        match &self.progress {
-            Ok(progress) => progress.pending.count(),
-            Err(_) => 0,
+        match self.fault {
+            None => self.progress.pending.count(),
+            Some(_) => 0,
         }
-    }
-}
-
-/// What is kept after a piece more. A fault stays.
-fn read_on(
-    before: Result<Progress, BookFault>,
-    alloc: Global,
-    piece: &[u8],
-) -> Result<Progress, BookFault>
-    requires sound { ForOk before IsProgress }
-    requires few { ForOk before (λ p. p.number + length piece.now < 2 ^ 32) }
-    ensures { ReadsOn before piece.now result }
-{
-    before?.after_piece(alloc, piece)
-}
-
-/// The fault that is kept.
-fn answered(progress: &Result<Progress, BookFault>) -> Result<(), BookFault>
-    ensures { result_err result ≡ result_err progress.now }
-{
-    match progress {
-        Ok(_) => Ok(()),
-        Err(fault) => Err(*fault),
     }
 }

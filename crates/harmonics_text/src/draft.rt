@@ -10,13 +10,13 @@ use crate::fault::{LineFault, Why};
 use crate::heading::{Heading, constituent, is_end};
 use crate::lines::{is_all_blank, is_comment, is_too_long, only_token, trimmed, without_cr};
 use crate::lists::{Constituents, Stations};
-use crate::local_time::local_time_of_line;
+use crate::local_time::{LocalTime, local_time_of_line};
 use crate::names::name_of;
 use crate::numbers::{count, first_year};
 use crate::record::{Constants, Record, amplitude_and_epoch, datum, into_station};
 use crate::scale::Scale;
 use crate::table::{Table, start_table, with_line};
-use decimal_text::Numbers;
+use decimal_text::{Numbers, Text};
 use std::alloc::{AllocError, Global};
 use std::mem;
 
@@ -264,28 +264,51 @@ fn after_nothing(alloc: Global, book: Book, text: &[u8]) -> Result<Draft, LineFa
 }
 
 #[tactic(auto, unfolding(crate::specs::Workings::Drafts::after_record))]
+fn after_station_name(
+    alloc: Global,
+    book: Book,
+    name: Text,
+    text: &[u8],
+) -> Result<Draft, LineFault>
+    ensures { Follows (λ d. d) result (after_record book (Record.Name name) text.now) }
+{
+    let local_time = local_time_of_line(alloc, text)?;
+    Ok(Draft::Stations(book, Record::LocalTime(name, local_time)))
+}
+
+#[tactic(auto, unfolding(crate::specs::Workings::Drafts::after_record))]
+fn after_local_time(
+    alloc: Global,
+    book: Book,
+    name: Text,
+    local_time: LocalTime,
+    text: &[u8],
+) -> Result<Draft, LineFault>
+    ensures { Follows (λ d. d) result (after_record book (Record.LocalTime name local_time) text.now) }
+{
+    let (datum, units) = datum(text)?;
+    let count = book.constituents.as_slice().len();
+    let constants = Constants {
+        name,
+        local_time,
+        datum,
+        units,
+        amplitude: Column::with_room(alloc, count)?,
+        epoch: Column::with_room(alloc, count)?,
+    };
+    Ok(Draft::Stations(book, Record::Constants(constants)))
+}
+
+#[tactic(auto, unfolding(crate::specs::Workings::Drafts::after_record))]
 fn after_record(alloc: Global, book: Book, begun: Record, text: &[u8]) -> Result<Draft, LineFault>
     requires { IsDraft (Draft.Stations book begun) }
     ensures { Follows (λ d. d) result (after_record book begun text.now) }
 {
     match begun {
         Record::Nothing => after_nothing(alloc, book, text),
-        Record::Name(name) => {
-            let local_time = local_time_of_line(alloc, text)?;
-            Ok(Draft::Stations(book, Record::LocalTime(name, local_time)))
-        }
+        Record::Name(name) => after_station_name(alloc, book, name, text),
         Record::LocalTime(name, local_time) => {
-            let (datum, units) = datum(text)?;
-            let count = book.constituents.as_slice().len();
-            let constants = Constants {
-                name,
-                local_time,
-                datum,
-                units,
-                amplitude: Column::with_room(alloc, count)?,
-                epoch: Column::with_room(alloc, count)?,
-            };
-            Ok(Draft::Stations(book, Record::Constants(constants)))
+            after_local_time(alloc, book, name, local_time, text)
         }
         Record::Constants(constants) => after_pair(book, constants, text),
     }

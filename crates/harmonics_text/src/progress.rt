@@ -2,7 +2,8 @@
 
 ghost use Rattle.std.specs.Prelude.{◌≡◌, ◌+◌, ◌<◌, ◌≤◌, ◌^◌, ◌++◌, ◌∷◌, [], length, false, IfOk, MatchResult};
 ghost use Rattle.harmonics_text.specs.Workings.Drafts.{IsDraft, placed, book_in};
-ghost use Rattle.harmonics_text.specs.Workings.Readers.{IsProgress, GivesAt, FailsAt, has_lf, nothing_read, with_pending, with_bytes, ended, finished};
+ghost use Rattle.harmonics_text.specs.Workings.Readers.{IsProgress, GivesAt, FailsAt, has_lf, nothing_read, reached, with_pending, with_bytes, ended, finished};
+ghost use Rattle.std.specs.Result.{result_err};
 
 use crate::book::Book;
 use crate::draft::Draft;
@@ -35,61 +36,42 @@ impl Progress {
     pub fn new(alloc: Global) -> Result<Progress, AllocError>
         ensures { IfOk result (λ p. p ≡ nothing_read) }
     {
+        let pending = Pending::new(alloc)?;
         Ok(Progress {
             draft: Draft::Count,
             number: 1,
-            pending: Pending::new(alloc)?,
+            pending,
         })
     }
 
-    /// What it is after a piece more. Lines that begin and end in the piece are read from there.
-    pub fn after_piece(self, alloc: Global, piece: &[u8]) -> Result<Progress, BookFault>
-        requires sound { IsProgress self }
-        requires few { self.number + length piece.now < 2 ^ 32 }
-        ensures { GivesAt result (with_bytes self.draft self.number (self.pending ++ piece.now)) }
+    /// Reads a piece more. Lines that begin and end in the piece are read from there. After a fault
+    /// it stands somewhere in the piece, and is not to be read on.
+    pub fn read_piece(&mut self, alloc: Global, piece: &[u8]) -> Result<(), BookFault>
+        requires sound { IsProgress self.old }
+        requires few { self.old.number + length piece.now < 2 ^ 32 }
+        ensures { GivesAt (reached self.new (result_err result)) (with_bytes self.old.draft self.old.number (self.old.pending ++ piece.now)) }
     {
         let Some((last, rest)) = next_line(piece) else {
-            return self.after_rest(piece);
+            return self.add_rest(piece);
         };
-        let Progress {
-            draft,
-            number,
-            mut pending,
-        } = self;
-        if let Err(fault) = pending.end(last) {
-            return Err(at_line(number, fault));
+        if let Err(fault) = self.pending.end(last) {
+            return Err(at_line(self.number, fault));
         }
-        match after_lines(draft, number, alloc, pending.whole(last), rest) {
-            Ok((draft, number, rest)) => {
-                pending.clear();
-                let progress = Progress {
-                    draft,
-                    number,
-                    pending,
-                };
-                progress.after_rest(rest)
-            }
-            Err(fault) => Err(fault),
-        }
+        let line = self.pending.whole(last);
+        let (number, rest) = add_lines(&mut self.draft, self.number, alloc, line, rest)?;
+        self.number = number;
+        self.pending.clear();
+        self.add_rest(rest)
     }
 
-    /// What it is after more bytes of a line that does not end.
+    /// Adds bytes of a line that does not end in them.
     #[tactic(auto, unfolding(crate::specs::Workings::Readers::with_pending))]
-    fn after_rest(self, rest: &[u8]) -> Result<Progress, BookFault>
-        ensures { GivesAt result (with_pending self.draft self.number (self.pending ++ rest.now)) }
+    fn add_rest(&mut self, rest: &[u8]) -> Result<(), BookFault>
+        ensures { GivesAt (reached self.new (result_err result)) (with_pending self.old.draft self.old.number (self.old.pending ++ rest.now)) }
     {
-        let Progress {
-            draft,
-            number,
-            mut pending,
-        } = self;
-        match pending.add(rest) {
-            Ok(()) => Ok(Progress {
-                draft,
-                number,
-                pending,
-            }),
-            Err(fault) => Err(at_line(number, fault)),
+        match self.pending.add(rest) {
+            Ok(()) => Ok(()),
+            Err(fault) => Err(at_line(self.number, fault)),
         }
     }
 
@@ -101,34 +83,34 @@ impl Progress {
         ensures { GivesAt result (ended self) }
     {
         let Progress {
-            draft,
+            mut draft,
             number,
             pending,
         } = self;
         if pending.is_empty() {
             return finish(draft, number);
         }
-        match after_lines(draft, number, alloc, pending.as_slice(), &[]) {
-            Ok((draft, number, _)) => finish(draft, number),
+        match add_lines(&mut draft, number, alloc, pending.as_slice(), &[]) {
+            Ok((number, _)) => finish(draft, number),
             Err(fault) => Err(fault),
         }
     }
 }
 
-/// What a line and those that end in the bytes behind it make of a draft: the draft, the number of
-/// the line after them, and what has come of that.
-fn after_lines<'a>(
-    mut draft: Draft,
+/// Adds a line and those that end in the bytes behind it to a draft: the number of the line after
+/// them, and what has come of that.
+fn add_lines<'a>(
+    draft: &mut Draft,
     mut number: u32,
     alloc: Global,
     first: &[u8],
     bytes: &'a [u8],
-) -> Result<(Draft, u32, &'a [u8]), BookFault>
-    requires sound { IsDraft draft }
+) -> Result<(u32, &'a [u8]), BookFault>
+    requires sound { IsDraft draft.old }
     requires one { has_lf first.now ≡ false }
     requires few { number + length bytes.now + 1 < 2 ^ 32 }
-    ensures exact { MatchResult result (λ r. with_bytes draft number (first.now ++ 10 ∷ bytes.now) ≡ with_pending r.0 r.1 r.2.now) (λ e. FailsAt e (with_bytes draft number (first.now ++ 10 ∷ bytes.now))) }
-    ensures shorter { IfOk result (λ r. length r.2.now ≤ length bytes.now) }
+    ensures exact { MatchResult result (λ r. with_bytes draft.old number (first.now ++ 10 ∷ bytes.now) ≡ with_pending draft.new r.0 r.1.now) (λ e. FailsAt e (with_bytes draft.old number (first.now ++ 10 ∷ bytes.now))) }
+    ensures shorter { IfOk result (λ r. length r.1.now ≤ length bytes.now) }
 {
     let mut line = first;
     let mut rest = bytes;
@@ -142,7 +124,7 @@ fn after_lines<'a>(
                 line = next;
                 rest = after;
             }
-            None => return Ok((draft, number, rest)),
+            None => return Ok((number, rest)),
         }
     }
 }

@@ -25,6 +25,7 @@ pub fn read_book(alloc: Global, bytes: &[u8]) -> Result<Book, BookFault>
     ensures sound { IfOk result IsBook }
 {
     let mut reader = BookReader::new(alloc)?;
-    reader.feed(bytes)?;
+    // a fault stays, and `finish` answers it again
+    let _ = reader.feed(bytes);
     reader.finish()
 }

@@ -73,7 +73,12 @@ GivesAt (Err e) read = FailsAt e read
 
 -- ---- The reader
 
--- what is kept, or the fault that was answered, is what all bytes so far make
+-- how far it is read, or the fault that was answered
+abbrev pub reached : Progress → Option BookFault → Result Progress BookFault
+reached p None = Ok p
+reached p (Some fault) = Err fault
+
+-- that is what all bytes so far make
 abbrev pub Reads : Result Progress BookFault → List ℕ → Type 0
 Reads progress bytes = GivesAt progress (with_bytes drafts.Count 1 bytes)
 
@@ -81,7 +86,7 @@ pub record IsReader (progress : Result Progress BookFault) (bytes : List ℕ) : 
   pub reads : Reads progress bytes
   pub few : length bytes ≤ MOST_BYTES
 
--- what is kept after a piece more; a fault stays
+-- the same after a piece more; a fault stays
 abbrev pub ReadsOn : Result Progress BookFault → List ℕ → Result Progress BookFault → Type 0
 ReadsOn (Ok p) piece after = GivesAt after (with_bytes p.draft p.number (p.pending ++ piece))
 ReadsOn (Err fault) piece after = after ≡ Err fault

@@ -1,7 +1,7 @@
 use Rattle.std.proofs.Common.{arith}
 use Rattle.harmonics_text.proofs.Keeping.{line_on, line_ends, line_fails}
 use Rattle.harmonics_text.proofs.Sound.{line_sound}
-use Rattle.harmonics_text.proofs.progress.after_lines.Goals as goal
+use Rattle.harmonics_text.proofs.progress.add_lines.Goals as goal
 
 pub lines-preserved : goal.lines-preserved
 lines-preserved c = record {
