@@ -1,8 +1,8 @@
 use Rattle.std.proofs.Common.{◌≡◌, ◌≤◌, ◌+◌, ◌-◌, ◌++◌, IsTrue, length}
 use Rattle.book_loading.proofs.loading.feed_rest.Given as goal
 
-abbrev pub invariant-loop-reader : goal.invariant-loop-reader
-invariant-loop-reader g l = record {
+abbrev pub invariant-loop-count : goal.invariant-loop-count
+invariant-loop-count g l = record {
   within : l.fed ≤ l.limit;
   counted : l.fed ≡ length l.reader.bytes;
   store : (g.F.Files.state l.files).store ≡ (g.F.Files.state l.initial.files).store;
@@ -14,5 +14,5 @@ invariant-loop-reader g l = record {
   faults : (g.F.Files.state l.files).faults ≡ (g.F.Files.state l.initial.files).faults;
 }
 
-abbrev pub decreases-loop-reader : goal.decreases-loop-reader
-decreases-loop-reader g l = (l.limit + 1) - l.fed
+abbrev pub decreases-loop-count : goal.decreases-loop-count
+decreases-loop-count g l = (l.limit + 1) - l.fed
