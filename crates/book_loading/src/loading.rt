@@ -73,8 +73,11 @@ fn load_rest<F: Files>(
     ensures read { IsReadOn limit (is_outside_fault source_of result) (F.state files.old) (F.state files.new) }
 {
     let mut reader = BookReader::new(alloc)?;
-    feed_rest(files, room, &mut reader, limit)?;
-    Ok(reader.finish()?)
+    let fed = feed_rest(files, room, &mut reader, limit);
+    let book = reader.finish();
+    // a fault of reading comes first
+    fed?;
+    Ok(book?)
 }
 
 /// Feeds the rest of the open file to a new reader in pieces of the room's size, if at most `limit`

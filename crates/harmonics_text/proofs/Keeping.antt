@@ -1,6 +1,7 @@
 -- What is kept between two pieces, and what more bytes make of it, however they are cut.
 use Rattle.std.proofs.Common.{◌≡◌, ℕ, suc, ◌+◌, ◌≤◌, true, false, cond, List, [], ◌∷◌, ◌++◌, length, length-append, ◌≢◌, Result, Ok, Err, refl, sym, ap, subst, ◌∙◌, append_assoc, add-zero, arith}
-use Rattle.std.specs.Prelude.{codes}
+use Rattle.std.specs.Prelude.{codes, MatchResult}
+use Rattle.std.specs.Result.{result_and}
 use Rattle.decimal_text.specs.Expected.{◌>>=◌}
 use Rattle.harmonics_text.specs.declared.book.Book.{Book}
 use Rattle.harmonics_text.specs.declared.draft.Draft.{Draft}
@@ -272,11 +273,16 @@ ended_is p sound some =
     [ Ok e ↦ ap (λ (t : Total). t >>= complete) (sym (with_last e (n + 1) [] refl)) | Err why ↦ refl ] in
     rw (filled p.pending some) (go (after_line p.draft p.pending) ∙ ap (λ (t : Total). t >>= complete) (sym (line_is p.draft n p.pending [] (after_line p.draft p.pending) sound.pending refl)))
 
-pub end_gives : (p : Progress) (e : Draft) (m : ℕ) (after : List ℕ) (r : Result Book BookFault) → IsProgress p → p.pending ≢ [] → length after ≤ 0 → with_bytes p.draft p.number (p.pending ++ 10 ∷ []) ≡ with_pending e m after → GivesAt r (finished m (book_in e)) → GivesAt r (ended p)
+pub end_gives : (p : Progress) (e : Draft) (m : ℕ) (after : List ℕ) → IsProgress p → p.pending ≢ [] → length after ≤ 0 → with_bytes p.draft p.number (p.pending ++ 10 ∷ []) ≡ with_pending e m after → finished m (book_in e) ≡ ended p
 unfolding with_pending
-end_gives p e m [] r sound some none is gives = subst (GivesAt r) (sym (ended_is p sound some ∙ ap (λ (t : Total). t >>= complete) is)) gives
-end_gives p e m (b ∷ bs) r sound some none is gives = absurd (omega (arith, none))
+end_gives p e m [] sound some none is = sym (ended_is p sound some ∙ ap (λ (t : Total). t >>= complete) is)
+end_gives p e m (b ∷ bs) sound some none is = absurd (omega (arith, none))
 
 pub end_gives_fault : (p : Progress) (fault : BookFault) → IsProgress p → p.pending ≢ [] → FailsAt fault (with_bytes p.draft p.number (p.pending ++ 10 ∷ [])) → FailsAt fault (ended p)
 end_gives_fault p faults.NoMemory sound some fails = tt
 end_gives_fault p (faults.At line why) sound some fails = ended_is p sound some ∙ rw fails refl
+
+-- the last line, and then the book
+pub end_then : (p q : Progress) (read : Result (Unit {0}) BookFault) (book : Result Book BookFault) → MatchResult read (λ _. finished q.number (book_in q.draft) ≡ ended p) (λ fault. FailsAt fault (ended p)) → GivesAt book (finished q.number (book_in q.draft)) → GivesAt (result_and read book) (ended p)
+end_then p q (Ok x) book is gives = subst (GivesAt book) is gives
+end_then p q (Err fault) book fails gives = fails

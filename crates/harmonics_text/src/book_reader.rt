@@ -82,14 +82,15 @@ impl BookReader {
     {
         let BookReader {
             alloc,
-            progress,
+            mut progress,
             fault,
             history: _,
         } = self;
-        match fault {
+        let read = match fault {
+            None => progress.end(alloc),
             Some(fault) => Err(fault),
-            None => progress.into_book(alloc),
-        }
+        };
+        read.and(progress.into_book())
     }
 
     /// How many bytes the line that has not ended has so far: at most 4,096, and 0 within a comment

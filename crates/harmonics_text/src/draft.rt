@@ -288,13 +288,15 @@ fn after_local_time(
 {
     let (datum, units) = datum(text)?;
     let count = book.constituents.as_slice().len();
+    let amplitude = Column::with_room(alloc, count)?;
+    let epoch = Column::with_room(alloc, count)?;
     let constants = Constants {
         name,
         local_time,
         datum,
         units,
-        amplitude: Column::with_room(alloc, count)?,
-        epoch: Column::with_room(alloc, count)?,
+        amplitude,
+        epoch,
     };
     Ok(Draft::Stations(book, Record::Constants(constants)))
 }

@@ -75,24 +75,33 @@ impl Progress {
         }
     }
 
-    /// The book, where the file ends here.
+    /// Ends the last line, where the file ends here.
     #[tactic(auto, unfolding(crate::specs::Workings::Readers::ended))]
-    pub fn into_book(self, alloc: Global) -> Result<Book, BookFault>
-        requires sound { IsProgress self }
-        requires few { self.number + 1 < 2 ^ 32 }
-        ensures { GivesAt result (ended self) }
+    pub fn end(&mut self, alloc: Global) -> Result<(), BookFault>
+        requires sound { IsProgress self.old }
+        requires few { self.old.number + 1 < 2 ^ 32 }
+        ensures { MatchResult result (λ _. finished self.new.number (book_in self.new.draft) ≡ ended self.old) (λ fault. FailsAt fault (ended self.old)) }
     {
-        let Progress {
-            mut draft,
-            number,
-            pending,
-        } = self;
-        if pending.is_empty() {
-            return finish(draft, number);
+        if self.pending.is_empty() {
+            return Ok(());
         }
-        match add_lines(&mut draft, number, alloc, pending.as_slice(), &[]) {
-            Ok((number, _)) => finish(draft, number),
-            Err(fault) => Err(fault),
+        let line = self.pending.as_slice();
+        let (number, _) = add_lines(&mut self.draft, self.number, alloc, line, &[])?;
+        self.number = number;
+        self.pending.clear();
+        Ok(())
+    }
+
+    /// The book, where the last line has ended.
+    pub fn into_book(self) -> Result<Book, BookFault>
+        ensures { GivesAt result (finished self.number (book_in self.draft)) }
+    {
+        match self.draft.into_book() {
+            Some(book) => Ok(book),
+            None => Err(BookFault::At {
+                line: self.number,
+                why: Why::CutShort,
+            }),
         }
     }
 }
@@ -126,18 +135,5 @@ fn add_lines<'a>(
             }
             None => return Ok((number, rest)),
         }
-    }
-}
-
-/// The book of a draft that is complete before this line.
-fn finish(draft: Draft, number: u32) -> Result<Book, BookFault>
-    ensures { GivesAt result (finished number (book_in draft)) }
-{
-    match draft.into_book() {
-        Some(book) => Ok(book),
-        None => Err(BookFault::At {
-            line: number,
-            why: Why::CutShort,
-        }),
     }
 }

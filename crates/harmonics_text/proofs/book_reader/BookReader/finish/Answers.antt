@@ -1,21 +1,28 @@
-use Rattle.std.proofs.Common.{ap, arith}
+use Rattle.std.proofs.Common.{ap, refl, arith}
 use Rattle.harmonics_text.specs.Pieces.{Fed}
+use Rattle.harmonics_text.proofs.Keeping.{end_then}
 use Rattle.harmonics_text.proofs.Readers.{reads_sound, reads_number, reads_book, fails_book, book_sound}
+use Rattle.harmonics_text.proofs.book_reader.BookReader.finish.Goals.{in-None, in-Some}
 use Rattle.harmonics_text.proofs.book_reader.BookReader.finish.Goals as goal
 
-pub into_book-requires-clause-sound : goal.into_book-requires-clause-sound
-into_book-requires-clause-sound c = reads_sound c.self.inside.history.bytes c.self.inside.progress (rw c.in-None.is at c.self.invariant.reads)
+pub end-read-requires-clause-sound : goal.end-read-requires-clause-sound
+end-read-requires-clause-sound c = reads_sound c.self.inside.history.bytes c.self.inside.progress (rw c.in-None.is at c.self.invariant.reads)
 
-pub into_book-requires-clause-few : goal.into_book-requires-clause-few
-into_book-requires-clause-few c = omega (arith, c.self.invariant.few, reads_number c.self.inside.history.bytes c.self.inside.progress (rw c.in-None.is at c.self.invariant.reads))
+pub end-read-requires-clause-few : goal.end-read-requires-clause-few
+end-read-requires-clause-few c = omega (arith, c.self.invariant.few, reads_number c.self.inside.history.bytes c.self.inside.progress (rw c.in-None.is at c.self.invariant.reads))
 
-pub returns-in-Some-clause-exact : goal.returns-in-Some-clause-exact
-returns-in-Some-clause-exact c =
-    rw (← ap (λ (f : Fed). f.bytes) c.self.view_is) (fails_book c.self.inside.history.bytes c.in-Some.fault (rw c.in-Some.is at c.self.invariant.reads))
+pub returns-clause-exact : goal.returns-clause-exact
+returns-clause-exact c =
+    let bytes = ap (λ (f : Fed). f.bytes) c.self.view_is in
+    rw (← bytes, c.and.ensures) (elim c.match-fault.branch [
+      | in-None w ↦ reads_book c.self.inside.history.bytes c.self.inside.progress _ (rw w.in-None.is at c.self.invariant.reads) (end_then c.self.inside.progress c.match-fault.progress c.match-fault.read c.into_book.result (rw (w.progress-is, w.read-is) w.end-read.ensures) c.into_book.ensures)
+      | in-Some w ↦ rw w.read-is (fails_book c.self.inside.history.bytes w.in-Some.fault (rw w.in-Some.is at c.self.invariant.reads))
+    ])
 
-pub returns-in-None-clause-exact : goal.returns-in-None-clause-exact
-returns-in-None-clause-exact c =
-    rw (← ap (λ (f : Fed). f.bytes) c.self.view_is) (reads_book c.self.inside.history.bytes c.self.inside.progress c.into_book.result (rw c.in-None.is at c.self.invariant.reads) c.into_book.ensures)
+pub returns-clause-again : goal.returns-clause-again
+returns-clause-again c =
+    let fault = ap (λ (f : Fed). f.fault) c.self.view_is in
+    rw (← fault, c.and.ensures) (elim c.match-fault.branch [ in-None w ↦ rw w.in-None.is tt | in-Some w ↦ rw (w.in-Some.is, w.read-is) refl ])
 
-pub returns-in-None-clause-sound : goal.returns-in-None-clause-sound
-returns-in-None-clause-sound c = book_sound c.args.self.bytes c.into_book.result (returns-in-None-clause-exact c)
+pub returns-clause-sound : goal.returns-clause-sound
+returns-clause-sound c = book_sound c.args.self.bytes _ (returns-clause-exact c)
