@@ -2,7 +2,7 @@
 
 ghost use Rattle.std.specs.Prelude.{◌≡◌, ◌+◌, ◌<◌, ◌≤◌, length, IfOk};
 ghost use Rattle.harmonics_text.specs.Rules.{end_of, same_count_of};
-ghost use Rattle.harmonics_text.specs.Workings.Drafts.{Follows, IsDraft, with_constituents, with_angles, with_factors, new_book, after_constituent, after_years, after_angles, after_years_again, after_factors, after_nothing, with_pair, after_pair, after_record, after_text, after_line, book_in};
+ghost use Rattle.harmonics_text.specs.Workings.Drafts.{Follows, IsDraft, with_constituents, with_angles, with_factors, new_book, after_constituent, after_years, after_angles, after_years_again, after_factors, after_nothing, with_pair, after_pair, after_record, after_text, after_line, book_at, book_in};
 
 use crate::book::Book;
 use crate::column::Column;
@@ -113,9 +113,19 @@ impl Draft {
         ensures { result ≡ book_in self }
     {
         match self {
-            Draft::Stations(book, Record::Nothing) => Some(book),
+            Draft::Stations(book, begun) => book_at(book, begun),
             _ => None,
         }
+    }
+}
+
+/// The book, where no station is begun.
+fn book_at(book: Book, begun: Record) -> Option<Book>
+    ensures { result ≡ book_at book begun }
+{
+    match begun {
+        Record::Nothing => Some(book),
+        _ => None,
     }
 }
 
@@ -276,7 +286,30 @@ fn after_station_name(
     Ok(Draft::Stations(book, Record::LocalTime(name, local_time)))
 }
 
+/// The station whose datum this line has, with room for so many constants.
 #[tactic(auto, unfolding(crate::specs::Workings::Drafts::after_record))]
+fn with_datum(
+    alloc: Global,
+    name: Text,
+    local_time: LocalTime,
+    count: usize,
+    text: &[u8],
+) -> Result<Constants, LineFault>
+    ensures { (book : Book) → Follows (λ station. Draft.Stations book (Record.Constants station)) result (after_record book (Record.LocalTime name local_time) text.now) }
+{
+    let (datum, units) = datum(text)?;
+    let amplitude = Column::with_room(alloc, count)?;
+    let epoch = Column::with_room(alloc, count)?;
+    Ok(Constants {
+        name,
+        local_time,
+        datum,
+        units,
+        amplitude,
+        epoch,
+    })
+}
+
 fn after_local_time(
     alloc: Global,
     book: Book,
@@ -286,19 +319,9 @@ fn after_local_time(
 ) -> Result<Draft, LineFault>
     ensures { Follows (λ d. d) result (after_record book (Record.LocalTime name local_time) text.now) }
 {
-    let (datum, units) = datum(text)?;
     let count = book.constituents.as_slice().len();
-    let amplitude = Column::with_room(alloc, count)?;
-    let epoch = Column::with_room(alloc, count)?;
-    let constants = Constants {
-        name,
-        local_time,
-        datum,
-        units,
-        amplitude,
-        epoch,
-    };
-    Ok(Draft::Stations(book, Record::Constants(constants)))
+    let station = with_datum(alloc, name, local_time, count, text)?;
+    Ok(Draft::Stations(book, Record::Constants(station)))
 }
 
 #[tactic(auto, unfolding(crate::specs::Workings::Drafts::after_record))]
