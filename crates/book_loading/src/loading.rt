@@ -75,7 +75,7 @@ fn load_rest<F: Files>(
     let mut reader = BookReader::new(alloc)?;
     let fed = feed_rest(files, room, &mut reader, limit);
     let book = reader.finish();
-    // a fault of reading comes first
+    // A fault of reading comes first.
     fed?;
     Ok(book?)
 }

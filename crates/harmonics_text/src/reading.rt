@@ -25,7 +25,7 @@ pub fn read_book(alloc: Global, bytes: &[u8]) -> Result<Book, BookFault>
     ensures sound { IfOk result IsBook }
 {
     let mut reader = BookReader::new(alloc)?;
-    // a fault stays, and `finish` answers it again
+    // A fault stays, and `finish` answers it again.
     let _ = reader.feed(bytes);
     reader.finish()
 }
