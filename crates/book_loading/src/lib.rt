@@ -6,6 +6,3 @@
 mod loading;
 
 pub use loading::{LoadFault, load_book};
-
-#[cfg(test)]
-mod tests;

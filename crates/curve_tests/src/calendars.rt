@@ -1,44 +1,13 @@
-ghost use Rattle.std.specs.Prelude.{All, IfOk, IsTrue};
-ghost use Rattle.event_text.specs.Lines.{IsListed};
-ghost use Rattle.zone_time.specs.Zones.{IsZone, InZoneYears};
+ghost use Rattle.zone_time.specs.Zones.{IsZone};
 
+use crate::lists::{TIDE, events_of, is_in_years};
 use calendar_sheet::*;
-use curve_law::{Event, Events, Kind};
+use curve_law::Kind;
 use decimal_text::Text;
 use harmonics_text::Units;
-use std::alloc::{AllocError, Global};
+use std::alloc::Global;
 use std::test::Fail;
 use zone_time::{Zone, read_zone};
-
-fn is_in_years(minute: i64) -> bool
-    ensures { IsTrue result → InZoneYears minute }
-{
-    (-1_035_069_120..=3_855_733_919).contains(&minute)
-}
-
-fn is_listed(event: &Event) -> bool
-    ensures { IsTrue result → IsListed Units.Feet event.now }
-{
-    !matches!(event.kind, Kind::FloodBegins | Kind::EbbBegins) && is_in_years(event.minute)
-}
-
-// Minutes, kinds and levels as events, where they can be listed.
-fn tide_of(alloc: Global, items: &[(i64, Kind, i64)]) -> Result<Events, AllocError>
-    ensures { IfOk result (All (IsListed Units.Feet)) }
-{
-    let mut events = Vec::new(alloc);
-    for &(minute, kind, level) in items {
-        let event = Event {
-            minute,
-            kind,
-            level,
-        };
-        if is_listed(&event) {
-            events.push(event)?;
-        }
-    }
-    Ok(Events::from_vec(events))
-}
 
 // A file of two offsets: six hours ahead of universal time, and one hour behind it from
 // 2000-01-10T20:00Z on.
@@ -58,13 +27,6 @@ fn zone_of(alloc: Global, ahead: Option<i32>) -> Zone
         },
     }
 }
-
-const TIDE: &[(i64, Kind, i64)] = &[
-    (15791400, Kind::Low, -1000000),
-    (15791759, Kind::High, 999962),
-    (15792120, Kind::Low, -1000000),
-    (15792479, Kind::High, 999962),
-];
 
 // The minutes that a clock is ahead, the span's ends, events, and the dates that are shown.
 const CALENDARS: &[(Option<i32>, i64, i64, &[(i64, Kind, i64)], &str)] = &[
@@ -115,7 +77,7 @@ fn dates_are_shown(rt: HostRuntime) -> Result<(), Fail> {
     let alloc = rt.alloc();
     let name = Text::from_str(alloc, "Pier")?;
     for &(ahead, begin, end, items, expected) in CALENDARS {
-        let events = tide_of(alloc, items)?;
+        let events = events_of(alloc, Units::Feet, items)?;
         let zone = zone_of(alloc, ahead);
         if is_in_years(begin) && is_in_years(end) && begin <= end {
             let text = calendar_text(alloc, &name, Units::Feet, &events, &zone, begin, end)?;

@@ -1,4 +1,5 @@
-//! Tests of the crates of curves: of levels and rates, of events, and of their listings.
+//! Tests of the crates of curves: of levels and rates, of events and highest waters, and of listings
+//! and sheets.
 //!
 //! They see only what is public of those crates. They stand here because a crate with tests is proved
 //! twice: with and without them.
@@ -9,9 +10,19 @@ mod calendars;
 #[cfg(test)]
 mod events;
 #[cfg(test)]
+mod highest;
+#[cfg(test)]
+mod hills;
+#[cfg(test)]
+mod ical;
+#[cfg(test)]
 mod lists;
 #[cfg(test)]
 mod rates;
+#[cfg(test)]
+mod reports;
+#[cfg(test)]
+mod sheets;
 #[cfg(test)]
 mod sizes;
 #[cfg(test)]

@@ -13,7 +13,7 @@ use std::alloc::{AllocError, Global};
 use std::test::Fail;
 use zone_time::{Label, Local, Zone};
 
-fn is_in_years(minute: i64) -> bool
+pub fn is_in_years(minute: i64) -> bool
     ensures { IsTrue result → InZoneYears minute }
 {
     (-1_035_069_120..=3_855_733_919).contains(&minute)
@@ -25,7 +25,7 @@ fn is_row(row: &Row) -> bool
     is_in_years(row.minute)
 }
 
-fn is_listed(units: Units, event: &Event) -> bool
+pub fn is_listed(units: Units, event: &Event) -> bool
     ensures { IsTrue result → IsListed units event.now }
 {
     let is_named = match units {
@@ -84,7 +84,7 @@ pub fn zone_of(ahead: i32) -> Zone
     }
 }
 
-const TIDE: &[(i64, Kind, i64)] = &[
+pub const TIDE: &[(i64, Kind, i64)] = &[
     (15791400, Kind::Low, -1000000),
     (15791759, Kind::High, 999962),
     (15792120, Kind::Low, -1000000),

@@ -1,5 +1,4 @@
 pub mod Below
 pub mod Findings
 pub mod PeakDrafts
-pub mod SampleLaws
 pub mod Walk

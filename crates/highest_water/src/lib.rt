@@ -55,10 +55,3 @@ pub use verdict::PeakVerdict;
 pub use worked::{worked_cells_under, worked_covers, worked_minutes, worked_verdicts};
 pub use worked_texts::{worked_peak_readings, worked_peak_texts};
 pub use writing::write_peak;
-
-#[cfg(test)]
-mod hills;
-#[cfg(test)]
-mod tests;
-#[cfg(test)]
-mod text_tests;

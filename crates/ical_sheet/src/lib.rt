@@ -25,6 +25,3 @@ pub use laws::{
 pub use sheet::{IcalPage, IcalSheet};
 pub use unfolding::unfold;
 pub use worked::{worked_calendars, worked_escapes, worked_folds, worked_stamps, worked_unfolds};
-
-#[cfg(test)]
-mod tests;

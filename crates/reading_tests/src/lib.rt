@@ -16,7 +16,11 @@ mod faults;
 #[cfg(test)]
 mod harmonics;
 #[cfg(test)]
+mod loading;
+#[cfg(test)]
 mod offsets;
+#[cfg(test)]
+mod peak_texts;
 #[cfg(test)]
 mod sizes;
 #[cfg(test)]

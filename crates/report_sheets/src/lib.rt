@@ -33,6 +33,3 @@ pub use sheet_of::SheetOf;
 pub use taken::Taken;
 pub use tally::{Tally, TallyPage};
 pub use worked::{worked_pages, worked_ranges, worked_tallies, worked_words};
-
-#[cfg(test)]
-mod tests;

@@ -1,66 +1,24 @@
-//! Tests of reports.
+//! Reports of several sheets.
 
-mod sheets;
+ghost use Rattle.std.specs.Prelude.{◌≢◌, ◌≤◌, All, IsTrue};
 
-ghost use Rattle.std.specs.Prelude.{◌≢◌, ◌≤◌, All, IfOk, IsTrue};
-ghost use Rattle.event_text.specs.Lines.{IsListed};
-ghost use Rattle.zone_time.specs.Zones.{InZoneYears};
-
-use super::*;
-use curve_law::{Event, Events, Kind};
+use crate::lists::{TIDE, events_of};
+use crate::sheets::{Counter, Refusal, Refusing};
+use curve_law::Kind;
 use decimal_text::{Text, Words};
 use harmonics_text::Units;
-use sheets::{Counter, Refusal, Refusing};
+use report_sheets::{
+    FirstLines, Head, Ranges, Sheet, Tally, fill, missing, pages_show_the_first_events,
+    sheets_write_their_layouts, worked_pages, worked_ranges, worked_tallies, worked_words,
+};
 use std::alloc::{AllocError, Global};
 use std::process::Abort;
 use std::test::Fail;
 
-fn is_in_years(minute: i64) -> bool
-    ensures { IsTrue result → InZoneYears minute }
-{
-    (-1_035_069_120..=3_855_733_919).contains(&minute)
-}
-
-fn is_listed(units: Units, event: &Event) -> bool
-    ensures { IsTrue result → IsListed units event.now }
-{
-    let is_named = match units {
-        Units::Feet | Units::Meters => {
-            !matches!(event.kind, Kind::FloodBegins | Kind::EbbBegins)
-        }
-        Units::Knots => true,
-        Units::KnotsSquared => false,
-    };
-    is_named && is_in_years(event.minute)
-}
-
-// Minutes, kinds and levels as events, where they can be listed.
-fn events_of(alloc: Global, units: Units, items: &[(i64, Kind, i64)]) -> Result<Events, AllocError>
-    ensures { IfOk result (All (IsListed units)) }
-{
-    let mut events = Vec::new(alloc);
-    for &(minute, kind, level) in items {
-        let event = Event {
-            minute,
-            kind,
-            level,
-        };
-        if is_listed(units, &event) {
-            events.push(event)?;
-        }
-    }
-    Ok(Events::from_vec(events))
-}
-
-fn is_printable(name: &str) -> bool
+pub fn is_printable(name: &str) -> bool
     ensures { IsTrue result → All (λ b. (32 ≤ b) × (b ≢ 127)) name.now }
 {
-    for &byte in name.as_bytes() {
-        if byte < 32 || byte == 127 {
-            return false;
-        }
-    }
-    true
+    name.as_bytes().iter().all(|b| *b >= 32 && *b != 127)
 }
 
 fn words_of(alloc: Global, words: &[&str]) -> Result<Words, AllocError> {
@@ -92,13 +50,6 @@ fn report(
         .as_slice()
         .to_vec(alloc)
 }
-
-const TIDES: &[(i64, Kind, i64)] = &[
-    (15791400, Kind::Low, -1000000),
-    (15791759, Kind::High, 999962),
-    (15792120, Kind::Low, -1000000),
-    (15792479, Kind::High, 999962),
-];
 
 const TALLY: &str = "Pier\n2 High Tide\n2 Low Tide\n";
 
@@ -135,7 +86,7 @@ fn reports_are_filled(rt: HostRuntime) -> Result<(), Fail> {
         sheets.push(Box::new(alloc, Tally::new(alloc, 1_000_000))?)?;
         sheets.push(Box::new(alloc, Ranges::new(alloc, 1_000_000))?)?;
         sheets.push(Box::new(alloc, FirstLines::new(alloc, limit))?)?;
-        let text = report(&rt, alloc, sheets, wanted, "Pier", TIDES)?;
+        let text = report(&rt, alloc, sheets, wanted, "Pier", TIDE)?;
         let mut expected = Vec::new(alloc);
         for part in parts {
             expected.extend_from_slice(part.as_bytes())?;
@@ -177,7 +128,7 @@ fn sheets_of_any_kind_are_filled(rt: HostRuntime) -> Result<(), Fail> {
     sheets.push(Box::new(alloc, Counter::new(alloc, "none", 9)?)?)?;
     sheets.push(Box::new(alloc, Counter::new(alloc, "many", 1_000_000)?)?)?;
     let wanted = ["many", "four", "few"].as_slice();
-    let text = report(&rt, alloc, sheets, wanted, "Pier", TIDES)?;
+    let text = report(&rt, alloc, sheets, wanted, "Pier", TIDE)?;
     assert_eq!(rt; text.as_slice(), b"few 1\nfour 4\nmany 4\n".as_slice());
     Ok(())
 }
@@ -190,7 +141,7 @@ fn refusals_leave_no_text(rt: HostRuntime) -> Result<(), Fail> {
         sheets.push(Box::new(alloc, Tally::new(alloc, 4))?)?;
         sheets.push(Box::new(alloc, Refusing::new(alloc, at))?)?;
         let wanted = ["tally", "refusing"].as_slice();
-        let text = report(&rt, alloc, sheets, wanted, "Pier", TIDES);
+        let text = report(&rt, alloc, sheets, wanted, "Pier", TIDE);
         assert!(rt; text.is_err());
     }
     Ok(())

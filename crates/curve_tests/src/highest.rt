@@ -1,9 +1,17 @@
+//! The highest water of a span: found, covered and checked.
+
 ghost use Rattle.std.specs.Prelude.{◌+◌, ◌^◌, ◌<◌, ◌≤◌, ◌≤ℤ◌, ◌<ℤ◌, ◌-ℤ◌, pos, unsigned_abs, length, IsTrue};
 
-use super::*;
 use crate::hills::{Hills, Top};
 use curve_law::Curve;
 use curve_law::samples::{Line, Ripple};
+use highest_water::{
+    Peak, PeakCell, PeakCells, PeakVerdict, accepted_highest_waters_are_right,
+    agreeing_curves_have_one_highest_water, blocks_are_halved, check_peak, covers_are_accepted,
+    find_peak, peak_cover, spans_are_cut_into_blocks, spans_have_one_highest_water,
+    under_cells_hold_nothing_higher, worked_cells_under, worked_covers, worked_minutes,
+    worked_verdicts,
+};
 use std::alloc::{AllocError, Global};
 
 // Whether a curve tells the minutes of a span, and there are some.

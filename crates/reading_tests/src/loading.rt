@@ -1,4 +1,6 @@
-use super::*;
+//! Books, loaded from files in memory.
+
+use book_loading::{LoadFault, load_book};
 use decimal_text::{Bytes, MOST_BYTES, Text};
 use harmonics_text::{BookFault, Why};
 use std::alloc::{AllocError, Global};

@@ -1,4 +1,4 @@
-//! A curve with two tops, for tests.
+//! A curve with two tops.
 
 ghost use Rattle.std.specs.Prelude.{◌≡◌, ◌^◌, ◌≤◌, unsigned_abs, pos, ◌≤ℤ◌};
 
@@ -52,7 +52,7 @@ impl Hills {
 
 impl Curve for Hills {
     ghost use Rattle.highest_water.specs.Samples.{hills};
-    ghost use Rattle.highest_water.specs.Workings.SampleLaws.{hills-lawful, none_is_narrow};
+    ghost use Rattle.curve_tests.specs.Workings.SampleLaws.{hills-lawful, none_is_narrow};
 
     ghost meaning = { λ h. hills h.first.at h.first.value h.second.at h.second.value h.rate };
 

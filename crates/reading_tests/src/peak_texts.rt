@@ -1,26 +1,16 @@
 //! Texts of certificates of a highest water, and the lines of faults in others.
 
-use super::*;
+use crate::texts::changed;
 use decimal_text::MOST_BYTES;
-use std::alloc::{AllocError, Global};
+use highest_water::{
+    CertFault, PeakCell, peak_certificates_have_one_text, peak_readings_go_by_the_grammar,
+    peak_texts_are_short, read_peak, worked_peak_readings, worked_peak_texts, write_peak,
+};
+use std::alloc::Global;
 use std::test::Fail;
 
 const PIER: &str =
     "peak certificate 1\nstation Pier\nbegin 2000-01-10T00:00Z\nend 2000-01-10T01:04Z\nat 2000-01-10T00:00Z\nvalue 4147200000000000000000000000000\nm\nm\nm\nm\nm\nm\nm\nm\nm\nm\nm\nm\nm\nm\nm\nm\nu 2\nu 2\nu 4\nu 4\nu 4\nu 8\nu 8\nu 16\ndone\n";
-
-/// The text with another line at a number.
-fn changed(alloc: Global, number: usize, other: &str) -> Result<String, AllocError> {
-    let mut text = String::new(alloc);
-    for (i, line) in PIER.lines().enumerate() {
-        text.push_str(if i < number && number - i == 1 {
-            other
-        } else {
-            line
-        })?;
-        text.push_str("\n")?;
-    }
-    Ok(text)
-}
 
 /// The line of a text's fault: 0 where it is a certificate's.
 fn fault(alloc: Global, bytes: &[u8]) -> u32 {
@@ -85,8 +75,8 @@ const CHANGED_LINES: [(usize, &str, u32); 44] = [
 #[test]
 fn changed_lines_are_found(rt: HostRuntime) -> Result<(), Fail> {
     let alloc = rt.alloc();
-    for (number, other, at) in CHANGED_LINES {
-        let text = changed(alloc, number, other)?;
+    for (line, other, at) in CHANGED_LINES {
+        let text = changed(alloc, PIER, line, other)?;
         assert!(rt; fault(alloc, text.as_str().as_bytes()) == at, "{other}");
     }
     Ok(())
@@ -115,7 +105,7 @@ fn what_is_read_is_written(rt: HostRuntime) -> Result<(), Fail> {
     let alloc = rt.alloc();
     let least = "value -9999999999999999999999999999999999999";
     for (line, other) in [(0, ""), (6, "value 0"), (6, least), (7, "u 1024")] {
-        let text = changed(alloc, line, other)?;
+        let text = changed(alloc, PIER, line, other)?;
         let bytes = text.as_str().as_bytes();
         assert!(rt; bytes.len() < 1_000);
         let cert = read_peak(alloc, bytes).ok().ok_or("it is a certificate")?;

@@ -3,10 +3,10 @@
 ghost use Rattle.std.specs.Prelude.{◌++◌, codes, decimal, length};
 ghost use Rattle.report_sheets.specs.Sheets.{IsLimit};
 
-use crate::{Collected, Head, Sheet, Taken};
 use curve_law::Event;
 use decimal_text::{Bytes, Text};
 use itoa::Buffer;
+use report_sheets::{Collected, Head, Sheet, Taken};
 use std::alloc::{AllocError, Global};
 
 /// A sheet with a word of its own that writes the word and how many events it has taken.

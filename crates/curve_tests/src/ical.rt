@@ -1,14 +1,21 @@
-ghost use Rattle.std.specs.Prelude.{◌≡◌, ◌≤◌, ◌≢◌, All, IfOk, IsTrue};
-ghost use Rattle.event_text.specs.Lines.{IsListed};
+//! Calendars that other programs take in.
+
+ghost use Rattle.std.specs.Prelude.{◌≡◌, IfOk, IsTrue};
 ghost use Rattle.harmonics_text.specs.declared.book.Units.{Units};
 ghost use Rattle.ical_sheet.specs.Folding.{IsContentLine};
 
-use super::*;
+use crate::lists::is_listed;
+use crate::reports::is_printable;
 use curve_law::{Event, Kind};
 use decimal_text::{Bytes, Text};
 use harmonics_text::Units;
+use ical_sheet::{
+    IcalSheet, calendars_are_sheets, calendars_unfold, escape, fold, folded_lines_unfold,
+    identifiers_tell_events_apart, lines_are_cut_between_characters, unfold, worked_calendars,
+    worked_escapes, worked_folds, worked_stamps, worked_unfolds,
+};
 use report_sheets::{Head, Sheet, Taken};
-use std::alloc::{AllocError, Global};
+use std::alloc::Global;
 use std::test::Fail;
 
 type Item = (i64, Kind, i64);
@@ -21,19 +28,6 @@ const TIDE: &[Item] = &[
 ];
 
 const NOW: i64 = 15_791_220;
-
-fn is_printable(name: &str) -> bool
-    ensures { IsTrue result → All (λ b. (32 ≤ b) × (b ≢ 127)) name.now }
-{
-    name.as_bytes().iter().all(|b| *b >= 32 && *b != 127)
-}
-
-fn is_listed(event: &Event) -> bool
-    ensures { IsTrue result → IsListed Units.Feet event.now }
-{
-    !matches!(event.kind, Kind::FloodBegins | Kind::EbbBegins)
-        && (-1_035_069_120..=3_855_733_919).contains(&event.minute)
-}
 
 // A sheet of a station's name, a minute and a limit.
 fn opened(alloc: Global, name: &str, now: i64, limit: u32) -> Result<IcalSheet, Fail>
@@ -63,7 +57,10 @@ fn give(sheet: &mut IcalSheet, items: &[Item]) -> Result<u32, Fail>
             kind,
             level,
         };
-        if is_listed(&event) && sheet.take(&event)? == Taken::Kept && kept < 1_000_000 {
+        if is_listed(Units::Feet, &event)
+            && sheet.take(&event)? == Taken::Kept
+            && kept < 1_000_000
+        {
             kept += 1;
         }
     }
