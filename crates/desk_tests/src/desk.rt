@@ -65,6 +65,29 @@ fn named(alloc: Global, name: &str, bytes: Bytes) -> Result<NamedFile, AllocErro
     })
 }
 
+// Where a run writes, and its clock.
+#[derive(Drop)]
+struct Ends {
+    out: MemorySink,
+    err: MemorySink,
+    clock: FixedClock,
+}
+
+fn ends_of(alloc: Global, most: u64, fails: Fails) -> Result<Ends, AllocError> {
+    let clock = FixedClock::new(15_791_220, only(alloc, fails.clock)?);
+    let err = MemorySink::new(alloc, most.max(1), 4096, only(alloc, fails.err)?)?;
+    let out = MemorySink::new(alloc, most.max(1), 1_000_000, only(alloc, fails.out)?)?;
+    Ok(Ends { out, err, clock })
+}
+
+fn outcome_of(alloc: Global, status: Status, ends: &Ends) -> Result<Outcome, AllocError> {
+    Ok(Outcome {
+        status,
+        out: Bytes::from_vec(Vec::from_slice(alloc, ends.out.bytes())?),
+        err: Bytes::from_vec(Vec::from_slice(alloc, ends.err.bytes())?),
+    })
+}
+
 // Runs over a file `pier.txt`. A write takes at most `most` bytes.
 fn run_over(
     alloc: Global,
@@ -99,18 +122,18 @@ fn run_with(
     sheets: Vec<Box<dyn Sheet>>,
 ) -> Result<Outcome, AllocError> {
     let words = words_of(alloc, line)?;
+    let mut ends = ends_of(alloc, most, fails)?;
     let mut files = MemoryFiles::new(held, only(alloc, fails.files)?);
-    let mut out = MemorySink::new(alloc, most.max(1), 1_000_000, only(alloc, fails.out)?)?;
-    let mut err = MemorySink::new(alloc, most.max(1), 4096, only(alloc, fails.err)?)?;
-    let mut clock = FixedClock::new(15_791_220, only(alloc, fails.clock)?);
     let status = run(
-        alloc, &words, &mut files, &mut out, &mut err, &mut clock, sheets,
+        alloc,
+        &words,
+        &mut files,
+        &mut ends.out,
+        &mut ends.err,
+        &mut ends.clock,
+        sheets,
     );
-    Ok(Outcome {
-        status,
-        out: Bytes::from_vec(Vec::from_slice(alloc, out.bytes())?),
-        err: Bytes::from_vec(Vec::from_slice(alloc, err.bytes())?),
-    })
+    outcome_of(alloc, status, &ends)
 }
 
 fn assert_outcome(rt: &impl Abort, outcome: &Outcome, status: u8, out: &str, err: &str) {

@@ -1,5 +1,6 @@
 //! Requests over HTTP, their replies, and the server.
 
+mod coming;
 mod hours;
 mod replies;
 mod serving;

@@ -1,12 +1,12 @@
 //! A server whose clock goes on, and one whose reply is long.
 
-use super::serving::{Coming, files_of, requests_of};
+use super::coming::Coming;
+use super::serving::{ASKED, NONE, Outcome, serve_by, serve_over};
 use std::alloc::Global;
+use std::process::Abort;
 use std::test::Fail;
-use texts_for_tests::words_of;
 use tide_answer::Status;
-use tide_edge::{Clock, Failed, FixedClock, MemoryDoor, MemorySink};
-use tide_server::serve;
+use tide_edge::{Clock, Failed};
 
 /// The hours in the test's own clock, which shows one after the other and then stands still.
 const HOURS: u64 = 24;
@@ -32,26 +32,30 @@ impl Clock for HourClock {
 
 const NOW: &str = "GET /clock?station=Pier HTTP/1.1\r\nHost: a\r\n\r\n";
 
+fn assert_says(
+    rt: &impl Abort,
+    alloc: Global,
+    outcome: &Outcome,
+    i: u64,
+    line: &str,
+) -> Result<(), Fail> {
+    let reply = String::from_utf8(outcome.door.reply(i).unwrap_or(b"").to_vec(alloc)?)?;
+    assert!(rt; reply.as_str().contains(line), "reply {i}");
+    Ok(())
+}
+
 #[test]
 fn each_request_is_answered_at_its_own_minute(rt: HostRuntime) -> Result<(), Fail> {
     let alloc = rt.alloc();
-    let words = words_of(alloc, "serve|file=pier.txt")?;
-    let mut files = files_of(alloc, 0)?;
-    let coming = requests_of(
-        alloc,
-        &[Coming::Whole(NOW), Coming::Whole(""), Coming::Whole(NOW)],
-    )?;
-    let mut door = MemoryDoor::new(alloc, coming, 4096, Vec::new(alloc))?;
-    let mut err = MemorySink::new(alloc, 4096, 4096, Vec::new(alloc))?;
+    let requests = [Coming::Whole(NOW), Coming::Whole(""), Coming::Whole(NOW)];
     let mut clock = HourClock { asked: 0 };
-    let status = serve(alloc, &words, &mut files, &mut door, &mut err, &mut clock);
-    assert_eq!(rt; status, Status::Done);
+    let outcome = serve_by(alloc, ASKED, &requests, 4096, NONE, &mut clock)?;
+    assert_eq!(rt; outcome.status, Status::Done);
     for (i, line) in [
         (0, "\nNow 2000-01-10 03:00 UTC       0.00 feet  Falling\n"),
         (2, "\nNow 2000-01-10 04:00 UTC      -0.50 feet  Falling\n"),
     ] {
-        let reply = String::from_utf8(door.reply(i).unwrap_or(b"").to_vec(alloc)?)?;
-        assert!(rt; reply.as_str().contains(line), "reply {i}");
+        assert_says(&rt, alloc, &outcome, i, line)?;
     }
     Ok(())
 }
@@ -64,16 +68,9 @@ const LINES: usize = 5 + 1 + 4 * 366;
 
 #[test]
 fn a_list_of_a_year_is_sent_whole(rt: HostRuntime) -> Result<(), Fail> {
-    let alloc = rt.alloc();
-    let words = words_of(alloc, "serve|file=pier.txt")?;
-    let mut files = files_of(alloc, 0)?;
-    let coming = requests_of(alloc, &[Coming::Whole(YEAR)])?;
-    let mut door = MemoryDoor::new(alloc, coming, 1_000_000, Vec::new(alloc))?;
-    let mut err = MemorySink::new(alloc, 4096, 4096, Vec::new(alloc))?;
-    let mut clock = FixedClock::new(15_791_220, Vec::new(alloc));
-    let status = serve(alloc, &words, &mut files, &mut door, &mut err, &mut clock);
-    assert_eq!(rt; status, Status::Done);
-    let reply = door.reply(0).unwrap_or(b"");
+    let outcome = serve_over(rt.alloc(), ASKED, &[Coming::Whole(YEAR)], 1_000_000, NONE)?;
+    assert_eq!(rt; outcome.status, Status::Done);
+    let reply = outcome.door.reply(0).unwrap_or(b"");
     assert!(rt; reply.starts_with(b"HTTP/1.1 200 OK\r\n".as_slice()));
     assert_eq!(rt; reply.iter().filter(|byte| **byte == b'\n').count(), LINES);
     Ok(())

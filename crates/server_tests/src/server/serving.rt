@@ -1,9 +1,8 @@
 //! The server over a door in memory. Expected replies to questions are those of an independent program.
 
-ghost use Rattle.std.specs.Prelude.{IsTrue, IfOk};
-ghost use Rattle.std.specs.List.{list_all};
-ghost use Rattle.tide_edge.specs.Memory.{are_pieces};
+ghost use Rattle.std.specs.Prelude.{◌≡◌, IfOk, None};
 
+use super::coming::{Coming, requests_of};
 use super::with_fields;
 use decimal_text::{Bytes, Text};
 use std::alloc::{AllocError, Global};
@@ -11,7 +10,7 @@ use std::process::Abort;
 use std::test::Fail;
 use texts_for_tests::{PIER, words_of};
 use tide_answer::Status;
-use tide_edge::{FixedClock, MemoryDoor, MemoryFiles, MemorySink, NamedFile};
+use tide_edge::{Clock, FixedClock, MemoryDoor, MemoryFiles, MemorySink, NamedFile};
 use tide_server::serve;
 
 const SHORT: &str = "# Pier test\n1\nS2 30.0000000\n1999\n3\nS2\n0 0 0\n*END*\n2\n";
@@ -50,14 +49,14 @@ const FAILED: &str = "http://127.0.0.1:8080/\nread fault\n";
 
 /// The numbers of the calls that fail, counted from 1 for each object.
 #[derive(Clone, Copy, Debug)]
-struct Fails {
+pub(super) struct Fails {
     files: u64,
     door: u64,
     err: u64,
     clock: u64,
 }
 
-const NONE: Fails = Fails {
+pub(super) const NONE: Fails = Fails {
     files: 0,
     door: 0,
     err: 0,
@@ -66,63 +65,13 @@ const NONE: Fails = Fails {
 
 /// What a server left.
 #[derive(Drop)]
-struct Outcome {
-    status: Status,
-    door: MemoryDoor,
+pub(super) struct Outcome {
+    pub status: Status,
+    pub door: MemoryDoor,
     err: MemorySink,
 }
 
-/// A request that comes in one piece, as a text or as bytes, or byte by byte.
-#[derive(Clone, Copy)]
-pub(super) enum Coming<'a> {
-    Whole(&'a str),
-    Bytes(&'a [u8]),
-    ByBytes(&'a str),
-}
-
-fn whole(alloc: Global, request: &[u8]) -> Result<Vec<Bytes>, AllocError>
-    ensures { IfOk result (λ pieces. IsTrue (are_pieces pieces.items)) }
-{
-    let mut pieces = Vec::new(alloc);
-    if !request.is_empty() {
-        pieces.push(Bytes::from_vec(request.to_vec(alloc)?))?;
-    }
-    Ok(pieces)
-}
-
-fn by_bytes(alloc: Global, request: &str) -> Result<Vec<Bytes>, AllocError>
-    ensures { IfOk result (λ pieces. IsTrue (are_pieces pieces.items)) }
-{
-    let mut pieces = Vec::new(alloc);
-    for byte in request.as_bytes() {
-        let mut piece = Vec::new(alloc);
-        piece.push(*byte)?;
-        pieces.push(Bytes::from_vec(piece))?;
-    }
-    Ok(pieces)
-}
-
-fn pieces_of(alloc: Global, coming: Coming<'_>) -> Result<Vec<Bytes>, AllocError>
-    ensures { IfOk result (λ pieces. IsTrue (are_pieces pieces.items)) }
-{
-    match coming {
-        Coming::Whole(request) => whole(alloc, request.as_bytes()),
-        Coming::Bytes(request) => whole(alloc, request),
-        Coming::ByBytes(request) => by_bytes(alloc, request),
-    }
-}
-
-pub(super) fn requests_of(alloc: Global, all: &[Coming<'_>]) -> Result<Vec<Vec<Bytes>>, AllocError>
-    ensures { IfOk result (λ requests. IsTrue (list_all (λ request. are_pieces request.items) requests.items)) }
-{
-    let mut requests = Vec::new(alloc);
-    for coming in all {
-        requests.push(pieces_of(alloc, *coming)?)?;
-    }
-    Ok(requests)
-}
-
-pub(super) fn files_of(alloc: Global, fails: u64) -> Result<MemoryFiles, AllocError> {
+fn files_of(alloc: Global, fails: u64) -> Result<MemoryFiles, AllocError> {
     let mut files = Vec::new(alloc);
     for (name, text) in [
         ("pier.txt", PIER),
@@ -138,22 +87,46 @@ pub(super) fn files_of(alloc: Global, fails: u64) -> Result<MemoryFiles, AllocEr
     Ok(MemoryFiles::new(files, [fails].to_vec(alloc)?))
 }
 
-/// Serves the requests, with a clock at 2000-01-10T03:00Z and `room` bytes for all replies.
-fn serve_over(
+/// A door at which the requests come, with `room` bytes for all replies.
+fn door_of(
+    alloc: Global,
+    requests: &[Coming<'_>],
+    room: u64,
+    fails: u64,
+) -> Result<MemoryDoor, AllocError>
+    ensures { IfOk result (λ door. door.doorway.port ≡ None) }
+{
+    let fails = [fails].to_vec(alloc)?;
+    MemoryDoor::new(alloc, requests_of(alloc, requests)?, room, fails)
+}
+
+/// Serves the requests, with `room` bytes for all replies.
+pub(super) fn serve_by<K: Clock>(
+    alloc: Global,
+    line: &str,
+    requests: &[Coming<'_>],
+    room: u64,
+    fails: Fails,
+    clock: &mut K,
+) -> Result<Outcome, AllocError> {
+    let words = words_of(alloc, line)?;
+    let mut err = MemorySink::new(alloc, 4096, 4096, [fails.err].to_vec(alloc)?)?;
+    let mut door = door_of(alloc, requests, room, fails.door)?;
+    let mut files = files_of(alloc, fails.files)?;
+    let status = serve(alloc, &words, &mut files, &mut door, &mut err, clock);
+    Ok(Outcome { status, door, err })
+}
+
+/// The same with a clock at 2000-01-10T03:00Z.
+pub(super) fn serve_over(
     alloc: Global,
     line: &str,
     requests: &[Coming<'_>],
     room: u64,
     fails: Fails,
 ) -> Result<Outcome, AllocError> {
-    let words = words_of(alloc, line)?;
-    let mut files = files_of(alloc, fails.files)?;
-    let coming = requests_of(alloc, requests)?;
-    let mut door = MemoryDoor::new(alloc, coming, room, [fails.door].to_vec(alloc)?)?;
-    let mut err = MemorySink::new(alloc, 4096, 4096, [fails.err].to_vec(alloc)?)?;
     let mut clock = FixedClock::new(15_791_220, [fails.clock].to_vec(alloc)?);
-    let status = serve(alloc, &words, &mut files, &mut door, &mut err, &mut clock);
-    Ok(Outcome { status, door, err })
+    serve_by(alloc, line, requests, room, fails, &mut clock)
 }
 
 fn assert_reply(rt: &impl Abort, outcome: &Outcome, i: u64, expected: Option<&str>) {
@@ -163,7 +136,7 @@ fn assert_reply(rt: &impl Abort, outcome: &Outcome, i: u64, expected: Option<&st
     }
 }
 
-const ASKED: &str = "serve|file=pier.txt";
+pub(super) const ASKED: &str = "serve|file=pier.txt";
 
 #[test]
 fn each_connection_has_its_reply(rt: HostRuntime) -> Result<(), Fail> {

@@ -1,0 +1,58 @@
+//! Requests as they come at a door.
+
+ghost use Rattle.std.specs.Prelude.{IsTrue, IfOk};
+ghost use Rattle.std.specs.List.{list_all};
+ghost use Rattle.tide_edge.specs.Memory.{are_pieces};
+
+use decimal_text::Bytes;
+use std::alloc::{AllocError, Global};
+
+/// A request that comes in one piece, as a text or as bytes, or byte by byte.
+#[derive(Clone, Copy)]
+pub enum Coming<'a> {
+    Whole(&'a str),
+    Bytes(&'a [u8]),
+    ByBytes(&'a str),
+}
+
+fn whole(alloc: Global, request: &[u8]) -> Result<Vec<Bytes>, AllocError>
+    ensures { IfOk result (λ pieces. IsTrue (are_pieces pieces.items)) }
+{
+    let mut pieces = Vec::new(alloc);
+    if !request.is_empty() {
+        pieces.push(Bytes::from_vec(request.to_vec(alloc)?))?;
+    }
+    Ok(pieces)
+}
+
+fn by_bytes(alloc: Global, request: &str) -> Result<Vec<Bytes>, AllocError>
+    ensures { IfOk result (λ pieces. IsTrue (are_pieces pieces.items)) }
+{
+    let mut pieces = Vec::new(alloc);
+    for byte in request.as_bytes() {
+        let mut piece = Vec::new(alloc);
+        piece.push(*byte)?;
+        pieces.push(Bytes::from_vec(piece))?;
+    }
+    Ok(pieces)
+}
+
+fn pieces_of(alloc: Global, coming: Coming<'_>) -> Result<Vec<Bytes>, AllocError>
+    ensures { IfOk result (λ pieces. IsTrue (are_pieces pieces.items)) }
+{
+    match coming {
+        Coming::Whole(request) => whole(alloc, request.as_bytes()),
+        Coming::Bytes(request) => whole(alloc, request),
+        Coming::ByBytes(request) => by_bytes(alloc, request),
+    }
+}
+
+pub fn requests_of(alloc: Global, all: &[Coming<'_>]) -> Result<Vec<Vec<Bytes>>, AllocError>
+    ensures { IfOk result (λ requests. IsTrue (list_all (λ request. are_pieces request.items) requests.items)) }
+{
+    let mut requests = Vec::new(alloc);
+    for coming in all {
+        requests.push(pieces_of(alloc, *coming)?)?;
+    }
+    Ok(requests)
+}
