@@ -1,7 +1,7 @@
 use Rattle.std.specs.Bool.{IsTrue}
 use Rattle.std.specs.List.{list_all}
 use Rattle.tide_edge.specs.Memory.{are_pieces}
-use Rattle.server_tests.proofs.server.serving.requests_of.Given as goal
+use Rattle.server_tests.proofs.server.coming.requests_of.Given as goal
 
 abbrev pub invariant-loop-coming : goal.invariant-loop-coming
 invariant-loop-coming l = IsTrue (list_all (λ request. are_pieces request.items) l.requests.items)

@@ -1,6 +1,6 @@
 use Rattle.std.specs.Bool.{IsTrue}
 use Rattle.tide_edge.specs.Memory.{are_pieces}
-use Rattle.server_tests.proofs.server.serving.by_bytes.Given as goal
+use Rattle.server_tests.proofs.server.coming.by_bytes.Given as goal
 
 abbrev pub invariant-loop-byte : goal.invariant-loop-byte
 invariant-loop-byte l = IsTrue (are_pieces l.pieces.items)
