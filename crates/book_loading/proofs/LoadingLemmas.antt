@@ -66,7 +66,7 @@ unopened limit firm file absent = λ s. rw (absent s) refl
 
 -- what loading the rest gave is what loading the file gives
 pub loaded_opened : {T : Type 0} (opened : T) (limit : ℕ) (name : List ℕ) (s : FilesState) (result : Result TheBook LoadFault)
-    → (IsTrue s.store.tells → IsSome (s.store.folder name))
-    → (IsTrue s.store.tells → Meets source_of (IsTrue s.store.is_steady) (loaded limit (Some (files_after_open (Ok opened) name s).rest)) result)
-    → IsTrue s.store.tells → Meets source_of (IsTrue s.store.is_steady) (loaded limit (s.store.folder name)) result
+    → (IsTrue s.store.is_observable → IsSome (s.store.folder name))
+    → (IsTrue s.store.is_observable → Meets source_of (IsTrue s.store.is_steady) (loaded limit (Some (files_after_open (Ok opened) name s).rest)) result)
+    → IsTrue s.store.is_observable → Meets source_of (IsTrue s.store.is_steady) (loaded limit (s.store.folder name)) result
 loaded_opened opened limit name s result found meets t = rw (begun_whole s name t (found t)) (meets t)

@@ -44,7 +44,7 @@ pub fn load_book<F: Files>(
     limit: u64,
 ) -> Result<Book, LoadFault>
     requires { limit ≤ MOST_BYTES }
-    ensures own { IsTrue (F.state files.old).store.tells
+    ensures own { IsTrue (F.state files.old).store.is_observable
         → Meets source_of (IsTrue (F.state files.old).store.is_steady) (loaded limit ((F.state files.old).store.folder name.now)) result }
     ensures some { (file : Option (List ℕ)) × Gives wants_memory (loaded limit file) result }
     ensures sound { IfOk result IsBook }
@@ -66,7 +66,7 @@ fn load_rest<F: Files>(
 ) -> Result<Book, LoadFault>
     requires room { length room.old ≡ PIECE }
     requires most { limit ≤ MOST_BYTES }
-    ensures own { IsTrue (F.state files.old).store.tells
+    ensures own { IsTrue (F.state files.old).store.is_observable
         → Meets source_of (IsTrue (F.state files.old).store.is_steady) (loaded limit (Some (F.state files.old).rest)) result }
     ensures some { (file : Option (List ℕ)) × Gives wants_memory (loaded limit file) result }
     ensures sound { IfOk result IsBook }
@@ -91,7 +91,7 @@ fn feed_rest<F: Files>(
     requires room { length room.old ≡ PIECE }
     requires unfed { reader.old.bytes ≡ [] }
     requires most { limit ≤ MOST_BYTES }
-    ensures whole { IsTrue (F.state files.old).store.tells
+    ensures whole { IsTrue (F.state files.old).store.is_observable
         → Meets source_of_reading (IsTrue (F.state files.old).store.is_steady) (whole limit (Some (F.state files.old).rest)) (bytes_fed reader.new result) }
     ensures within { OnOk result (length reader.new.bytes ≤ limit) }
     ensures read { IsReadOn limit (is_outside_fault source_of_reading result) (F.state files.old) (F.state files.new) }

@@ -36,7 +36,7 @@ pub fn read_files<F: Files>(
     question: &SoundQuestion<'_>,
     name: &Text,
 ) -> Result<Materials, NoAnswer>
-    ensures own { IsTrue (F.state files.old).store.tells
+    ensures own { IsTrue (F.state files.old).store.is_observable
         → Meets source_of (IsTrue (F.state files.old).store.is_steady) (files_in (λ slot. (F.state files.old).store.folder) question.now name.now) result }
     ensures some { (folders : Folders) × Meets source_of (Unit {0}) (files_in folders question.now name.now) result }
     ensures sound { IfOk result AreMaterials }
@@ -59,7 +59,7 @@ pub fn read_files<F: Files>(
 
 /// The book of harmonic constants of a name. A file that is too long isn't read to its end.
 pub fn read_book<F: Files>(alloc: Global, files: &mut F, name: &Text) -> Result<Book, NoAnswer>
-    ensures own { IsTrue (F.state files.old).store.tells
+    ensures own { IsTrue (F.state files.old).store.is_observable
         → Meets source_of (IsTrue (F.state files.old).store.is_steady) (book_named (F.state files.old).store.folder name.now) result }
     ensures some { (folder : Folder) × Meets source_of (Unit {0}) (book_named folder name.now) result }
     ensures sound { IfOk result IsBook }
@@ -79,7 +79,7 @@ pub fn read_table<F: Files>(
     files: &mut F,
     name: &Option<Text>,
 ) -> Result<OffsetTable, NoAnswer>
-    ensures own { IsTrue (F.state files.old).store.tells
+    ensures own { IsTrue (F.state files.old).store.is_observable
         → Meets source_of (IsTrue (F.state files.old).store.is_steady) (table_named (F.state files.old).store.folder name.now) result }
     ensures some { (folder : Folder) × Meets source_of (Unit {0}) (table_named folder name.now) result }
     ensures told { IfErr result IsTold }
@@ -115,7 +115,7 @@ fn read_zone_named<F: Files>(
     word: &ZoneWord,
 ) -> Result<Zone, NoAnswer>
     requires { IsZoneWord word.now }
-    ensures own { IsTrue (F.state files.old).store.tells
+    ensures own { IsTrue (F.state files.old).store.is_observable
         → Meets source_of (IsTrue (F.state files.old).store.is_steady) (zone_named (F.state files.old).store.folder word.now) result }
     ensures some { (folder : Folder) × Meets source_of (Unit {0}) (zone_named folder word.now) result }
     ensures sound { IfOk result IsZone }
@@ -153,7 +153,7 @@ fn read_certificate<F: Files>(
     files: &mut F,
     name: &Option<Text>,
 ) -> Result<Bytes, NoAnswer>
-    ensures own { IsTrue (F.state files.old).store.tells
+    ensures own { IsTrue (F.state files.old).store.is_observable
         → Meets source_of (IsTrue (F.state files.old).store.is_steady) (certificate_named (F.state files.old).store.folder name.now) result }
     ensures some { (folder : Folder) × Meets source_of (Unit {0}) (certificate_named folder name.now) result }
     ensures within { IfOk result (λ bytes. length bytes ≤ MOST_BYTES) }
@@ -174,7 +174,7 @@ fn read_file<F: Files>(
     name: &Text,
     slot: Slot,
 ) -> Result<Bytes, NoAnswer>
-    ensures own { IsTrue (F.state files.old).store.tells
+    ensures own { IsTrue (F.state files.old).store.is_observable
         → Meets source_of (IsTrue (F.state files.old).store.is_steady) (bytes_of slot ((F.state files.old).store.folder name.now)) result }
     ensures some { (file : Option (List ℕ)) × Meets source_of (Unit {0}) (bytes_of slot file) result }
     ensures within { IfOk result (λ bytes. length bytes ≤ limit_of slot) }

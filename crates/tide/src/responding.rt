@@ -41,7 +41,7 @@ pub fn respond<F: Files, D: Door, O: Sink, E: Sink, K: Clock>(
     ensures page_memory { IsSome (page_of words.now) → ¬ (result ≡ Status.NoMemory) }
     ensures page_alone { IsSome (page_of words.now) → (files.new ≡ files.old) × (door.new ≡ door.old) × (clock.new ≡ clock.old) }
     ensures own_answer { let meanings = map meaning sheets.items in let asked = asked_of meanings words.now in
-        AsksAnswer words.now → IsTrue (F.state files.old).store.tells → (AsksClock asked → IsTrue (K.state clock.old).tells)
+        AsksAnswer words.now → IsTrue (F.state files.old).store.is_observable → (AsksClock asked → IsTrue (K.state clock.old).is_observable)
         → IsFirm (AsksClock asked) (sources (F.state files.old) (K.state clock.old)) (sources (F.state files.new) (K.state clock.new))
         ⊎ (¬ (result ≡ Status.ReadFault))
         → EndsAs (answer_of meanings (F.state files.old).store.folder (next_minute (K.state clock.old)) words.now) result
@@ -55,13 +55,13 @@ pub fn respond<F: Files, D: Door, O: Sink, E: Sink, K: Clock>(
     ensures untold { AsksAnswer words.now → IsSilent result err.old err.new }
     ensures unopened { AsksAnswer words.now → ¬ (NamesFile (asked_of (map meaning sheets.items) words.now)) → files.new ≡ files.old }
     ensures unasked { AsksAnswer words.now → ¬ (AsksClock (asked_of (map meaning sheets.items) words.now)) → clock.new ≡ clock.old }
-    ensures asked_last { AsksAnswer words.now → IsTrue (F.state files.old).store.tells
+    ensures asked_last { AsksAnswer words.now → IsTrue (F.state files.old).store.is_observable
         → ¬ (HasFiles (λ slot. (F.state files.old).store.folder) (asked_of (map meaning sheets.items) words.now)) → clock.new ≡ clock.old }
     ensures asked_once { let asked = asked_of (map meaning sheets.items) words.now in
-        AsksAnswer words.now → IsTrue (F.state files.old).store.tells → AsksClock asked → HasFiles (λ slot. (F.state files.old).store.folder) asked
+        AsksAnswer words.now → IsTrue (F.state files.old).store.is_observable → AsksClock asked → HasFiles (λ slot. (F.state files.old).store.folder) asked
         → IsTrue (is_settled result) → K.state clock.new ≡ clock_after false (K.state clock.old) }
     ensures same_door { AsksAnswer words.now → door.new ≡ door.old }
-    ensures own_service { AsksService words.now → IsTrue (F.state files.old).store.tells
+    ensures own_service { AsksService words.now → IsTrue (F.state files.old).store.is_observable
         → ServerEndsAs (IsTrue (F.state files.old).store.is_steady) (stock_of (F.state files.old).store.folder words.now) result
         (handed (F.state files.old) (D.state door.old) (E.state err.old) (K.state clock.old))
         (handed (F.state files.new) (D.state door.new) (E.state err.new) (K.state clock.new)) }

@@ -29,8 +29,8 @@ answer_in sheets held words = answer_of sheets (folder_of held.files.files) held
 -- what a run promises over files that tell, of files in memory
 abbrev pub EndsAsPromised : List SheetMeaning → List (List ℕ) → Status → Held → Held → Type 0
 EndsAsPromised sheets words status before after =
-    IsTrue (files_state before.files).store.tells
-    → (AsksClock (asked_of sheets words) → IsTrue (clock_state before.clock).tells)
+    IsTrue (files_state before.files).store.is_observable
+    → (AsksClock (asked_of sheets words) → IsTrue (clock_state before.clock).is_observable)
     → IsFirm (AsksClock (asked_of sheets words)) (sources_in before) (sources_in after) ⊎ (¬ (status ≡ ReadFault))
     → EndsAs (answer_in sheets before words) status (outputs_in before) (outputs_in after)
 

@@ -35,7 +35,7 @@ pub fn answer_words<F: Files, K: Clock>(
     sheets: Vec<Box<dyn Sheet>>,
 ) -> Result<Reply, NoAnswer>
     ensures own { let meanings = map meaning sheets.items in let asked = asked_of meanings words.now in
-        IsTrue (F.state files.old).store.tells → (AsksClock asked → IsTrue (K.state clock.old).tells)
+        IsTrue (F.state files.old).store.is_observable → (AsksClock asked → IsTrue (K.state clock.old).is_observable)
         → Meets source_of (IsFirm (AsksClock asked) (sources (F.state files.old) (K.state clock.old)) (sources (F.state files.new) (K.state clock.new)))
         (answer_of meanings (F.state files.old).store.folder (next_minute (K.state clock.old)) words.now) result }
     ensures some { (folders : Folders) × (minute : ℤ) × Meets source_of (Unit {0}) (answer_from (map meaning sheets.items) folders minute words.now) result }
@@ -45,10 +45,10 @@ pub fn answer_words<F: Files, K: Clock>(
         (sources (F.state files.old) (K.state clock.old)) (sources (F.state files.new) (K.state clock.new)) }
     ensures unopened { ¬ (NamesFile (asked_of (map meaning sheets.items) words.now)) → files.new ≡ files.old }
     ensures unasked { ¬ (AsksClock (asked_of (map meaning sheets.items) words.now)) → clock.new ≡ clock.old }
-    ensures asked_last { IsTrue (F.state files.old).store.tells
+    ensures asked_last { IsTrue (F.state files.old).store.is_observable
         → ¬ (HasFiles (λ slot. (F.state files.old).store.folder) (asked_of (map meaning sheets.items) words.now)) → clock.new ≡ clock.old }
     ensures asked_once { let asked = asked_of (map meaning sheets.items) words.now in
-        IsTrue (F.state files.old).store.tells → AsksClock asked → HasFiles (λ slot. (F.state files.old).store.folder) asked
+        IsTrue (F.state files.old).store.is_observable → AsksClock asked → HasFiles (λ slot. (F.state files.old).store.folder) asked
         → IfErr result IsSettled → K.state clock.new ≡ clock_after false (K.state clock.old) }
 {
     let question = read_words(alloc, words, &sheets)?;
@@ -80,7 +80,7 @@ fn answer_over<F: Files, K: Clock>(
     clock: &mut K,
     sheets: Vec<Box<dyn Sheet>>,
 ) -> Result<Reply, NoAnswer>
-    ensures own { IsTrue (F.state files.old).store.tells → (IsTrue (asks_clock question.now.command) → IsTrue (K.state clock.old).tells)
+    ensures own { IsTrue (F.state files.old).store.is_observable → (IsTrue (asks_clock question.now.command) → IsTrue (K.state clock.old).is_observable)
         → Meets source_of (IsFirm (IsTrue (asks_clock question.now.command)) (sources (F.state files.old) (K.state clock.old)) (sources (F.state files.new) (K.state clock.new)))
         (answered_over (map meaning sheets.items) (λ slot. (F.state files.old).store.folder) (next_minute (K.state clock.old)) question.now name.now) result }
     ensures some { (folders : Folders) × (minute : ℤ) × Meets source_of (Unit {0}) (answered_over (map meaning sheets.items) folders minute question.now name.now) result }
@@ -88,9 +88,9 @@ fn answer_over<F: Files, K: Clock>(
     ensures reads { WentOn (reading_failed result) (IsTrue (asks_clock question.now.command)) (files_allowed question.now)
         (sources (F.state files.old) (K.state clock.old)) (sources (F.state files.new) (K.state clock.new)) }
     ensures unasked { ¬ (IsTrue (asks_clock question.now.command)) → clock.new ≡ clock.old }
-    ensures asked_last { IsTrue (F.state files.old).store.tells
+    ensures asked_last { IsTrue (F.state files.old).store.is_observable
         → ¬ (IsOk (files_in (λ slot. (F.state files.old).store.folder) question.now name.now)) → clock.new ≡ clock.old }
-    ensures asked_once { IsTrue (F.state files.old).store.tells → IsTrue (asks_clock question.now.command)
+    ensures asked_once { IsTrue (F.state files.old).store.is_observable → IsTrue (asks_clock question.now.command)
         → IsOk (files_in (λ slot. (F.state files.old).store.folder) question.now name.now)
         → IfErr result IsSettled → K.state clock.new ≡ clock_after false (K.state clock.old) }
 {
@@ -101,7 +101,7 @@ fn answer_over<F: Files, K: Clock>(
 
 // The present minute where the command asks for it, and else none.
 fn read_minute<K: Clock>(clock: &mut K, question: &SoundQuestion<'_>) -> Result<i64, NoAnswer>
-    ensures own { (IsTrue (asks_clock question.now.command) → IsTrue (K.state clock.old).tells)
+    ensures own { (IsTrue (asks_clock question.now.command) → IsTrue (K.state clock.old).is_observable)
         → IfOk result (λ now. now ≡ minute_for question.now.command (next_minute (K.state clock.old))) }
     ensures some { IfOk result (λ now. (minute : ℤ) × (now ≡ minute_for question.now.command minute)) }
     ensures in_range { IfOk result IsClockMinute }

@@ -34,7 +34,7 @@ pub fn run<F: Files, O: Sink, E: Sink, K: Clock>(
     sheets: Vec<Box<dyn Sheet>>,
 ) -> Status
     ensures own_files { let meanings = map meaning sheets.items in let asked = asked_of meanings words.now in
-        IsTrue (F.state files.old).store.tells → (AsksClock asked → IsTrue (K.state clock.old).tells)
+        IsTrue (F.state files.old).store.is_observable → (AsksClock asked → IsTrue (K.state clock.old).is_observable)
         → IsFirm (AsksClock asked) (sources (F.state files.old) (K.state clock.old)) (sources (F.state files.new) (K.state clock.new))
         ⊎ (¬ (result ≡ Status.ReadFault))
         → EndsAs (answer_of meanings (F.state files.old).store.folder (next_minute (K.state clock.old)) words.now) result
@@ -48,10 +48,10 @@ pub fn run<F: Files, O: Sink, E: Sink, K: Clock>(
     ensures untold { IsSilent result err.old err.new }
     ensures unopened { ¬ (NamesFile (asked_of (map meaning sheets.items) words.now)) → files.new ≡ files.old }
     ensures unasked { ¬ (AsksClock (asked_of (map meaning sheets.items) words.now)) → clock.new ≡ clock.old }
-    ensures asked_last { IsTrue (F.state files.old).store.tells
+    ensures asked_last { IsTrue (F.state files.old).store.is_observable
         → ¬ (HasFiles (λ slot. (F.state files.old).store.folder) (asked_of (map meaning sheets.items) words.now)) → clock.new ≡ clock.old }
     ensures asked_once { let asked = asked_of (map meaning sheets.items) words.now in
-        IsTrue (F.state files.old).store.tells → AsksClock asked → HasFiles (λ slot. (F.state files.old).store.folder) asked
+        IsTrue (F.state files.old).store.is_observable → AsksClock asked → HasFiles (λ slot. (F.state files.old).store.folder) asked
         → IsTrue (is_settled result) → K.state clock.new ≡ clock_after false (K.state clock.old) }
 {
     match answer_words(alloc, words, files, clock, sheets) {

@@ -24,15 +24,15 @@ begun_by true None rest t is = let untrue : false ≡ true = is in cc
 begun_by false file rest t is = let untrue : false ≡ true = t in cc
 
 -- what is to be read of a file that was opened is the file
-pub begun_whole : (s : FilesState) (name : List ℕ) → IsTrue s.store.tells → IsSome (s.store.folder name)
-    → s.store.folder name ≡ Some (if s.store.tells then unwrap_or (s.store.folder name) [] else s.rest)
-begun_whole s name t is = begun_by s.store.tells (s.store.folder name) s.rest t is
+pub begun_whole : (s : FilesState) (name : List ℕ) → IsTrue s.store.is_observable → IsSome (s.store.folder name)
+    → s.store.folder name ≡ Some (if s.store.is_observable then unwrap_or (s.store.folder name) [] else s.rest)
+begun_whole s name t is = begun_by s.store.is_observable (s.store.folder name) s.rest t is
 
 -- what reading on gave is what reading the file gives
 pub read_on_whole : {T : Type 0} (opened : T) (limit : ℕ) (name : List ℕ) (s : FilesState) (result : Result (List ℕ) ReadAllFault)
-    → (IsTrue s.store.tells → IsSome (s.store.folder name))
-    → (IsTrue s.store.tells → Meets source_of (IsTrue s.store.is_steady) (whole limit (Some (files_after_open (Ok opened) name s).rest)) result)
-    → IsTrue s.store.tells → Meets source_of (IsTrue s.store.is_steady) (whole limit (s.store.folder name)) result
+    → (IsTrue s.store.is_observable → IsSome (s.store.folder name))
+    → (IsTrue s.store.is_observable → Meets source_of (IsTrue s.store.is_steady) (whole limit (Some (files_after_open (Ok opened) name s).rest)) result)
+    → IsTrue s.store.is_observable → Meets source_of (IsTrue s.store.is_steady) (whole limit (s.store.folder name)) result
 read_on_whole opened limit name s result found meets t = rw (begun_whole s name t (found t)) (meets t)
 
 -- what reading on takes, and the opening before it

@@ -1,25 +1,15 @@
 -- What the pieces sent so far make of the bytes.
-use Rattle.std.proofs.Common.{◌≡◌, ℕ, ◌+◌, Bool, true, false, if◌then◌else◌, List, [], ◌++◌, take, drop, append_assoc, append-nil, ◌∙◌, ap, sym, refl}
+use Rattle.std.proofs.Common.{◌≡◌, ℕ, ◌+◌, List, [], ◌++◌, take, drop, append_assoc, append-nil, ◌∙◌, ap, sym}
 use Rattle.std.proofs.Math.Seq.{take-add}
 use Rattle.tide_edge.specs.SinkStates.{SinkState, put}
 
-if_append-nil : (tells : Bool) (taken : List ℕ) → (if tells then taken ++ [] else taken) ≡ taken
-if_append-nil true taken = append-nil taken
-if_append-nil false taken = refl
-
 -- nothing more
 pub put_none : (s : SinkState) → put [] s ≡ s
-put_none s = ap (λ taken. record s { taken = taken }) (if_append-nil s.tells s.taken)
-
-if_append : (tells : Bool) (taken first second : List ℕ)
-    → (if tells then (if tells then taken ++ first else taken) ++ second else (if tells then taken ++ first else taken))
-    ≡ (if tells then taken ++ (first ++ second) else taken)
-if_append true taken first second = append_assoc taken first second
-if_append false taken first second = refl
+put_none s = ap (λ taken. record s { taken = taken }) (append-nil s.taken)
 
 -- two texts behind one another are one
 pub put_put : (first second : List ℕ) (s : SinkState) → put second (put first s) ≡ put (first ++ second) s
-put_put first second s = ap (λ taken. record s { taken = taken }) (if_append s.tells s.taken first second)
+put_put first second s = ap (λ taken. record s { taken = taken }) (append_assoc s.taken first second)
 
 -- after one more piece
 pub sent_on : (bytes : List ℕ) (sent count : ℕ) (before now after : SinkState) → now ≡ put (take sent bytes) before

@@ -1,7 +1,9 @@
 -- What a door tells of its connections (this project).
 use Rattle.std.specs.Prelude.{ℕ, ◌-◌, ◌==◌, nat_lt, Bool, true, false, ◌||◌, if◌then◌else◌, List, [], ◌∷◌, ◌++◌, length, take, drop, Option, Some, None, Result, Ok, Err, is_ok, is_err}
 use Rattle.tide_edge.specs.declared.failed.Failed.{Failed}
+use Rattle.std.specs.Option.{option_map}
 use Rattle.tide_edge.specs.Faults.{counted, faults_after}
+use Rattle.tide_edge.specs.FileStates.{listed}
 
 -- What a door always tells: the port that it was asked to listen on, and whether it does; how many connections were taken, a
 -- count that stays at the last value of a `u64`; whether one is open; and whether `next` has answered that no more will come.
@@ -75,22 +77,66 @@ written_by (Ok count) piece t =
     record { waiting = t.waiting; rest = t.rest; replies = append_to_last t.replies (take count piece) }
 written_by (Err failed) piece t = t
 
+-- ---- What passed over each connection
+
+-- One connection: the bytes that came, and whether their end was found; the bytes that were accepted of its reply; and whether a
+-- read or a write of it has failed.
+pub record Connection : Type 0 where
+  pub came : List ℕ
+  pub is_ended : Bool
+  pub sent : List ℕ
+  pub read_failed : Bool
+  pub write_failed : Bool
+
+-- all connections, in order: those before the last one, and the last one
+pub record Connections : Type 0 where
+  pub earlier : List Connection
+  pub latest : Option Connection
+
+abbrev pub no_connections : Connections
+no_connections = record { earlier = []; latest = None }
+
+abbrev pub connections_of : Connections → List Connection
+connections_of c = c.earlier ++ listed c.latest
+
+abbrev pub just_taken : Connection
+just_taken = record { came = []; is_ended = false; sent = []; read_failed = false; write_failed = false }
+
+abbrev pub connections_after_next : Result Bool Failed → Connections → Connections
+connections_after_next (Ok true) c = record { earlier = connections_of c; latest = Some just_taken }
+connections_after_next (Ok false) c = c
+connections_after_next (Err failed) c = c
+
+-- so many bytes more came, at the begin of a room
+abbrev pub connection_after_read : Result ℕ Failed → List ℕ → Connection → Connection
+connection_after_read (Ok count) room c = record c { came = c.came ++ take count room; is_ended = (count == 0) || c.is_ended }
+connection_after_read (Err failed) room c = record c { read_failed = true }
+
+-- so many bytes of a piece were accepted
+abbrev pub connection_after_write : Result ℕ Failed → List ℕ → Connection → Connection
+connection_after_write (Ok count) piece c = record c { sent = c.sent ++ take count piece }
+connection_after_write (Err failed) piece c = record c { write_failed = true }
+
+abbrev pub change_latest : (Connection → Connection) → Connections → Connections
+change_latest change c = record c { latest = option_map change c.latest }
+
 -- ---- All of it
 
--- whether requests and replies are told; whether a `read` gives bytes of one piece alone, where they are told; the doorway; the
--- traffic, where it is told; and how many calls of `listen` and `next`, and of `read` and `write`, have failed: counts that stay at the
--- last value of a `u64`
+-- Whether the requests that wait and the replies are observable; whether a `read` gives bytes of one piece alone, if they are; the
+-- doorway; the connections, with what passed over each; the traffic, which means something only if it is observable; and how many
+-- calls of `listen` and `next`, and of `read` and `write`, have failed: counts that stay at the last value of a `u64`.
 pub record DoorState : Type 0 where
-  pub tells : Bool
+  pub is_observable : Bool
   pub keeps_pieces : Bool
   pub doorway : Doorway
+  pub connections : Connections
   pub traffic : Traffic
   pub faults : ℕ
   pub line_faults : ℕ
 
 -- a change of what is told, where it is
 abbrev pub told_traffic : (Traffic → Traffic) → DoorState → Traffic
-told_traffic change s = if s.tells then change s.traffic else s.traffic
+told_traffic change s = if s.is_observable then change s.traffic else s.traffic
 
 abbrev pub door_after_listen : {T : Type 0} → Result T Failed → ℕ → DoorState → DoorState
 door_after_listen result port s = record s {
@@ -101,18 +147,22 @@ door_after_listen result port s = record s {
 abbrev pub door_after_next : Result Bool Failed → DoorState → DoorState
 door_after_next result s = record s {
   doorway = after_next result s.doorway;
+  connections = connections_after_next result s.connections;
   traffic = told_traffic (taken_by result) s;
   faults = faults_after (is_err result) s.faults;
 }
 
-abbrev pub door_after_read : Result ℕ Failed → DoorState → DoorState
-door_after_read result s = record s {
+-- with the room as the call left it
+abbrev pub door_after_read : Result ℕ Failed → List ℕ → DoorState → DoorState
+door_after_read result room s = record s {
+  connections = change_latest (connection_after_read result room) s.connections;
   traffic = told_traffic (read_by result) s;
   line_faults = faults_after (is_err result) s.line_faults;
 }
 
 abbrev pub door_after_write : Result ℕ Failed → List ℕ → DoorState → DoorState
 door_after_write result piece s = record s {
+  connections = change_latest (connection_after_write result piece) s.connections;
   traffic = told_traffic (written_by result piece) s;
   line_faults = faults_after (is_err result) s.line_faults;
 }

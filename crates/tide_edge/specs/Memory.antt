@@ -1,5 +1,5 @@
 -- The objects in memory: what each holds, what its calls answer and what they leave (this project).
-use Rattle.std.specs.Prelude.{ℕ, ℤ, ◌-◌, ◌==◌, nat_lt, min, Bool, true, false, not, ◌||◌, if◌then◌else◌, List, [], ◌∷◌, ◌++◌, length, take, drop, find, Option, None, is_none, unwrap_or, Result, Ok, Err}
+use Rattle.std.specs.Prelude.{ℕ, ℤ, ◌-◌, ◌==◌, nat_lt, min, Bool, true, false, not, ◌||◌, if◌then◌else◌, List, [], ◌∷◌, ◌++◌, length, take, drop, find, Option, None, is_none, is_some, unwrap_or, Result, Ok, Err}
 use Rattle.std.specs.List.{list_all}
 use Rattle.std.specs.Option.{option_map}
 use Rattle.std.specs.Str.{bytes_eq}
@@ -7,15 +7,16 @@ use Rattle.tide_edge.specs.declared.named_file.NamedFile.{NamedFile}
 use Rattle.tide_edge.specs.declared.failed.Failed.{Failed}
 use Rattle.tide_edge.specs.Calls.{HeldCalls, answer, is_to_fail, after_call}
 use Rattle.tide_edge.specs.Clocks.{ClockState}
-use Rattle.tide_edge.specs.Doors.{Doorway, DoorState, asked, after_next, closed, append_to_last, first_or_empty, left_after}
+use Rattle.tide_edge.specs.Doors.{Doorway, DoorState, Connections, asked, after_next, closed, append_to_last, first_or_empty, left_after, change_latest, connections_after_next, connection_after_read, connection_after_write}
 use Rattle.tide_edge.specs.Faults.{counted, faults_after}
-use Rattle.tide_edge.specs.FileStates.{FilesState, Reads, one_opening, one_reading}
+use Rattle.tide_edge.specs.FileStates.{FilesState, Openings, Reads, one_opening, one_reading, openings_after_open, openings_after_read}
 use Rattle.tide_edge.specs.SinkStates.{SinkState}
 
--- files by name, the rest of the open one, which is empty where none is open, and the counts of what was opened and read
+-- files by name, the rest of the open one, which is empty if none is open, what was opened and came, and the counts of both
 pub record HeldFiles : Type 0 where
   pub files : List NamedFile
   pub rest : List ℕ
+  pub openings : Openings
   pub reads : Reads
   pub calls : HeldCalls
 
@@ -26,8 +27,9 @@ folder_of files name = option_map (λ file. file.bytes) (find (λ file. bytes_eq
 -- what they tell: they are steady where no call is to fail
 abbrev pub files_state : HeldFiles → FilesState
 files_state held = record {
-  store = record { tells = true; folder = folder_of held.files; is_steady = length held.calls.fails == 0 };
+  store = record { is_observable = true; folder = folder_of held.files; is_steady = length held.calls.fails == 0 };
   rest = held.rest;
+  openings = held.openings;
   reads = held.reads;
   faults = held.calls.faults;
 }
@@ -40,6 +42,7 @@ abbrev pub after_open : HeldFiles → List ℕ → HeldFiles
 after_open held name = record {
   files = held.files;
   rest = unwrap_or (found held name) [];
+  openings = openings_after_open (is_some (found held name)) name held.openings;
   reads = one_opening held.reads;
   calls = after_call (is_none (found held name)) held.calls;
 }
@@ -48,10 +51,12 @@ after_open held name = record {
 abbrev pub read_count : HeldFiles → ℕ → ℕ
 read_count held room = (if is_to_fail held.calls then 0 else min room (length held.rest))
 
-abbrev pub after_read : HeldFiles → ℕ → HeldFiles
-after_read held room = record {
+-- with the room's length, and what it has after the call
+abbrev pub after_read : HeldFiles → ℕ → List ℕ → HeldFiles
+after_read held room filled = record {
   files = held.files;
   rest = drop (read_count held room) held.rest;
+  openings = (if is_to_fail held.calls then held.openings else openings_after_read (read_count held room) filled held.openings);
   reads = (if is_to_fail held.calls then held.reads else one_reading (read_count held room) held.reads);
   calls = after_call (is_to_fail held.calls) held.calls;
 }
@@ -65,7 +70,7 @@ pub record HeldSink : Type 0 where
 
 -- what it tells
 abbrev pub sink_state : HeldSink → SinkState
-sink_state held = record { tells = true; taken = held.taken; faults = held.calls.faults }
+sink_state held = record { taken = held.taken; faults = held.calls.faults }
 
 -- whether the next write fails: it is to fail, or the room is full
 abbrev pub is_refused : HeldSink → Bool
@@ -84,11 +89,12 @@ after_write held piece = record {
   calls = after_call (is_refused held) held.calls;
 }
 
--- What a door holds: what it has told; the requests that wait, in their pieces; the pieces left of the open connection; the
+-- What a door holds: the doorway; what passed over each connection; the requests that wait, in their pieces; the pieces left of the open connection; the
 -- replies; how many more bytes they may take; the calls but `close`, whose faults are those of `listen` and `next`; and the
 -- faults of `read` and `write`.
 pub record HeldDoor : Type 0 where
   pub doorway : Doorway
+  pub connections : Connections
   pub waiting : List (List (List ℕ))
   pub coming : List (List ℕ)
   pub replies : List (List ℕ)
@@ -103,9 +109,10 @@ are_pieces pieces = list_all (λ piece. nat_lt 0 (length piece)) pieces
 -- what it tells: each read gives bytes of one piece
 abbrev pub door_state : HeldDoor → DoorState
 door_state held = record {
-  tells = true;
+  is_observable = true;
   keeps_pieces = true;
   doorway = held.doorway;
+  connections = held.connections;
   traffic = record { waiting = held.waiting; rest = held.coming; replies = held.replies };
   faults = held.calls.faults;
   line_faults = held.line_faults;
@@ -123,6 +130,7 @@ is_taken (Err failed) = false
 abbrev pub after_listen : HeldDoor → ℕ → HeldDoor
 after_listen held port = record {
   doorway = asked port (not (is_to_fail held.calls));
+  connections = held.connections;
   waiting = held.waiting;
   coming = held.coming;
   replies = held.replies;
@@ -134,6 +142,7 @@ after_listen held port = record {
 abbrev pub after_taking : HeldDoor → HeldDoor
 after_taking held = record {
   doorway = after_next (comes held) held.doorway;
+  connections = connections_after_next (comes held) held.connections;
   waiting = (if is_taken (comes held) then drop 1 held.waiting else held.waiting);
   coming = (if is_taken (comes held) then first_or_empty held.waiting else held.coming);
   replies = (if is_taken (comes held) then held.replies ++ [] ∷ [] else held.replies);
@@ -150,9 +159,15 @@ after_line_call calls = record { fails = calls.fails; made = counted calls.made;
 abbrev pub line_count : HeldDoor → ℕ → ℕ
 line_count held room = (if is_to_fail held.calls then 0 else min room (length (first_or_empty held.coming)))
 
-abbrev pub after_line_read : HeldDoor → ℕ → HeldDoor
-after_line_read held room = record {
+-- what a `read` with a room of that length answers
+abbrev pub line_read : HeldDoor → ℕ → Result ℕ Failed
+line_read held room = answer (is_to_fail held.calls) (line_count held room)
+
+-- with the room's length, and what it has after the call
+abbrev pub after_line_read : HeldDoor → ℕ → List ℕ → HeldDoor
+after_line_read held room filled = record {
   doorway = held.doorway;
+  connections = change_latest (connection_after_read (line_read held room) filled) held.connections;
   waiting = held.waiting;
   coming = (if is_to_fail held.calls then held.coming else left_after (line_count held room) held.coming);
   replies = held.replies;
@@ -169,9 +184,14 @@ is_shut held = is_to_fail held.calls || (held.room == 0)
 abbrev pub reply_count : HeldDoor → ℕ → ℕ
 reply_count held piece = (if is_shut held then 0 else min piece held.room)
 
+-- what a `write` of a piece answers
+abbrev pub line_write : HeldDoor → List ℕ → Result ℕ Failed
+line_write held piece = answer (is_shut held) (reply_count held (length piece))
+
 abbrev pub after_line_write : HeldDoor → List ℕ → HeldDoor
 after_line_write held piece = record {
   doorway = held.doorway;
+  connections = change_latest (connection_after_write (line_write held piece) piece) held.connections;
   waiting = held.waiting;
   coming = held.coming;
   replies = (if is_shut held then held.replies else append_to_last held.replies (take (reply_count held (length piece)) piece));
@@ -183,6 +203,7 @@ after_line_write held piece = record {
 abbrev pub after_close : HeldDoor → HeldDoor
 after_close held = record {
   doorway = closed held.doorway;
+  connections = held.connections;
   waiting = held.waiting;
   coming = held.coming;
   replies = held.replies;
@@ -191,16 +212,18 @@ after_close held = record {
   line_faults = held.line_faults;
 }
 
--- one minute for ever
+-- one minute for ever, and the minutes given so far
 pub record HeldClock : Type 0 where
   pub minute : ℤ
+  pub given : List ℤ
   pub calls : HeldCalls
 
 -- what it tells: the same minute at each asking
 abbrev pub clock_state : HeldClock → ClockState
 clock_state held = record {
-  tells = true;
+  is_observable = true;
   minute_at = λ asking. held.minute;
+  given = held.given;
   asked = held.calls.made;
   faults = held.calls.faults;
 }
@@ -208,5 +231,6 @@ clock_state held = record {
 abbrev pub after_minute : HeldClock → HeldClock
 after_minute held = record {
   minute = held.minute;
+  given = (if is_to_fail held.calls then held.given else held.given ++ held.minute ∷ []);
   calls = after_call (is_to_fail held.calls) held.calls;
 }

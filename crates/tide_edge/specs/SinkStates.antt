@@ -1,18 +1,16 @@
--- What a sink tells, and what is made of it by calls and texts (this project).
-use Rattle.std.specs.Prelude.{◌≡◌, ℕ, ◌<◌, Bool, true, false, if◌then◌else◌, List, ◌++◌, length, take, Result, Ok, Err}
+-- The bytes that a sink has accepted, and what calls and texts make of them (this project).
+use Rattle.std.specs.Prelude.{◌≡◌, ℕ, ◌<◌, Bool, true, false, List, ◌++◌, length, take, Result, Ok, Err}
 use Rattle.tide_edge.specs.declared.failed.Failed.{Failed}
 use Rattle.tide_edge.specs.Faults.{counted}
 
--- whether it is told what was taken; all the bytes taken, where that is told; and how many calls have failed, a count that stays
--- at the last value of a `u64`
+-- all the bytes that its calls said were accepted; and how many calls have failed, a count that stays at the last value of a `u64`
 pub record SinkState : Type 0 where
-  pub tells : Bool
   pub taken : List ℕ
   pub faults : ℕ
 
--- with these bytes behind those taken before
+-- with these bytes behind those accepted before
 abbrev pub put : List ℕ → SinkState → SinkState
-put bytes s = record s { taken = (if s.tells then s.taken ++ bytes else s.taken) }
+put bytes s = record s { taken = s.taken ++ bytes }
 
 abbrev pub sink_failed : SinkState → SinkState
 sink_failed s = record s { faults = counted s.faults }
@@ -21,7 +19,7 @@ abbrev pub sink_after_write : Result ℕ Failed → List ℕ → SinkState → S
 sink_after_write (Ok count) piece s = put (take count piece) s
 sink_after_write (Err failed) piece s = sink_failed s
 
--- A text was written: it was taken whole, or one write failed, nothing was written after that, and a proper front part was taken.
+-- A text was written: it was accepted whole, or one write failed, nothing was written after that, and a proper prefix was accepted.
 abbrev pub Wrote : SinkState → SinkState → Bool → List ℕ → Type 0
 Wrote before after false text = after ≡ put text before
 Wrote before after true text = (count : ℕ) × (count < length text) × (after ≡ sink_failed (put (take count text) before))

@@ -1,14 +1,14 @@
 //! What shows the present minute.
 
-ghost use Rattle.std.specs.Prelude.{◌≡◌, IsTrue, IfOk, is_err};
+ghost use Rattle.std.specs.Prelude.{◌≡◌, IsTrue, IfOk};
 ghost use Rattle.tide_edge.specs.Clocks.{ClockState, IsClockMinute, clock_after, next_minute};
 
 use crate::failed::Failed;
 
 /// Shows the present minute.
 ///
-/// An implementation tells one state, in which it says whether it tells the minute that each asking gives. No call changes
-/// these minutes.
+/// The state of an implementation has the minutes that it has given, and says whether those to come are observable. No call
+/// changes the minutes to come.
 pub trait Clock {
     ghost state: { Self → ClockState };
 
@@ -17,7 +17,7 @@ pub trait Clock {
     /// # Errors
     /// [`Failed`] where the clock can't be read or shows a minute out of that range.
     fn minute(&mut self) -> Result<i64, Failed>
-        ensures after { state self.new ≡ clock_after (is_err result) (state self.old) }
+        ensures after { state self.new ≡ clock_after result (state self.old) }
         ensures in_range { IfOk result IsClockMinute }
-        ensures told { IsTrue (state self.old).tells → IfOk result (λ minute. minute ≡ next_minute (state self.old)) };
+        ensures told { IsTrue (state self.old).is_observable → IfOk result (λ minute. minute ≡ next_minute (state self.old)) };
 }

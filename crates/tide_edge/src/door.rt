@@ -8,8 +8,8 @@ use crate::failed::Failed;
 
 /// Takes connections one after the other, gives the bytes that come over the open one and takes those of its reply.
 ///
-/// An implementation tells one state, in which it says whether it tells which requests wait and which replies were given.
-/// What the doorway says is always told.
+/// The state of an implementation has what passed over each connection, and what the doorway says; and it says whether the
+/// requests that wait and the replies are observable.
 pub trait Door {
     ghost state: { Self → DoorState };
 
@@ -29,7 +29,7 @@ pub trait Door {
         requires listens { IsTrue (state self.old).doorway.listens }
         requires none_open { (state self.old).doorway.is_open ≡ false }
         ensures after { state self.new ≡ door_after_next result (state self.old) }
-        ensures comes { IsTrue (state self.old).tells → IfOk result (λ comes. IsTrue comes ↔ (0 < length (state self.old).traffic.waiting)) };
+        ensures comes { IsTrue (state self.old).is_observable → IfOk result (λ comes. IsTrue comes ↔ (0 < length (state self.old).traffic.waiting)) };
 
     /// Reads the next bytes of the open connection into the begin of `room`, and answers how many came.
     /// It is 0 at the end of its bytes. Of a door that keeps pieces, no call gives bytes of two.
@@ -39,12 +39,12 @@ pub trait Door {
     fn read(&mut self, room: &mut [u8]) -> Result<usize, Failed>
         requires room { 0 < length room.old }
         requires open { IsTrue (state self.old).doorway.is_open }
-        ensures after { state self.new ≡ door_after_read result (state self.old) }
+        ensures after { state self.new ≡ door_after_read result room.new (state self.old) }
         ensures within { IfOk result (λ count. count ≤ length room.old) }
-        ensures next_bytes { IsTrue (state self.old).tells
+        ensures next_bytes { IsTrue (state self.old).is_observable
             → IfOk result (λ count. take count room.new ≡ take count (concat (state self.old).traffic.rest)) }
-        ensures end { IsTrue (state self.old).tells → IfOk result (λ count. (count ≡ 0) ↔ (concat (state self.old).traffic.rest ≡ [])) }
-        ensures within_piece { IsTrue (state self.old).tells → IsTrue (state self.old).keeps_pieces
+        ensures end { IsTrue (state self.old).is_observable → IfOk result (λ count. (count ≡ 0) ↔ (concat (state self.old).traffic.rest ≡ [])) }
+        ensures within_piece { IsTrue (state self.old).is_observable → IsTrue (state self.old).keeps_pieces
             → IfOk result (λ count. count ≤ length (first_or_empty (state self.old).traffic.rest)) };
 
     /// Takes the first bytes of `piece`, one at least, for the open connection's reply, and answers how many.

@@ -8,8 +8,8 @@ use decimal_text::Text;
 
 /// Files by name, of which at most one is open.
 ///
-/// An implementation tells one state, in which it says whether it tells what the files hold. No call changes what they
-/// hold, nor whether they are steady.
+/// The state of an implementation has what was opened and the bytes that came, and says whether the files are observable:
+/// whether it also has what they hold. No call changes what they hold, nor whether they are steady.
 pub trait Files {
     ghost state: { Self → FilesState };
 
@@ -20,8 +20,8 @@ pub trait Files {
     /// file of that name.
     fn open(&mut self, name: &Text) -> Result<(), Failed>
         ensures after { state self.new ≡ files_after_open result name.now (state self.old) }
-        ensures found { IsTrue (state self.old).store.tells → OnOk result (IsSome ((state self.old).store.folder name.now)) }
-        ensures absent { IsTrue (state self.old).store.tells → IsTrue (state self.old).store.is_steady
+        ensures found { IsTrue (state self.old).store.is_observable → OnOk result (IsSome ((state self.old).store.folder name.now)) }
+        ensures absent { IsTrue (state self.old).store.is_observable → IsTrue (state self.old).store.is_steady
             → OnErr result ((state self.old).store.folder name.now ≡ None) };
 
     /// Reads the next bytes of the open file into the begin of `room`, and answers how many came.
@@ -31,10 +31,10 @@ pub trait Files {
     /// [`Failed`] where the file can't be read. The rest stays as it was, and over steady files that never comes.
     fn read(&mut self, room: &mut [u8]) -> Result<usize, Failed>
         requires { 0 < length room.old }
-        ensures after { state self.new ≡ files_after_read result (state self.old) }
+        ensures after { state self.new ≡ files_after_read result room.new (state self.old) }
         ensures within { IfOk result (λ count. count ≤ length room.old) }
-        ensures next_bytes { IsTrue (state self.old).store.tells
+        ensures next_bytes { IsTrue (state self.old).store.is_observable
             → IfOk result (λ count. take count room.new ≡ take count (state self.old).rest) }
-        ensures end { IsTrue (state self.old).store.tells → IfOk result (λ count. (count ≡ 0) ↔ ((state self.old).rest ≡ [])) }
-        ensures reads { IsTrue (state self.old).store.tells → IsTrue (state self.old).store.is_steady → IsOk result };
+        ensures end { IsTrue (state self.old).store.is_observable → IfOk result (λ count. (count ≡ 0) ↔ ((state self.old).rest ≡ [])) }
+        ensures reads { IsTrue (state self.old).store.is_observable → IsTrue (state self.old).store.is_steady → IsOk result };
 }

@@ -1,17 +1,19 @@
 //! A clock that stands still.
 
-ghost use Rattle.std.specs.Prelude.{◌≡◌, IfOk};
+ghost use Rattle.std.specs.Prelude.{◌≡◌, [], IfOk};
 ghost use Rattle.tide_edge.specs.Clocks.{IsClockMinute};
 
 use crate::calls::Calls;
 use crate::clock::Clock;
 use crate::failed::Failed;
+use crate::minute_transcript::MinuteTranscript;
 use std::marker::Model;
 
-/// A clock that stands still at a minute, which it tells.
+/// A clock that stands still at a minute, which is observable.
 #[derive(Debug, Drop)]
 pub struct FixedClock {
     minute: i64,
+    given: MinuteTranscript,
     calls: Calls,
 }
 
@@ -21,7 +23,7 @@ impl Model for FixedClock {
 
     ghost Value = { HeldClock };
 
-    ghost view = { λ c. record { minute = c.minute; calls = c.calls } };
+    ghost view = { λ c. record { minute = c.minute; given = c.given.minutes; calls = c.calls } };
 
     ghost invariant = { λ c. IsClockMinute c.minute };
 }
@@ -32,11 +34,13 @@ impl FixedClock {
         requires { IsClockMinute minute }
         ensures { result ≡ record {
           minute = minute;
+          given = [];
           calls = record { fails = fails.items; made = 0; faults = 0 };
         } }
     {
         FixedClock {
             minute,
+            given: MinuteTranscript::new(),
             calls: Calls::new(fails),
         }
     }
@@ -54,6 +58,7 @@ impl Clock for FixedClock {
         ensures in_range { IfOk result IsClockMinute }
     {
         self.calls.next()?;
+        self.given = self.given.then(&self.minute);
         Ok(self.minute)
     }
 }

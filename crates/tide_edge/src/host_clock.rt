@@ -1,23 +1,25 @@
 //! The clock of the machine.
 
-ghost use Rattle.std.specs.Prelude.{◌≡◌, ◌/◌, ◌<◌, pos, false, IfSome, MatchOption};
+ghost use Rattle.std.specs.Prelude.{◌≡◌, ◌/◌, ◌<◌, pos, false, [], IfSome, MatchOption};
 ghost use Rattle.tide_edge.specs.Clocks.{IsClockMinute};
 
 use crate::clock::Clock;
 use crate::count::one_more;
 use crate::failed::Failed;
 use crate::host_fault::count_fault;
+use crate::minute_transcript::MinuteTranscript;
 use std::rt;
 use std::time::{SystemTime, UNIX_EPOCH};
 
 const LAST_MINUTE: u64 = 10_000_000_000;
 
-/// The clock of the machine. It doesn't tell its minutes.
+/// The clock of the machine. The minutes to come aren't observable: only those that it has given.
 ///
 /// It fails before 1970, which the system doesn't tell, and from 10,000,000,001 minutes later on.
 #[derive(Drop)]
 pub struct HostClock<R: rt::Clock + Drop> {
     system: R,
+    given: MinuteTranscript,
     faults: u64,
     asked: u64,
 }
@@ -25,11 +27,13 @@ pub struct HostClock<R: rt::Clock + Drop> {
 impl<R: rt::Clock + Drop> HostClock<R> {
     /// The clock of the machine.
     pub fn new(system: R) -> HostClock<R>
+        ensures given { (⟦<HostClock<R> as Clock>⟧.state result).given ≡ [] }
         ensures faults { (⟦<HostClock<R> as Clock>⟧.state result).faults ≡ 0 }
         ensures asked { (⟦<HostClock<R> as Clock>⟧.state result).asked ≡ 0 }
     {
         HostClock {
             system,
+            given: MinuteTranscript::new(),
             faults: 0,
             asked: 0,
         }
@@ -37,7 +41,7 @@ impl<R: rt::Clock + Drop> HostClock<R> {
 }
 
 impl<R: rt::Clock + Drop> Clock for HostClock<R> {
-    ghost state = { λ h. record { tells = false; minute_at = λ asking. pos 0; asked = h.asked; faults = h.faults } };
+    ghost state = { λ h. record { is_observable = false; minute_at = λ reading. pos 0; given = h.given.minutes; asked = h.asked; faults = h.faults } };
 
     fn minute(&mut self) -> Result<i64, Failed> {
         self.asked = one_more(self.asked);
@@ -45,6 +49,7 @@ impl<R: rt::Clock + Drop> Clock for HostClock<R> {
             && let Ok(since) = now.duration_since(UNIX_EPOCH)
             && let Some(minute) = minute_of(since.as_secs())
         {
+            self.given = self.given.then(&minute);
             return Ok(minute);
         }
         Err(count_fault(&mut self.faults))

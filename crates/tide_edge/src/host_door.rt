@@ -5,8 +5,9 @@ ghost use Rattle.std.specs.Prelude.{◌≡◌, false, []};
 use crate::door::Door;
 use crate::doorway::Doorway;
 use crate::failed::Failed;
-use crate::host_fault::{count_fault, outcome};
+use crate::host_fault::{accepted, count_fault, outcome};
 use crate::host_line::HostLine;
+use crate::passed::Connections;
 use std::io::{self, ErrorKind};
 use std::net::{Ipv4Addr, Net, OpenListener, TcpListener};
 use std::rt;
@@ -18,7 +19,7 @@ const GONE_IN_A_ROW: u32 = u32::MAX;
 /// ENOPROTOOPT, EOPNOTSUPP and EHOSTDOWN.
 const CONNECTION_ERRORS: [i32; 5] = [64, 71, 92, 95, 112];
 
-/// A port of the machine, at 127.0.0.1 alone. It doesn't tell what comes and what is sent.
+/// A port of the machine, at 127.0.0.1 alone. Which requests wait isn't observable: only what passed over each connection.
 ///
 /// It waits for the next connection for as long as it takes, so `next` never answers that no more will come. A peer has 60
 /// seconds for its whole request and 60 seconds to take its whole reply, after which `read` or `write` fails, and `close`
@@ -29,16 +30,18 @@ pub struct HostDoor<R: Net + rt::Clock + Drop> {
     listener: Option<R::Listener>,
     line: Option<HostLine<R::Stream>>,
     doorway: Doorway,
+    connections: Connections,
     faults: u64,
     line_faults: u64,
 }
 
 impl<R: Net + rt::Clock + Drop> HostDoor<R> {
-    ghost use Rattle.tide_edge.specs.Doors.{unasked};
+    ghost use Rattle.tide_edge.specs.Doors.{no_connections, unasked};
 
     /// A door that wasn't asked to listen yet.
     pub fn new(system: R) -> HostDoor<R>
         ensures doorway { (⟦<HostDoor<R> as Door>⟧.state result).doorway ≡ unasked }
+        ensures connections { (⟦<HostDoor<R> as Door>⟧.state result).connections ≡ no_connections }
         ensures faults { (⟦<HostDoor<R> as Door>⟧.state result).faults ≡ 0 }
         ensures line_faults { (⟦<HostDoor<R> as Door>⟧.state result).line_faults ≡ 0 }
     {
@@ -47,6 +50,7 @@ impl<R: Net + rt::Clock + Drop> HostDoor<R> {
             listener: None,
             line: None,
             doorway: Doorway::unasked(),
+            connections: Connections::none(),
             faults: 0,
             line_faults: 0,
         }
@@ -55,9 +59,10 @@ impl<R: Net + rt::Clock + Drop> HostDoor<R> {
 
 impl<R: Net + rt::Clock + Drop> Door for HostDoor<R> {
     ghost state = { λ h. record {
-      tells = false;
+      is_observable = false;
       keeps_pieces = false;
       doorway = h.doorway;
+      connections = h.connections;
       traffic = record { waiting = []; rest = []; replies = [] };
       faults = h.faults;
       line_faults = h.line_faults;
@@ -83,26 +88,28 @@ impl<R: Net + rt::Clock + Drop> Door for HostDoor<R> {
         {
             self.line = Some(HostLine::new(stream, &self.system));
             self.doorway.open();
+            self.connections.open();
             return Ok(true);
         }
         Err(count_fault(&mut self.faults))
     }
 
     fn read(&mut self, room: &mut [u8]) -> Result<usize, Failed> {
-        match &mut self.line {
+        let read = match &mut self.line {
             Some(line) => outcome(&mut self.line_faults, line.read(&self.system, room)),
             None => Err(count_fault(&mut self.line_faults)),
-        }
+        };
+        self.connections.read(room, &read);
+        read
     }
 
     fn write(&mut self, piece: &[u8]) -> Result<usize, Failed> {
-        if let Some(line) = &mut self.line
-            && let Ok(count) = line.write(&self.system, piece)
-            && count > 0
-        {
-            return Ok(count);
-        }
-        Err(count_fault(&mut self.line_faults))
+        let written = match &mut self.line {
+            Some(line) => accepted(&mut self.line_faults, line.write(&self.system, piece)),
+            None => Err(count_fault(&mut self.line_faults)),
+        };
+        self.connections.write(piece, &written);
+        written
     }
 
     fn close(&mut self) {

@@ -5,11 +5,15 @@
 //! over any of them.
 #![tactic(auto)]
 
+mod byte_transcript;
 mod calls;
 mod clock;
+mod connection;
 mod count;
 mod door;
 mod doorway;
+mod earlier_connections;
+mod earlier_openings;
 mod failed;
 mod files;
 mod fixed_clock;
@@ -23,7 +27,11 @@ mod laws;
 mod memory_door;
 mod memory_files;
 mod memory_sink;
+mod minute_transcript;
 mod named_file;
+mod opening;
+mod openings;
+mod passed;
 mod piece;
 mod pieces;
 mod read_all_fault;

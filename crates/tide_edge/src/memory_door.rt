@@ -9,6 +9,7 @@ use crate::door::Door;
 use crate::doorway::Doorway;
 use crate::failed::Failed;
 use crate::host_fault::count_fault;
+use crate::passed::Connections;
 use crate::pieces::Pieces;
 use crate::replies::Replies;
 use decimal_text::Bytes;
@@ -16,10 +17,11 @@ use std::alloc::{AllocError, Global};
 use std::collections::VecDeque;
 use std::marker::Model;
 
-/// A door in memory, which tells which requests wait and which replies were given.
+/// A door in memory, whose requests and replies are observable.
 #[derive(Debug, Drop)]
 pub struct MemoryDoor {
     doorway: Doorway,
+    connections: Connections,
     waiting: VecDeque<Vec<Bytes>>,
     coming: Pieces,
     replies: Replies,
@@ -37,6 +39,7 @@ impl Model for MemoryDoor {
 
     ghost view = { λ d. record {
       doorway = d.doorway;
+      connections = d.connections;
       waiting = map (λ request. request.items) d.waiting.items;
       coming = d.coming;
       replies = d.replies.replies;
@@ -50,7 +53,7 @@ impl Model for MemoryDoor {
 }
 
 impl MemoryDoor {
-    ghost use Rattle.tide_edge.specs.Doors.{unasked};
+    ghost use Rattle.tide_edge.specs.Doors.{no_connections, unasked};
 
     /// A door at which these requests wait, each in pieces that come one by one and aren't empty.
     /// All replies together may have `room` bytes. A call fails where its number is in `fails`, and a write also where the room
@@ -65,6 +68,7 @@ impl MemoryDoor {
         requires { IsTrue (list_all (λ request. are_pieces request.items) requests.items) }
         ensures { IfOk result (λ door. door ≡ record {
           doorway = unasked;
+          connections = no_connections;
           waiting = map (λ request. request.items) requests.items;
           coming = [];
           replies = [];
@@ -75,6 +79,7 @@ impl MemoryDoor {
     {
         Ok(MemoryDoor {
             doorway: Doorway::unasked(),
+            connections: Connections::none(),
             replies: Replies::new(alloc, room, requests.len())?,
             waiting: VecDeque::from(requests),
             coming: Pieces::new(Vec::new(alloc)),
@@ -94,7 +99,7 @@ impl MemoryDoor {
 
 impl Door for MemoryDoor {
     ghost use Rattle.tide_edge.specs.Calls.{answer, is_to_fail};
-    ghost use Rattle.tide_edge.specs.Memory.{door_state, comes, after_listen, after_taking, line_count, after_line_read, is_shut, reply_count, after_line_write, after_close};
+    ghost use Rattle.tide_edge.specs.Memory.{door_state, comes, after_listen, after_taking, line_count, line_read, after_line_read, is_shut, line_write, after_line_write, after_close};
 
     ghost state = { λ d. door_state d };
 
@@ -122,38 +127,45 @@ impl Door for MemoryDoor {
         self.coming = Pieces::new(pieces);
         self.replies.begin();
         self.doorway.open();
+        self.connections.open();
         Ok(true)
     }
 
     fn read(&mut self, room: &mut [u8]) -> Result<usize, Failed>
         requires room { 0 < length room.old }
         requires open { IsTrue self.old.doorway.is_open }
-        ensures answer { result ≡ answer (is_to_fail self.old.calls) (line_count self.old (length room.old)) }
-        ensures after { self.new ≡ after_line_read self.old (length room.old) }
+        ensures answer { result ≡ line_read self.old (length room.old) }
+        ensures after { self.new ≡ after_line_read self.old (length room.old) room.new }
         ensures filled { room.new ≡ take (line_count self.old (length room.old)) (concat self.old.coming)
             ++ drop (line_count self.old (length room.old)) room.old }
         ensures end { IfOk result (λ count. (count ≡ 0) ↔ (concat self.old.coming ≡ [])) }
     {
-        if self.calls.is_next_to_fail() {
-            return Err(count_fault(&mut self.line_faults));
-        }
-        Ok(self.coming.read(room))
+        let outcome = if self.calls.is_next_to_fail() {
+            Err(count_fault(&mut self.line_faults))
+        } else {
+            Ok(self.coming.read(room))
+        };
+        self.connections.read(room, &outcome);
+        outcome
     }
 
     fn write(&mut self, piece: &[u8]) -> Result<usize, Failed>
         requires piece { 0 < length piece.now }
         requires open { IsTrue self.old.doorway.is_open }
-        ensures answer { result ≡ answer (is_shut self.old) (reply_count self.old (length piece.now)) }
+        ensures answer { result ≡ line_write self.old piece.now }
         ensures after { self.new ≡ after_line_write self.old piece.now }
         ensures some { IfOk result (λ count. 0 < count) }
     {
         let room = self.replies.room();
-        if self.calls.is_next_to_fail() || room == 0 {
-            return Err(count_fault(&mut self.line_faults));
-        }
-        let count = (piece.len() as u64).min(room) as usize;
-        self.replies.append(&piece[..count]);
-        Ok(count)
+        let outcome = if self.calls.is_next_to_fail() || room == 0 {
+            Err(count_fault(&mut self.line_faults))
+        } else {
+            let count = (piece.len() as u64).min(room) as usize;
+            self.replies.append(&piece[..count]);
+            Ok(count)
+        };
+        self.connections.write(piece, &outcome);
+        outcome
     }
 
     fn close(&mut self)

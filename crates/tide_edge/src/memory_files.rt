@@ -3,6 +3,7 @@
 ghost use Rattle.std.specs.Prelude.{◌≡◌, ◌+◌, ◌<◌, ◌^◌, ◌++◌, [], position, length, take, drop, is_none};
 ghost use Rattle.std.specs.Option.{option_map};
 ghost use Rattle.std.specs.Str.{bytes_eq};
+ghost use Rattle.tide_edge.specs.FileStates.{no_openings};
 ghost use Rattle.tide_edge.specs.Memory.{folder_of};
 ghost use Rattle.tide_edge.specs.Workings.OpenFile.{bytes_at, rest_of};
 
@@ -10,6 +11,7 @@ use crate::calls::Calls;
 use crate::failed::Failed;
 use crate::files::Files;
 use crate::named_file::NamedFile;
+use crate::openings::Openings;
 use crate::reads::Reads;
 use crate::rest::rest_from;
 use decimal_text::Text;
@@ -21,6 +23,7 @@ pub struct MemoryFiles {
     files: Vec<NamedFile>,
     opened: Option<usize>,
     at: usize,
+    openings: Openings,
     reads: Reads,
     calls: Calls,
 }
@@ -35,6 +38,7 @@ impl Model for MemoryFiles {
     ghost view = { λ m. record {
       files = m.files.items;
       rest = rest_of m.files.items m.opened m.at;
+      openings = m.openings;
       reads = m.reads;
       calls = m.calls;
     } };
@@ -47,6 +51,7 @@ impl MemoryFiles {
         ensures { result ≡ record {
           files = files.items;
           rest = [];
+          openings = no_openings;
           reads = record { opens = 0; ends = 0; bytes = 0 };
           calls = record { fails = fails.items; made = 0; faults = 0 };
         } }
@@ -55,6 +60,7 @@ impl MemoryFiles {
             files,
             opened: None,
             at: 0,
+            openings: Openings::none(),
             reads: Reads::none(),
             calls: Calls::new(fails),
         }
@@ -74,8 +80,12 @@ impl Files for MemoryFiles {
         self.opened = None;
         self.at = 0;
         self.reads.open();
-        self.calls.next()?;
+        if let Err(failed) = self.calls.next() {
+            self.openings.open(name, false);
+            return Err(failed);
+        }
         self.opened = place_of(&self.files, name);
+        self.openings.open(name, self.opened.is_some());
         if self.opened.is_none() {
             return Err(self.calls.fail());
         }
@@ -85,7 +95,7 @@ impl Files for MemoryFiles {
     fn read(&mut self, room: &mut [u8]) -> Result<usize, Failed>
         requires { 0 < length room.old }
         ensures answer { result ≡ answer (is_to_fail self.old.calls) (read_count self.old (length room.old)) }
-        ensures after { self.new ≡ after_read self.old (length room.old) }
+        ensures after { self.new ≡ after_read self.old (length room.old) room.new }
         ensures filled { room.new ≡ take (read_count self.old (length room.old)) self.old.rest
             ++ drop (read_count self.old (length room.old)) room.old }
     {
@@ -94,6 +104,7 @@ impl Files for MemoryFiles {
         let count = room.len().min(rest.len());
         room[..count].copy_from_slice(&rest[..count]);
         self.at += count;
+        self.openings.read(room, count);
         Ok(self.reads.read(count))
     }
 }

@@ -8,7 +8,7 @@ use crate::sink::Sink;
 use std::alloc::{AllocError, Global};
 use std::marker::Model;
 
-/// A sink in memory, which tells what it has taken.
+/// A sink in memory, which keeps the bytes that it has accepted.
 #[derive(Debug, Drop)]
 pub struct MemorySink {
     bytes: Vec<u8>,

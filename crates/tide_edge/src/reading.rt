@@ -24,7 +24,7 @@ pub fn read_all<F: Files>(
     name: &Text,
     limit: u64,
 ) -> Result<Bytes, ReadAllFault>
-    ensures whole { IsTrue (F.state files.old).store.tells
+    ensures whole { IsTrue (F.state files.old).store.is_observable
         → Meets source_of (IsTrue (F.state files.old).store.is_steady) (whole limit ((F.state files.old).store.folder name.now)) result }
     ensures within { IfOk result (λ bytes. length bytes ≤ limit) }
     ensures read { ReadWithin (one_file limit) (is_outside_fault source_of result) (F.state files.old) (F.state files.new) }
@@ -44,7 +44,7 @@ fn read_rest<F: Files>(
     limit: u64,
 ) -> Result<Bytes, ReadAllFault>
     requires { length room.old ≡ PIECE }
-    ensures whole { IsTrue (F.state files.old).store.tells
+    ensures whole { IsTrue (F.state files.old).store.is_observable
         → Meets source_of (IsTrue (F.state files.old).store.is_steady) (whole limit (Some (F.state files.old).rest)) result }
     ensures within { IfOk result (λ bytes. length bytes ≤ limit) }
     ensures read { IsReadOn limit (is_outside_fault source_of result) (F.state files.old) (F.state files.new) }

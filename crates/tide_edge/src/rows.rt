@@ -4,6 +4,7 @@ ghost use Rattle.std.specs.Prelude.{◌≡◌, ◌-◌, ◌^◌, true, false, []
 ghost use Rattle.tide_edge.specs.Calls.{is_to_fail};
 ghost use Rattle.tide_edge.specs.Doors.{asked, after_next, append_to_last, left_after};
 ghost use Rattle.tide_edge.specs.Faults.{counted, Rose};
+ghost use Rattle.tide_edge.specs.FileStates.{no_openings};
 ghost use Rattle.tide_edge.specs.Memory.{folder_of, read_count, is_refused, write_count};
 ghost use Rattle.tide_edge.specs.Whole.{whole};
 
@@ -29,12 +30,14 @@ pub fn worked_rows()
     ensures small_room { read_count (record {
       files = [];
       rest = 7 ∷ 8 ∷ [];
+      openings = no_openings;
       reads = record { opens = 0; ends = 0; bytes = 0 };
       calls = record { fails = []; made = 0; faults = 0 };
     }) 1 ≡ 1 }
     ensures small_rest { read_count (record {
       files = [];
       rest = 7 ∷ 8 ∷ [];
+      openings = no_openings;
       reads = record { opens = 0; ends = 0; bytes = 0 };
       calls = record { fails = []; made = 0; faults = 0 };
     }) 9 ≡ 2 }

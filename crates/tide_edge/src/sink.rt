@@ -7,7 +7,7 @@ use crate::failed::Failed;
 
 /// Takes bytes, as standard output does.
 ///
-/// An implementation tells one state, in which it says whether it tells what it has taken.
+/// The state of an implementation has the bytes that its calls said were accepted.
 pub trait Sink {
     ghost state: { Self → SinkState };
 

@@ -89,13 +89,13 @@ sent_talk : (first now after : DoorState) (left : List (List ℕ)) (text : List 
 unfolding talk_traffic read_traffic with_lines
 sent_talk first now after left text failed is_asked reads sends =
     sends ∙ ap (sent text failed) reads
-    ∙ ap (with_lines first (faults_after failed first.line_faults)) (sent_behind first.tells left text first.traffic)
+    ∙ ap (with_lines first (faults_after failed first.line_faults)) (sent_behind first.is_observable left text first.traffic)
 
 pub unsent_talk : (first now : DoorState) (left : List (List ℕ)) (failed is_asked : Bool) → now ≡ read_to left failed first
     → now ≡ talked (talk_of left [] failed is_asked) first
 unfolding talk_traffic read_traffic with_lines
 unsent_talk first now left failed is_asked reads =
-    reads ∙ ap (with_lines first (faults_after failed first.line_faults)) (unsent first.tells left first.traffic)
+    reads ∙ ap (with_lines first (faults_after failed first.line_faults)) (unsent first.is_observable left first.traffic)
 
 made_answers : (stock : Stock) (minute : ℤ) (request reply : List ℕ) (row : Row) → request ≢ [] → IsRow request row
     → Replies stock minute row reply → Answers stock minute request reply
@@ -122,7 +122,7 @@ has_bytes (b ∷ bytes) is = λ none. absurd (cc)
 -- ---- What came of the open connection
 
 pub went_row : (stock : Stock) (row : Row) (first now after : DoorState) (clock clock_now : ClockState) → HasRead false first now
-    → (IsTrue first.tells → IsReadAs (concat first.traffic.rest) (Some row)) → RowSent false stock row (exchange now clock) (exchange after clock_now)
+    → (IsTrue first.is_observable → IsReadAs (concat first.traffic.rest) (Some row)) → RowSent false stock row (exchange now clock) (exchange after clock_now)
     → Went stock (exchange first clock) (exchange after clock_now)
 went_row stock row first now after clock clock_now read found (text, false, made, sends, asked) = record {
   talk = talk_of read.left text false true;
@@ -142,7 +142,7 @@ went_row stock row first now after clock clock_now read found (text, true, made,
 }
 
 pub stopped_row : (stock : Stock) (row : Row) (first now after : DoorState) (clock clock_now : ClockState) → HasRead false first now
-    → (IsTrue first.tells → IsReadAs (concat first.traffic.rest) (Some row)) → RowSent true stock row (exchange now clock) (exchange after clock_now)
+    → (IsTrue first.is_observable → IsReadAs (concat first.traffic.rest) (Some row)) → RowSent true stock row (exchange now clock) (exchange after clock_now)
     → Stopped (exchange first clock) (exchange after clock_now)
 stopped_row stock row first now after clock clock_now read found sends = record {
   left = read.left;
@@ -153,7 +153,7 @@ stopped_row stock row first now after clock clock_now read found sends = record 
 }
 
 pub went_by_row : (failed : Bool) (stock : Stock) (row : Row) (first now after : DoorState) (clock clock_now : ClockState)
-    → HasRead false first now → (IsTrue first.tells → IsReadAs (concat first.traffic.rest) (Some row))
+    → HasRead false first now → (IsTrue first.is_observable → IsReadAs (concat first.traffic.rest) (Some row))
     → RowSent failed stock row (exchange now clock) (exchange after clock_now) → WentBy failed stock (exchange first clock) (exchange after clock_now)
 went_by_row false stock row first now after clock clock_now read found sends =
     went_row stock row first now after clock clock_now read found sends
@@ -162,7 +162,7 @@ went_by_row true stock row first now after clock clock_now read found sends =
 
 -- no byte came
 pub went_silent : (stock : Stock) (first now : DoorState) (clock : ClockState) → HasRead false first now
-    → (IsTrue first.tells → concat first.traffic.rest ≡ []) → Went stock (exchange first clock) (exchange now clock)
+    → (IsTrue first.is_observable → concat first.traffic.rest ≡ []) → Went stock (exchange first clock) (exchange now clock)
 went_silent stock first now clock read none = record {
   talk = talk_of read.left [] false false;
   door = unsent_talk first now read.left false false read.door;

@@ -114,48 +114,48 @@ rest_by false left t is = absurd (cc)
 pub record ReadSoFar (first : DoorState) (request : List ℕ) (now : DoorState) : Type 0 where
   left : List (List ℕ)
   door : now ≡ read_to left false first
-  read : IsTrue first.tells → IsReadTo first.traffic.rest request left
+  read : IsTrue first.is_observable → IsReadTo first.traffic.rest request left
 
 pub read_none : (first : DoorState) → ReadSoFar first [] first
 unfolding with_traffic
 read_none first = record {
   left = first.traffic.rest;
-  door = ap (with_traffic first first.line_faults) (same_rest first.tells first.traffic);
+  door = ap (with_traffic first first.line_faults) (same_rest first.is_observable first.traffic);
   read = λ t. none_read first.traffic.rest;
 }
 
 pub still_open : (first now : DoorState) (request : List ℕ) → ReadSoFar first request now → now.doorway ≡ first.doorway
 still_open first now request so_far = ap (λ d. d.doorway) so_far.door
 
-still_tells : (first now : DoorState) (request : List ℕ) → ReadSoFar first request now → IsTrue first.tells → IsTrue now.tells
-still_tells first now request so_far t = subst (λ (b : Bool). IsTrue b) (sym (ap (λ d. d.tells) so_far.door)) t
+still_tells : (first now : DoorState) (request : List ℕ) → ReadSoFar first request now → IsTrue first.is_observable → IsTrue now.is_observable
+still_tells first now request so_far t = subst (λ (b : Bool). IsTrue b) (sym (ap (λ d. d.is_observable) so_far.door)) t
 
 still_keeps : (first now : DoorState) (request : List ℕ) → ReadSoFar first request now → IsTrue first.keeps_pieces → IsTrue now.keeps_pieces
 still_keeps first now request so_far k = subst (λ (b : Bool). IsTrue b) (sym (ap (λ d. d.keeps_pieces) so_far.door)) k
 
-rest_now : (first now : DoorState) (request : List ℕ) (so_far : ReadSoFar first request now) → IsTrue first.tells
+rest_now : (first now : DoorState) (request : List ℕ) (so_far : ReadSoFar first request now) → IsTrue first.is_observable
     → now.traffic.rest ≡ so_far.left
 unfolding rest_of
-rest_now first now request so_far t = ap (λ d. d.traffic.rest) so_far.door ∙ rest_by first.tells so_far.left first.traffic t
+rest_now first now request so_far t = ap (λ d. d.traffic.rest) so_far.door ∙ rest_by first.is_observable so_far.left first.traffic t
 
 one_more : (first now after : DoorState) (left : List (List ℕ)) (count : ℕ) → now ≡ read_to left false first
     → after ≡ door_after_read (Ok count) now → after ≡ read_to (left_after count left) false first
 unfolding with_traffic rest_of
 one_more first now after left count door is =
-    is ∙ ap (door_after_read (Ok count)) door ∙ ap (with_traffic first first.line_faults) (read_again first.tells left count first.traffic)
+    is ∙ ap (door_after_read (Ok count)) door ∙ ap (with_traffic first first.line_faults) (read_again first.is_observable left count first.traffic)
 
 one_failed : (first now after : DoorState) (left : List (List ℕ)) (failed : Failed) → now ≡ read_to left false first
     → after ≡ door_after_read (Err failed) now → after ≡ read_to left true first
 unfolding with_traffic rest_of
 one_failed first now after left failed door is =
     is ∙ ap (door_after_read (Err failed)) door
-    ∙ ap (with_traffic first (counted first.line_faults)) (unread_again first.tells (if first.tells then rest_of left first.traffic else first.traffic))
+    ∙ ap (with_traffic first (counted first.line_faults)) (unread_again first.is_observable (if first.is_observable then rest_of left first.traffic else first.traffic))
 
 -- what one read more gives
 pub record OneMore (now : DoorState) (request next : List ℕ) (count : ℕ) (after : DoorState) : Type 0 where
   pub door : after ≡ door_after_read (Ok count) now
   pub longer : length next ≡ length request + count
-  pub bytes : IsTrue now.tells → next ≡ request ++ take count (concat now.traffic.rest)
+  pub bytes : IsTrue now.is_observable → next ≡ request ++ take count (concat now.traffic.rest)
 
 pub read_on : (first now after : DoorState) (request next : List ℕ) (count : ℕ) → ReadSoFar first request now
     → OneMore now request next count after → ReadSoFar first next after
@@ -178,13 +178,13 @@ read_on first now after request next count so_far more = record {
 }
 
 -- the bytes read, and those that are left
-pub parts_read : (first now : DoorState) (request : List ℕ) (so_far : ReadSoFar first request now) → IsTrue first.tells
+pub parts_read : (first now : DoorState) (request : List ℕ) (so_far : ReadSoFar first request now) → IsTrue first.is_observable
     → concat first.traffic.rest ≡ request ++ concat so_far.left
 parts_read first now request so_far t = read_parts first.traffic.rest request so_far.left (so_far.read t)
 
 -- where nothing was left before one read more, all were read
 pub all_read : (first now after : DoorState) (request next : List ℕ) (count : ℕ) → ReadSoFar first request now
-    → OneMore now request next count after → IsTrue first.tells → (IsTrue now.tells → concat now.traffic.rest ≡ [])
+    → OneMore now request next count after → IsTrue first.is_observable → (IsTrue now.is_observable → concat now.traffic.rest ≡ [])
     → IsRead (concat first.traffic.rest) next
 unfolding read_on
 all_read first now after request next count so_far more t none =
@@ -198,7 +198,7 @@ all_read first now after request next count so_far more t none =
     }
 
 -- where the bytes are enough, so many were read
-pub enough_read : (first now : DoorState) (request : List ℕ) → ReadSoFar first request now → IsTrue first.tells → IsEnough request
+pub enough_read : (first now : DoorState) (request : List ℕ) → ReadSoFar first request now → IsTrue first.is_observable → IsEnough request
     → IsRead (concat first.traffic.rest) request
 enough_read first now request so_far t enough =
     record { rest = concat so_far.left; parts = parts_read first now request so_far t; enough = inr enough }
@@ -208,8 +208,8 @@ none_came bytes read = elim read.enough [ inl none ↦ read.parts ∙ none | inr
 
 found_by : (ends settled : Bool) (first now after : DoorState) (request next : List ℕ) (count : ℕ) (row : Row)
     → ReadSoFar first request now → OneMore now request next count after → (ends || settled) ≡ true
-    → (ends ≡ true → IsTrue now.tells → concat now.traffic.rest ≡ []) → (settled ≡ true → IsTrue (is_settled row))
-    → IsRow next row → IsTrue first.tells → IsRead (concat first.traffic.rest) next
+    → (ends ≡ true → IsTrue now.is_observable → concat now.traffic.rest ≡ []) → (settled ≡ true → IsTrue (is_settled row))
+    → IsRow next row → IsTrue first.is_observable → IsRead (concat first.traffic.rest) next
 found_by true settled first now after request next count row so_far more is over enough row_is t =
     all_read first now after request next count so_far more t (λ u. over refl u)
 found_by false settled first now after request next count row so_far more is over enough row_is t =
@@ -221,8 +221,8 @@ is_none count is = grind (arith, nat_tests)
 -- the row of what was read, where reading has ended
 pub row_found : (first now after : DoorState) (request next : List ℕ) (count : ℕ) (row : Row)
     → ReadSoFar first request now → OneMore now request next count after → (count == 0 || is_settled row) ≡ true
-    → (IsTrue now.tells → (count ≡ 0) ↔ (concat now.traffic.rest ≡ [])) → ¬ (next ≡ []) → IsRow next row
-    → IsTrue first.tells → IsReadAs (concat first.traffic.rest) (Some row)
+    → (IsTrue now.is_observable → (count ≡ 0) ↔ (concat now.traffic.rest ≡ [])) → ¬ (next ≡ []) → IsRow next row
+    → IsTrue first.is_observable → IsReadAs (concat first.traffic.rest) (Some row)
 row_found first now after request next count row so_far more is over some row_is t = (
   next,
   found_by (count == 0) (is_settled row) first now after request next count row so_far more is
@@ -258,7 +258,7 @@ has_failed first now after request failed so_far waits is = record {
 -- or it was the last one needed, since the bytes before it weren't enough
 pub has_read : (first now after : DoorState) (request next : List ℕ) (count : ℕ) → ReadSoFar first request now
     → ¬ (IsEnough request) → OneMore now request next count after
-    → (IsTrue now.tells → IsTrue now.keeps_pieces → count ≤ length (first_or_empty now.traffic.rest)) → HasRead false first after
+    → (IsTrue now.is_observable → IsTrue now.keeps_pieces → count ≤ length (first_or_empty now.traffic.rest)) → HasRead false first after
 has_read first now after request next count so_far waits more one = record {
   left = left_after count so_far.left;
   door = one_more first now after so_far.left count so_far.door more.door;
@@ -286,7 +286,7 @@ sent_nothing false t = refl
 
 pub sent_none : (d : DoorState) → d ≡ sent [] false d
 unfolding with_traffic appended
-sent_none d = ap (with_traffic d d.line_faults) (sent_nothing d.tells d.traffic)
+sent_none d = ap (with_traffic d d.line_faults) (sent_nothing d.is_observable d.traffic)
 
 sent_twice : (tells : Bool) (a b : List ℕ) (t : Traffic)
     → (if tells then appended b (if tells then appended a t else t) else (if tells then appended a t else t))
@@ -302,7 +302,7 @@ unfolding with_traffic appended
 sent_on first now after text at count so_far is =
     is
     ∙ ap (door_after_write (Ok count) (drop at text)) so_far
-    ∙ ap (with_traffic first first.line_faults) (sent_twice first.tells (take at text) (take count (drop at text)) first.traffic)
+    ∙ ap (with_traffic first first.line_faults) (sent_twice first.is_observable (take at text) (take count (drop at text)) first.traffic)
     ∙ ap (λ xs. sent xs false first) (sym (take-add at count text))
 
 pub sent_failed : (first now after : DoorState) (text : List ℕ) (at : ℕ) (failed : Failed) → now ≡ sent (take at text) false first
@@ -312,4 +312,4 @@ sent_failed first now after text at failed so_far is =
     is
     ∙ ap (door_after_write (Err failed) (drop at text)) so_far
     ∙ ap (with_traffic first (counted first.line_faults))
-    (unread_again first.tells (if first.tells then appended (take at text) first.traffic else first.traffic))
+    (unread_again first.is_observable (if first.is_observable then appended (take at text) first.traffic else first.traffic))

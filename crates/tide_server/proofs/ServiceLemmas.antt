@@ -26,7 +26,7 @@ pub record Serves (stock : Stock) (failed : Bool) (before after : Exchange) : Ty
   pub port : after.door.doorway.port ≡ Some stock.port
   pub listens : after.door.doorway.listens ≡ true
   pub closed : after.door.doorway.is_open ≡ false
-  pub served : IsTrue before.door.tells → IsTrue before.clock.tells → Served stock failed before after
+  pub served : IsTrue before.door.is_observable → IsTrue before.clock.is_observable → Served stock failed before after
 
 pub served_done : (stock : Stock) (door door_after : DoorState) (err err_after : SinkState) (clock clock_after : ClockState) (failed : Bool)
     → Serves stock false (exchange door clock) (exchange door_after clock_after) → IsKept false false (exchange door clock) (exchange door_after clock_after)
@@ -48,7 +48,7 @@ served_done stock door door_after err err_after clock clock_after failed serves 
     one = refl;
     files_count = same;
     door_count = kept.faults;
-    door_tells = kept.tells;
+    door_tells = kept.is_observable;
     door_pieces = kept.pieces;
     asked = kept.asked;
     clock_state = kept.clock;
@@ -67,7 +67,7 @@ by_outage outages.Door door door_after err err_after clock clock_after files lef
   one = refl;
   files_count = same;
   door_count = kept.faults;
-  door_tells = kept.tells;
+  door_tells = kept.is_observable;
   door_pieces = kept.pieces;
   asked = kept.asked;
   clock_state = kept.clock;
@@ -79,7 +79,7 @@ by_outage outages.Clock door door_after err err_after clock clock_after files le
   one = refl;
   files_count = same;
   door_count = kept.faults;
-  door_tells = kept.tells;
+  door_tells = kept.is_observable;
   door_pieces = kept.pieces;
   asked = kept.asked;
   clock_state = kept.clock;

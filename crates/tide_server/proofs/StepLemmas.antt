@@ -37,19 +37,19 @@ rest_by : (tells : Bool) (t : Traffic) (request : List (List ℕ)) (more : List 
 rest_by true t request more is next = ap first_or_empty next
 rest_by false t request more is next = absurd (cc)
 
-taken_rest : (first now : DoorState) (next : IsNext first) → IsTrue first.tells → now ≡ door_after_next (Ok true) first
+taken_rest : (first now : DoorState) (next : IsNext first) → IsTrue first.is_observable → now ≡ door_after_next (Ok true) first
     → now.traffic.rest ≡ next.request
-taken_rest first now next t is = ap (λ d. d.traffic.rest) is ∙ rest_by first.tells first.traffic next.request next.more t next.waiting
+taken_rest first now next t is = ap (λ d. d.traffic.rest) is ∙ rest_by first.is_observable first.traffic next.request next.more t next.waiting
 
 tells_on : (before after : Bool) → after ≡ before → IsTrue before → IsTrue after
 tells_on before after same is = subst (λ (b : Bool). IsTrue b) (sym same) is
 
 pub served_next : (stock : Stock) (first now after : DoorState) (clock clock_now : ClockState)
-    → (IsTrue first.tells → 0 < length first.traffic.waiting) → now ≡ door_after_next (Ok true) first
+    → (IsTrue first.is_observable → 0 < length first.traffic.waiting) → now ≡ door_after_next (Ok true) first
     → Closed false stock (exchange now clock) (exchange after clock_now) → ServedNext stock (exchange first clock) (exchange after clock_now)
 served_next stock first now after clock clock_now some is closes =
     let went = closes.went in
-    let tells : IsTrue first.tells → IsTrue now.tells = λ t. tells_on first.tells now.tells (ap (λ d. d.tells) is) t in
+    let tells : IsTrue first.is_observable → IsTrue now.is_observable = λ t. tells_on first.is_observable now.is_observable (ap (λ d. d.is_observable) is) t in
     let keeps : IsTrue first.keeps_pieces → IsTrue now.keeps_pieces =
     λ k. tells_on first.keeps_pieces now.keeps_pieces (ap (λ d. d.keeps_pieces) is) k in record {
       talk = went.talk;
@@ -70,11 +70,11 @@ served_next stock first now after clock clock_now some is closes =
     }
 
 pub left_next : (stock : Stock) (first now after : DoorState) (clock clock_now : ClockState)
-    → (IsTrue first.tells → 0 < length first.traffic.waiting) → now ≡ door_after_next (Ok true) first
+    → (IsTrue first.is_observable → 0 < length first.traffic.waiting) → now ≡ door_after_next (Ok true) first
     → Closed true stock (exchange now clock) (exchange after clock_now) → LeftNext (exchange first clock) (exchange after clock_now)
 left_next stock first now after clock clock_now some is closes =
     let went = closes.went in
-    let tells : IsTrue first.tells → IsTrue now.tells = λ t. tells_on first.tells now.tells (ap (λ d. d.tells) is) t in
+    let tells : IsTrue first.is_observable → IsTrue now.is_observable = λ t. tells_on first.is_observable now.is_observable (ap (λ d. d.is_observable) is) t in
     let keeps : IsTrue first.keeps_pieces → IsTrue now.keeps_pieces =
     λ k. tells_on first.keeps_pieces now.keeps_pieces (ap (λ d. d.keeps_pieces) is) k in record {
       left = went.left;
@@ -93,12 +93,12 @@ with_all d doorway faults traffic = record d { doorway = doorway; traffic = traf
 pub next_failed : (first after : DoorState) (failed : Failed) → after ≡ door_after_next (Err failed) first → after ≡ door_failed first
 unfolding with_all
 next_failed first after failed is =
-    is ∙ ap (with_all first first.doorway (counted first.faults)) (unread_again first.tells first.traffic)
+    is ∙ ap (with_all first first.doorway (counted first.faults)) (unread_again first.is_observable first.traffic)
 
 pub next_over : (first after : DoorState) → after ≡ door_after_next (Ok false) first → after ≡ door_at_end first
 unfolding with_all
 next_over first after is =
-    is ∙ ap (with_all first (door_at_end first).doorway first.faults) (unread_again first.tells first.traffic)
+    is ∙ ap (with_all first (door_at_end first).doorway first.faults) (unread_again first.is_observable first.traffic)
 
 -- ---- What serving leaves as it is
 
@@ -120,7 +120,7 @@ pub kept_on : (stock : Stock) (before now after : Exchange) → IsKept false fal
 unfolding with_counts
 kept_on stock before now after kept step =
     let clock = clock_asked step.talk.is_asked before.clock now.clock after.clock kept.asked kept.clock step.clock in record {
-      tells = ap (λ d. d.tells) step.door ∙ kept.tells;
+      tells = ap (λ d. d.is_observable) step.door ∙ kept.is_observable;
       pieces = ap (λ d. d.keeps_pieces) step.door ∙ kept.pieces;
       faults = ap (λ d. d.faults) step.door ∙ kept.faults;
       asked = clock.0;
@@ -130,7 +130,7 @@ kept_on stock before now after kept step =
 pub kept_left : (before now after : Exchange) → IsKept false false before now → LeftNext now after → IsKept false true before after
 unfolding with_counts
 kept_left before now after kept step = record {
-  tells = ap (λ d. d.tells) step.door ∙ kept.tells;
+  tells = ap (λ d. d.is_observable) step.door ∙ kept.is_observable;
   pieces = ap (λ d. d.keeps_pieces) step.door ∙ kept.pieces;
   faults = ap (λ d. d.faults) step.door ∙ kept.faults;
   asked = counted kept.asked;
@@ -140,7 +140,7 @@ kept_left before now after kept step = record {
 pub kept_failed : (before now after : Exchange) → IsKept false false before now
     → (after.door ≡ door_failed now.door) × (after.clock ≡ now.clock) → IsKept true false before after
 kept_failed before now after kept step = record {
-  tells = ap (λ d. d.tells) step.0 ∙ kept.tells;
+  tells = ap (λ d. d.is_observable) step.0 ∙ kept.is_observable;
   pieces = ap (λ d. d.keeps_pieces) step.0 ∙ kept.pieces;
   faults = ap (λ d. d.faults) step.0 ∙ ap counted kept.faults;
   asked = kept.asked;
@@ -150,7 +150,7 @@ kept_failed before now after kept step = record {
 pub kept_over : (before now after : Exchange) → IsKept false false before now
     → (after.door ≡ door_at_end now.door) × (after.clock ≡ now.clock) → IsKept false false before after
 kept_over before now after kept step = record {
-  tells = ap (λ d. d.tells) step.0 ∙ kept.tells;
+  tells = ap (λ d. d.is_observable) step.0 ∙ kept.is_observable;
   pieces = ap (λ d. d.keeps_pieces) step.0 ∙ kept.pieces;
   faults = ap (λ d. d.faults) step.0 ∙ kept.faults;
   asked = kept.asked;
@@ -222,17 +222,17 @@ unfolding taken_traffic
 traffic_by true talk t is = refl
 traffic_by false talk t is = absurd (cc)
 
-traffic_with : (talk : Talk) (before after : DoorState) → IsTrue before.tells → after ≡ door_with talk before
+traffic_with : (talk : Talk) (before after : DoorState) → IsTrue before.is_observable → after ≡ door_with talk before
     → after.traffic ≡ taken_traffic talk before.traffic
-traffic_with talk before after t is = ap (λ d. d.traffic) is ∙ traffic_by before.tells talk before.traffic t
+traffic_with talk before after t is = ap (λ d. d.traffic) is ∙ traffic_by before.is_observable talk before.traffic t
 
-pub more_served : (stock : Stock) (count : ℕ) (before now after : Exchange) → IsTrue before.door.tells → IsTrue before.clock.tells
+pub more_served : (stock : Stock) (count : ℕ) (before now after : Exchange) → IsTrue before.door.is_observable → IsTrue before.clock.is_observable
     → IsKept false false before now → WereServed stock count before now → ServedNext stock now after
     → WereServed stock (count + 1) before after
 unfolding taken_traffic
 more_served stock count before now after t k kept so_far step =
-    let tells : IsTrue now.door.tells = tells_on before.door.tells now.door.tells kept.tells t in
-    let clock_tells : IsTrue now.clock.tells = tells_on before.clock.tells now.clock.tells (ap (λ c. c.tells) kept.clock) k in
+    let tells : IsTrue now.door.is_observable = tells_on before.door.is_observable now.door.is_observable kept.is_observable t in
+    let clock_tells : IsTrue now.clock.is_observable = tells_on before.clock.is_observable now.clock.is_observable (ap (λ c. c.is_observable) kept.clock) k in
     let next = step.next tells in
     let c = conversation next.request step.talk in
     let traffic = traffic_with step.talk now.door after.door tells step.door in
@@ -300,11 +300,11 @@ ended stock has_failed count before now after so_far traffic lines clock all = r
   bytes = All-nil HasByte;
 }
 
-broken : (stock : Stock) (count : ℕ) (before now after : Exchange) → IsTrue before.door.tells → IsKept false false before now
+broken : (stock : Stock) (count : ℕ) (before now after : Exchange) → IsTrue before.door.is_observable → IsKept false false before now
     → WereServed stock count before now → LeftNext now after → after.door.doorway.taken ≡ count + 1 → Served stock true before after
 unfolding taken_traffic
 broken stock count before now after t kept so_far step all =
-    let tells : IsTrue now.door.tells = tells_on before.door.tells now.door.tells kept.tells t in
+    let tells : IsTrue now.door.is_observable = tells_on before.door.is_observable now.door.is_observable kept.is_observable t in
     let next = step.next tells in
     let talk : Talk = record { left = step.left; reply = []; is_cut = false; is_asked = true } in
     let traffic = traffic_with talk now.door after.door tells step.door in
@@ -343,7 +343,7 @@ pub next_serving : (port count : ℕ) (after : Doorway) → count < 2 ^ 64 - 1 �
     → after ≡ serving port (count + 1)
 next_serving port count after few is = is ∙ ap (serving port) (counted_on count few)
 
-pub failed : (stock : Stock) (outage : Outage) (count : ℕ) (before now after : Exchange) → IsTrue before.door.tells → count < 2 ^ 64 - 1
+pub failed : (stock : Stock) (outage : Outage) (count : ℕ) (before now after : Exchange) → IsTrue before.door.is_observable → count < 2 ^ 64 - 1
     → now.door.doorway.taken ≡ count → IsKept false false before now → WereServed stock count before now
     → StepBy (Err outage) stock now after → Served stock true before after
 failed stock outages.Door count before now after t few taken kept so_far step =

@@ -120,7 +120,7 @@ end_line _ = codes "read fault\n"
 pub record HasListened (stock : Stock) (status : Status) (before after : Handed) : Type 0 where
   pub asked : after.door.doorway.port ≡ Some stock.port
   pub ends : (status ≡ Done) ⊎ (status ≡ ReadFault)
-  pub served : IsTrue before.door.tells → IsTrue before.clock.tells
+  pub served : IsTrue before.door.is_observable → IsTrue before.clock.is_observable
       → Served stock (is_read_fault status) (exchange before.door before.clock) (exchange after.door after.clock)
   pub wrote : WroteBoth before.err after.err (notice_at stock.port after.door.doorway) (end_line status)
 
@@ -140,7 +140,7 @@ pub record EndedBy (has_failed : Bool) (before after : Handed) : Type 0 where
   pub one : count_by (λ failed. failed) (files ∷ clock ∷ door ∷ []) ≡ (if has_failed then 1 else 0)
   pub files_count : after.files.faults ≡ faults_after files before.files.faults
   pub door_count : after.door.faults ≡ faults_after door before.door.faults
-  pub door_tells : after.door.tells ≡ before.door.tells
+  pub door_tells : after.door.is_observable ≡ before.door.is_observable
   pub door_pieces : after.door.keeps_pieces ≡ before.door.keeps_pieces
   pub asked : ℕ
   pub clock_state : after.clock ≡ record before.clock { asked = asked; faults = faults_after clock before.clock.faults }

@@ -21,7 +21,7 @@ pub(crate) fn serve_all<D: Door, K: Clock>(
     clock: &mut K,
 ) -> Result<(), Outage>
     requires listens { (D.state door.old).doorway ≡ asked stock.now.port true }
-    ensures served { IsTrue (D.state door.old).tells → IsTrue (K.state clock.old).tells → Served stock.now (is_err result)
+    ensures served { IsTrue (D.state door.old).is_observable → IsTrue (K.state clock.old).is_observable → Served stock.now (is_err result)
         (exchange (D.state door.old) (K.state clock.old)) (exchange (D.state door.new) (K.state clock.new)) }
     ensures kept { IsKept (is_door_outage result) (is_clock_outage result)
         (exchange (D.state door.old) (K.state clock.old)) (exchange (D.state door.new) (K.state clock.new)) }

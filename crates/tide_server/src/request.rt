@@ -60,10 +60,10 @@ impl Request {
         requires open { IsTrue (D.state door.old).doorway.is_open }
         ensures after { D.state door.new ≡ door_after_read result (D.state door.old) }
         ensures longer { IfOk result (λ count. length self.new ≡ length self.old + count) }
-        ensures next_bytes { IsTrue (D.state door.old).tells
+        ensures next_bytes { IsTrue (D.state door.old).is_observable
             → IfOk result (λ count. self.new ≡ self.old ++ take count (concat (D.state door.old).traffic.rest)) }
-        ensures end { IsTrue (D.state door.old).tells → IfOk result (λ count. (count ≡ 0) ↔ (concat (D.state door.old).traffic.rest ≡ [])) }
-        ensures within_piece { IsTrue (D.state door.old).tells → IsTrue (D.state door.old).keeps_pieces
+        ensures end { IsTrue (D.state door.old).is_observable → IfOk result (λ count. (count ≡ 0) ↔ (concat (D.state door.old).traffic.rest ≡ [])) }
+        ensures within_piece { IsTrue (D.state door.old).is_observable → IsTrue (D.state door.old).keeps_pieces
             → IfOk result (λ count. count ≤ length (first_or_empty (D.state door.old).traffic.rest)) }
     {
         let count = door.read(&mut self.piece)?;

@@ -39,7 +39,7 @@ pub fn serve<F: Files, D: Door, E: Sink, K: Clock>(
     clock: &mut K,
 ) -> Status
     requires { (D.state door.old).doorway.port ≡ None }
-    ensures own_files { IsTrue (F.state files.old).store.tells
+    ensures own_files { IsTrue (F.state files.old).store.is_observable
         → EndsAs (IsTrue (F.state files.old).store.is_steady) (stock_of (F.state files.old).store.folder words.now) result
         (handed (F.state files.old) (D.state door.old) (E.state err.old) (K.state clock.old))
         (handed (F.state files.new) (D.state door.new) (E.state err.new) (K.state clock.new)) }

@@ -27,7 +27,7 @@ pub(crate) fn read_stock<F: Files>(
     words: &Words,
     files: &mut F,
 ) -> Result<SoundStock, NoAnswer>
-    ensures own { IsTrue (F.state files.old).store.tells → Meets source_of (IsTrue (F.state files.old).store.is_steady)
+    ensures own { IsTrue (F.state files.old).store.is_observable → Meets source_of (IsTrue (F.state files.old).store.is_steady)
         (stock_of (F.state files.old).store.folder words.now) result }
     ensures some { (folders : Folders) × Meets source_of (Unit {0}) (stock_from folders words.now) result }
     ensures told { IfErr result IsTold }
@@ -49,7 +49,7 @@ fn read_named<F: Files>(
     question: &Question,
     name: &Text,
 ) -> Result<SoundStock, NoAnswer>
-    ensures own { IsTrue (F.state files.old).store.tells → Meets source_of (IsTrue (F.state files.old).store.is_steady)
+    ensures own { IsTrue (F.state files.old).store.is_observable → Meets source_of (IsTrue (F.state files.old).store.is_steady)
         (stock_named (λ slot. (F.state files.old).store.folder) question.now name.now) result }
     ensures some { (folders : Folders) × Meets source_of (Unit {0}) (stock_named folders question.now name.now) result }
     ensures told { IfErr result IsTold }

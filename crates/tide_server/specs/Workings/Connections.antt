@@ -34,7 +34,7 @@ IsReadAs bytes (Some row) = (request : List ℕ) × IsRead bytes request × ¬ (
 pub record HasRead (failed : Bool) (before after : DoorState) : Type 0 where
   pub left : List (List ℕ)
   pub door : after ≡ read_to left failed before
-  pub needed : IsTrue before.tells → IsTrue before.keeps_pieces → IsReadAsNeeded before.traffic.rest left
+  pub needed : IsTrue before.is_observable → IsTrue before.keeps_pieces → IsReadAsNeeded before.traffic.rest left
 
 -- ---- Sending
 
@@ -59,7 +59,7 @@ Replies stock minute row text =
 abbrev pub RowSent : Bool → Stock → Row → Exchange → Exchange → Type 0
 RowSent false stock row before after =
     (text : List ℕ) × (failed : Bool)
-    × (IsTrue before.clock.tells → Replies stock (next_minute before.clock) row text)
+    × (IsTrue before.clock.is_observable → Replies stock (next_minute before.clock) row text)
     × SentBy failed text before.door after.door × (after.clock ≡ clock_after false before.clock)
 RowSent true stock row before after = (after.door ≡ before.door) × (after.clock ≡ clock_after true before.clock)
 
@@ -83,18 +83,18 @@ pub record Went (stock : Stock) (before after : Exchange) : Type 0 where
   pub talk : Talk
   pub door : after.door ≡ talked talk before.door
   pub clock : after.clock ≡ clock_with talk.is_asked before.clock
-  pub answered : IsTrue before.door.tells → IsTrue before.clock.tells
+  pub answered : IsTrue before.door.is_observable → IsTrue before.clock.is_observable
       → AnswersUnlessCut talk.is_cut (Answers stock (next_minute before.clock)) (concat before.door.traffic.rest) talk.reply
-  pub asked : IsTrue before.door.tells → AsksUnlessCut talk.is_cut (concat before.door.traffic.rest) talk.is_asked
-  pub needed : IsTrue before.door.tells → IsTrue before.door.keeps_pieces → IsReadAsNeeded before.door.traffic.rest talk.left
+  pub asked : IsTrue before.door.is_observable → AsksUnlessCut talk.is_cut (concat before.door.traffic.rest) talk.is_asked
+  pub needed : IsTrue before.door.is_observable → IsTrue before.door.keeps_pieces → IsReadAsNeeded before.door.traffic.rest talk.left
 
 -- the clock has failed for it: it has a byte, and nothing was sent
 pub record Stopped (before after : Exchange) : Type 0 where
   pub left : List (List ℕ)
   pub door : after.door ≡ read_to left false before.door
   pub clock : after.clock ≡ clock_after true before.clock
-  pub byte : IsTrue before.door.tells → ¬ (concat before.door.traffic.rest ≡ [])
-  pub needed : IsTrue before.door.tells → IsTrue before.door.keeps_pieces → IsReadAsNeeded before.door.traffic.rest left
+  pub byte : IsTrue before.door.is_observable → ¬ (concat before.door.traffic.rest ≡ [])
+  pub needed : IsTrue before.door.is_observable → IsTrue before.door.keeps_pieces → IsReadAsNeeded before.door.traffic.rest left
 
 abbrev pub WentBy : Bool → Stock → Exchange → Exchange → Type 0
 WentBy false stock before after = Went stock before after

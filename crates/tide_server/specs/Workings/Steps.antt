@@ -47,19 +47,19 @@ pub record ServedNext (stock : Stock) (before after : Exchange) : Type 0 where
   pub talk : Talk
   pub door : after.door ≡ door_with talk before.door
   pub clock : after.clock ≡ clock_with talk.is_asked before.clock
-  pub next : IsTrue before.door.tells → IsNext before.door
-  pub held : (door : IsTrue before.door.tells) → IsTrue before.clock.tells
+  pub next : IsTrue before.door.is_observable → IsNext before.door
+  pub held : (door : IsTrue before.door.is_observable) → IsTrue before.clock.is_observable
       → IsHeld stock (next_minute before.clock) (conversation (next door).request talk)
-  pub needed : (door : IsTrue before.door.tells) → IsTrue before.door.keeps_pieces → IsReadAsNeeded (next door).request talk.left
+  pub needed : (door : IsTrue before.door.is_observable) → IsTrue before.door.keeps_pieces → IsReadAsNeeded (next door).request talk.left
 
 -- it was taken, has a byte and got no reply, since the clock has failed
 pub record LeftNext (before after : Exchange) : Type 0 where
   pub left : List (List ℕ)
   pub door : after.door ≡ door_with record { left = left; reply = []; is_cut = false; is_asked = true } before.door
   pub clock : after.clock ≡ clock_after true before.clock
-  pub next : IsTrue before.door.tells → IsNext before.door
-  pub byte : (door : IsTrue before.door.tells) → ¬ (concat (next door).request ≡ [])
-  pub needed : (door : IsTrue before.door.tells) → IsTrue before.door.keeps_pieces → IsReadAsNeeded (next door).request left
+  pub next : IsTrue before.door.is_observable → IsNext before.door
+  pub byte : (door : IsTrue before.door.is_observable) → ¬ (concat (next door).request ≡ [])
+  pub needed : (door : IsTrue before.door.is_observable) → IsTrue before.door.keeps_pieces → IsReadAsNeeded (next door).request left
 
 abbrev pub door_at_end : DoorState → DoorState
 door_at_end d = record d { doorway = after_next (Ok false) d.doorway }
@@ -81,7 +81,7 @@ serving port taken = record { port = Some port; listens = true; taken = taken; i
 
 -- What serving leaves as it is: what door and clock tell of themselves, and but for these their counts of faults.
 pub record IsKept (door_failed clock_failed : Bool) (before after : Exchange) : Type 0 where
-  pub tells : after.door.tells ≡ before.door.tells
+  pub is_observable : after.door.is_observable ≡ before.door.is_observable
   pub pieces : after.door.keeps_pieces ≡ before.door.keeps_pieces
   pub faults : after.door.faults ≡ faults_after door_failed before.door.faults
   pub asked : ℕ

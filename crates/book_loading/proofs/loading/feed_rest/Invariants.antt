@@ -6,7 +6,7 @@ invariant-loop-count g l = record {
   within : l.fed ≤ l.limit;
   counted : l.fed ≡ length l.reader.bytes;
   store : (g.F.Files.state l.files).store ≡ (g.F.Files.state l.initial.files).store;
-  read : IsTrue (g.F.Files.state l.initial.files).store.tells
+  read : IsTrue (g.F.Files.state l.initial.files).store.is_observable
       → (g.F.Files.state l.initial.files).rest ≡ l.reader.bytes ++ (g.F.Files.state l.files).rest;
   opens : (g.F.Files.state l.files).reads.opens ≡ (g.F.Files.state l.initial.files).reads.opens;
   ends : (g.F.Files.state l.files).reads.ends ≡ (g.F.Files.state l.initial.files).reads.ends;

@@ -5,7 +5,7 @@ abbrev pub invariant-loop-bytes : goal.invariant-loop-bytes
 invariant-loop-bytes g l = record {
   within : vec_len l.bytes ≤ l.limit;
   store : (g.F.Files.state l.files).store ≡ (g.F.Files.state l.initial.files).store;
-  read : IsTrue (g.F.Files.state l.initial.files).store.tells
+  read : IsTrue (g.F.Files.state l.initial.files).store.is_observable
       → (g.F.Files.state l.initial.files).rest ≡ l.bytes.items ++ (g.F.Files.state l.files).rest;
   opens : (g.F.Files.state l.files).reads.opens ≡ (g.F.Files.state l.initial.files).reads.opens;
   ends : (g.F.Files.state l.files).reads.ends ≡ (g.F.Files.state l.initial.files).reads.ends;

@@ -9,7 +9,7 @@ invariant-loop-taken g l = record {
   doorway : (g.D.Door.state l.door).doorway ≡ serving l.stock.port l._taken;
   kept : IsKept false false (exchange (g.D.Door.state l.initial.door) (g.K.Clock.state l.initial.clock))
       (exchange (g.D.Door.state l.door) (g.K.Clock.state l.clock));
-  served : IsTrue (g.D.Door.state l.initial.door).tells → IsTrue (g.K.Clock.state l.initial.clock).tells
+  served : IsTrue (g.D.Door.state l.initial.door).is_observable → IsTrue (g.K.Clock.state l.initial.clock).is_observable
       → WereServed l.stock l._taken (exchange (g.D.Door.state l.initial.door) (g.K.Clock.state l.initial.clock))
       (exchange (g.D.Door.state l.door) (g.K.Clock.state l.clock));
   unasked : l._taken ≡ 0 → l.clock ≡ l.initial.clock;

@@ -1,0 +1,76 @@
+//! One connection, and what passed over it.
+
+ghost use Rattle.std.specs.Prelude.{◌≡◌, ◌≤◌, ◌==◌, length, Ok, Err};
+ghost use Rattle.tide_edge.specs.declared.failed.Failed.{Failed};
+
+use crate::byte_transcript::ByteTranscript;
+use crate::failed::Failed;
+use std::marker::Model;
+
+/// One connection: the bytes that came, and whether their end was found; the bytes that were accepted of its reply; and
+/// whether a read or a write of it has failed.
+#[derive(Debug, Drop)]
+pub(crate) struct OneConnection {
+    came: ByteTranscript,
+    is_ended: bool,
+    sent: ByteTranscript,
+    read_failed: bool,
+    write_failed: bool,
+}
+
+impl Model for OneConnection {
+    ghost use Rattle.tide_edge.specs.Doors.{Connection};
+
+    ghost Value = { Connection };
+
+    ghost view = { λ c. record {
+      came = c.came.bytes;
+      is_ended = c.is_ended;
+      sent = c.sent.bytes;
+      read_failed = c.read_failed;
+      write_failed = c.write_failed;
+    } };
+}
+
+impl OneConnection {
+    ghost use Rattle.std.specs.Prelude.{IfOk};
+    ghost use Rattle.tide_edge.specs.Doors.{connection_after_read, connection_after_write, just_taken};
+
+    /// Nothing has passed over it.
+    pub(crate) fn new() -> OneConnection
+        ensures { result ≡ just_taken }
+    {
+        OneConnection {
+            came: ByteTranscript::new(),
+            is_ended: false,
+            sent: ByteTranscript::new(),
+            read_failed: false,
+            write_failed: false,
+        }
+    }
+
+    /// A read put its bytes into the begin of `room`, or failed.
+    pub(crate) fn read(&mut self, room: &[u8], outcome: &Result<usize, Failed>)
+        requires { IfOk outcome.now (λ count. count ≤ length room.now) }
+        ensures { self.new ≡ connection_after_read outcome.now room.now self.old }
+    {
+        match outcome {
+            Ok(count) => {
+                self.came = self.came.then(&room[..*count]);
+                self.is_ended = *count == 0 || self.is_ended;
+            }
+            Err(_) => self.read_failed = true,
+        }
+    }
+
+    /// A write took the first bytes of `piece`, or failed.
+    pub(crate) fn write(&mut self, piece: &[u8], outcome: &Result<usize, Failed>)
+        requires { IfOk outcome.now (λ count. count ≤ length piece.now) }
+        ensures { self.new ≡ connection_after_write outcome.now piece.now self.old }
+    {
+        match outcome {
+            Ok(count) => self.sent = self.sent.then(&piece[..*count]),
+            Err(_) => self.write_failed = true,
+        }
+    }
+}

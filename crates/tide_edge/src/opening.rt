@@ -1,0 +1,54 @@
+//! One opening of a file, and what came of it.
+
+ghost use Rattle.std.specs.Prelude.{◌≡◌, ◌≤◌, ◌==◌, length};
+
+use crate::byte_transcript::ByteTranscript;
+use decimal_text::Text;
+use std::marker::Model;
+
+/// One call of `open`: the name, whether a file was opened, the bytes that came of it, and whether its end was found.
+#[derive(Debug, Drop)]
+pub(crate) struct OneOpening {
+    name: ByteTranscript,
+    is_open: bool,
+    bytes: ByteTranscript,
+    is_ended: bool,
+}
+
+impl Model for OneOpening {
+    ghost use Rattle.tide_edge.specs.FileStates.{Opening};
+
+    ghost Value = { Opening };
+
+    ghost view = { λ o. record {
+      name = o.name.bytes;
+      is_open = o.is_open;
+      bytes = o.bytes.bytes;
+      is_ended = o.is_ended;
+    } };
+}
+
+impl OneOpening {
+    ghost use Rattle.tide_edge.specs.FileStates.{just_opened, opening_after_read};
+
+    /// Of this file nothing was read yet.
+    pub(crate) fn new(name: &Text, is_open: bool) -> OneOpening
+        ensures { result ≡ just_opened is_open name.now }
+    {
+        OneOpening {
+            name: ByteTranscript::new().then(name.as_str().as_bytes()),
+            is_open,
+            bytes: ByteTranscript::new(),
+            is_ended: false,
+        }
+    }
+
+    /// The first `count` bytes of `room` came.
+    pub(crate) fn read(&mut self, room: &[u8], count: usize)
+        requires { count ≤ length room.now }
+        ensures { self.new ≡ opening_after_read count room.now self.old }
+    {
+        self.bytes = self.bytes.then(&room[..count]);
+        self.is_ended = count == 0 || self.is_ended;
+    }
+}

@@ -1,0 +1,57 @@
+//! All openings of files, and what came of each.
+
+ghost use Rattle.std.specs.Prelude.{◌≡◌, ◌≤◌, length};
+
+use crate::earlier_openings::EarlierOpenings;
+use crate::opening::OneOpening;
+use decimal_text::Text;
+use std::marker::Model;
+
+/// All openings of files, with what came of each. It keeps no byte, name or list: these are for contracts alone.
+#[derive(Debug, Drop)]
+pub(crate) struct Openings {
+    earlier: EarlierOpenings,
+    latest: Option<OneOpening>,
+}
+
+impl Model for Openings {
+    ghost use Rattle.tide_edge.specs.FileStates as spec;
+
+    ghost Value = { spec.Openings };
+
+    ghost view = { λ o. record { earlier = o.earlier.openings; latest = o.latest } };
+}
+
+impl Openings {
+    ghost use Rattle.tide_edge.specs.FileStates.{no_openings, openings_after_open, openings_after_read};
+
+    /// Before any call.
+    pub(crate) fn none() -> Openings
+        ensures { result ≡ no_openings }
+    {
+        Openings {
+            earlier: EarlierOpenings::new(),
+            latest: None,
+        }
+    }
+
+    /// After a call of `open`.
+    pub(crate) fn open(&mut self, name: &Text, is_open: bool)
+        ensures { self.new ≡ openings_after_open is_open name.now self.old }
+    {
+        if let Some(latest) = &self.latest {
+            self.earlier = self.earlier.then(latest);
+        }
+        self.latest = Some(OneOpening::new(name, is_open));
+    }
+
+    /// After a call of `read` that put `count` bytes into the begin of `room`.
+    pub(crate) fn read(&mut self, room: &[u8], count: usize)
+        requires { count ≤ length room.now }
+        ensures { self.new ≡ openings_after_read count room.now self.old }
+    {
+        if let Some(latest) = &mut self.latest {
+            latest.read(room, count);
+        }
+    }
+}

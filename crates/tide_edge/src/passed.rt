@@ -1,0 +1,68 @@
+//! All connections, and what passed over each.
+
+ghost use Rattle.std.specs.Prelude.{◌≡◌, ◌≤◌, length, IfOk, Ok, true};
+ghost use Rattle.tide_edge.specs.declared.failed.Failed.{Failed};
+
+use crate::connection::OneConnection;
+use crate::earlier_connections::EarlierConnections;
+use crate::failed::Failed;
+use std::marker::Model;
+
+/// All connections, with what passed over each. It keeps no byte and no list: these are for contracts alone.
+#[derive(Debug, Drop)]
+pub(crate) struct Connections {
+    earlier: EarlierConnections,
+    latest: Option<OneConnection>,
+}
+
+impl Model for Connections {
+    ghost use Rattle.tide_edge.specs.Doors as spec;
+
+    ghost Value = { spec.Connections };
+
+    ghost view = { λ c. record { earlier = c.earlier.connections; latest = c.latest } };
+}
+
+impl Connections {
+    ghost use Rattle.tide_edge.specs.Doors.{no_connections, connections_after_next, connection_after_read, connection_after_write, change_latest};
+
+    /// Before any call.
+    pub(crate) fn none() -> Connections
+        ensures { result ≡ no_connections }
+    {
+        Connections {
+            earlier: EarlierConnections::new(),
+            latest: None,
+        }
+    }
+
+    /// Another connection was taken.
+    pub(crate) fn open(&mut self)
+        ensures { self.new ≡ connections_after_next (Ok true) self.old }
+    {
+        if let Some(latest) = &self.latest {
+            self.earlier = self.earlier.then(latest);
+        }
+        self.latest = Some(OneConnection::new());
+    }
+
+    /// After a call of `read` with `room`.
+    pub(crate) fn read(&mut self, room: &[u8], outcome: &Result<usize, Failed>)
+        requires { IfOk outcome.now (λ count. count ≤ length room.now) }
+        ensures { self.new ≡ change_latest (connection_after_read outcome.now room.now) self.old }
+    {
+        if let Some(latest) = &mut self.latest {
+            latest.read(room, outcome);
+        }
+    }
+
+    /// After a call of `write` with `piece`.
+    pub(crate) fn write(&mut self, piece: &[u8], outcome: &Result<usize, Failed>)
+        requires { IfOk outcome.now (λ count. count ≤ length piece.now) }
+        ensures { self.new ≡ change_latest (connection_after_write outcome.now piece.now) self.old }
+    {
+        if let Some(latest) = &mut self.latest {
+            latest.write(piece, outcome);
+        }
+    }
+}
