@@ -26,38 +26,16 @@ excuses_reading limit firm file reading.Failed excused = λ s. rw (excused s) re
 excuses_reading limit firm file reading.TooLong excused = rw excused refl
 excuses_reading limit firm file reading.NoMemory excused = tt
 
-long_file : (limit : ℕ) → (file : Option (List ℕ)) × (whole limit file ≡ Err reading.TooLong)
-long_file limit =
-    let bytes : List ℕ = replicate (suc limit) 0 in
-    (Some bytes, rw (lt-leb (length bytes) limit (omega (arith, length-replicate {A = ℕ} (suc limit) 0))) refl)
-
-pub some_reading : (limit : ℕ) (fault : ReadAllFault) → (file : Option (List ℕ)) × Excused (wants_memory (fault_of_reading fault)) (loaded limit file) (fault_of_reading fault)
-unfolding loaded
-some_reading limit reading.Failed = (None, refl)
-some_reading limit reading.TooLong = let long = long_file limit in (long.0, rw long.1 refl)
-some_reading limit reading.NoMemory = (None, tt)
-
 -- where the form has one
 pub excuses_form : (limit : ℕ) (firm : Type 0) (file : Option (List ℕ)) (bytes : List ℕ) (fault : BookFault) → whole limit file ≡ Ok bytes → FailsBook fault (book_of bytes) → Excuses (source_of (Book fault)) firm (loaded limit file) (Book fault)
 unfolding loaded
 excuses_form limit firm file bytes form.NoMemory read fails = tt
 excuses_form limit firm file bytes (form.At line why) read fails = rw (read, fails) refl
 
-whole_within : (limit : ℕ) (bytes : List ℕ) → length bytes ≤ limit → whole limit (Some bytes) ≡ Ok bytes
-whole_within limit bytes within = rw (le-leb (length bytes) limit within) refl
-
-pub some_form : (limit : ℕ) (bytes : List ℕ) (fault : BookFault) → length bytes ≤ limit → FailsBook fault (book_of bytes) → Excused (wants_memory (Book fault)) (loaded limit (Some bytes)) (Book fault)
-unfolding loaded
-some_form limit bytes form.NoMemory within fails = tt
-some_form limit bytes (form.At line why) within fails = rw (whole_within limit bytes within, fails) refl
-
 -- where neither has
 pub loaded_whole : (limit : ℕ) (file : Option (List ℕ)) (bytes : List ℕ) (book : TheBook) → whole limit file ≡ Ok bytes → book_of bytes ≡ Ok book → loaded limit file ≡ Ok book
 unfolding loaded
 loaded_whole limit file bytes book read gives = rw (read, gives) refl
-
-pub loaded_within : (limit : ℕ) (bytes : List ℕ) (book : TheBook) → length bytes ≤ limit → book_of bytes ≡ Ok book → loaded limit (Some bytes) ≡ Ok book
-loaded_within limit bytes book within = loaded_whole limit (Some bytes) bytes book (whole_within limit bytes within)
 
 -- where no file was opened
 pub unopened : (limit : ℕ) (firm : Type 0) (file : Option (List ℕ)) → (firm → file ≡ None) → firm → loaded limit file ≡ Err Failed

@@ -1,13 +1,12 @@
 //! Loading a book from a file, in pieces.
 
-ghost use Rattle.std.specs.Prelude.{◌≡◌, ◌≤◌, ℕ, IsTrue, List, [], length, Option, Some, IfOk, OnOk};
-ghost use Rattle.decimal_text.specs.Expected.{Gives};
+ghost use Rattle.std.specs.Prelude.{◌≡◌, ◌≤◌, IsTrue, [], length, Some, IfOk, OnOk};
 ghost use Rattle.harmonics_text.specs.Books.{IsBook};
-ghost use Rattle.book_loading.specs.Loading.{loaded, source_of, wants_memory};
+ghost use Rattle.book_loading.specs.Loading.{loaded, source_of};
 ghost use Rattle.book_loading.specs.Workings.Feeding.{bytes_fed};
 ghost use Rattle.decimal_text.specs.Expected.{Meets, is_outside_fault};
-ghost use Rattle.tide_edge.specs.Whole.{ReadWithin, one_file, whole, source_of as source_of_reading};
-ghost use Rattle.tide_edge.specs.Workings.Reading.{IsReadOn};
+ghost use Rattle.tide_edge.specs.Whole.{OpenedOnce, ReadWithin, one_file, whole, source_of as source_of_reading};
+ghost use Rattle.tide_edge.specs.Workings.Reading.{HasCome, IsFresh, IsReadOn};
 ghost use Rattle.decimal_text.specs.declared.limits.TheConstants.{MOST_BYTES};
 
 use decimal_text::Text;
@@ -46,7 +45,7 @@ pub fn load_book<F: Files>(
     requires { limit ≤ MOST_BYTES }
     ensures own { IsTrue (F.state files.old).store.is_observable
         → Meets source_of (IsTrue (F.state files.old).store.is_steady) (loaded limit ((F.state files.old).store.folder name.now)) result }
-    ensures some { (file : Option (List ℕ)) × Gives wants_memory (loaded limit file) result }
+    ensures came { OpenedOnce source_of (loaded limit) limit name.now (F.state files.old).openings (F.state files.new).openings result }
     ensures sound { IfOk result IsBook }
     ensures read { ReadWithin (one_file limit) (is_outside_fault source_of result) (F.state files.old) (F.state files.new) }
 {
@@ -65,10 +64,11 @@ fn load_rest<F: Files>(
     limit: u64,
 ) -> Result<Book, LoadFault>
     requires room { length room.old ≡ PIECE }
+    requires fresh { IsFresh (F.state files.old).openings }
     requires most { limit ≤ MOST_BYTES }
     ensures own { IsTrue (F.state files.old).store.is_observable
         → Meets source_of (IsTrue (F.state files.old).store.is_steady) (loaded limit (Some (F.state files.old).rest)) result }
-    ensures some { (file : Option (List ℕ)) × Gives wants_memory (loaded limit file) result }
+    ensures came { HasCome source_of (loaded limit) limit (F.state files.old).openings (F.state files.new).openings result }
     ensures sound { IfOk result IsBook }
     ensures read { IsReadOn limit (is_outside_fault source_of result) (F.state files.old) (F.state files.new) }
 {
@@ -89,10 +89,12 @@ fn feed_rest<F: Files>(
     limit: u64,
 ) -> Result<(), ReadAllFault>
     requires room { length room.old ≡ PIECE }
+    requires fresh { IsFresh (F.state files.old).openings }
     requires unfed { reader.old.bytes ≡ [] }
     requires most { limit ≤ MOST_BYTES }
     ensures whole { IsTrue (F.state files.old).store.is_observable
         → Meets source_of_reading (IsTrue (F.state files.old).store.is_steady) (whole limit (Some (F.state files.old).rest)) (bytes_fed reader.new result) }
+    ensures came { HasCome source_of_reading (whole limit) limit (F.state files.old).openings (F.state files.new).openings (bytes_fed reader.new result) }
     ensures within { OnOk result (length reader.new.bytes ≤ limit) }
     ensures read { IsReadOn limit (is_outside_fault source_of_reading result) (F.state files.old) (F.state files.new) }
 {

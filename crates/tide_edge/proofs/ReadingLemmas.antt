@@ -1,13 +1,17 @@
 -- What opening a file and reading it on come to.
-use Rattle.std.proofs.Common.{◌≡◌, ℕ, ◌+◌, ◌-◌, ◌^◌, ◌≤◌, Bool, false, true, if◌then◌else◌, IsTrue, List, [], Option, Some, None, IsSome, Result, Ok, Err, unwrap_or, arith, refl, ap, ◌∙◌}
-use Rattle.std.specs.Prelude.{◌==◌}
+use Rattle.std.proofs.Common.{◌≡◌, ℕ, ◌+◌, ◌-◌, ◌^◌, ◌≤◌, ◌<◌, suc, length, take, ◌++◌, Bool, false, true, if◌then◌else◌, IsTrue, List, [], Option, Some, None, IsSome, Result, Ok, Err, unwrap_or, IsErrAnd, inl, inr, arith, refl, sym, ap, ◌∙◌}
+use Rattle.std.specs.Prelude.{◌==◌, ◌||◌}
+use Rattle.std.specs.Option.{option_map_or}
+use Rattle.std.proofs.lemmas.List.{length-append, length-take-le}
+use Rattle.std.proofs.lemmas.Bool.{lt-leb, le-leb}
 use Rattle.tide_edge.specs.declared.failed.Failed.{Failed}
 use Rattle.tide_edge.specs.declared.read_all_fault.ReadAllFault.{ReadAllFault}
-use Rattle.decimal_text.specs.Expected.{Meets}
+use Rattle.tide_edge.specs.declared.read_all_fault.ReadAllFault.TheVariants.{TooLong, NoMemory}
+use Rattle.decimal_text.specs.Expected.{Source, Meets, memory}
 use Rattle.tide_edge.specs.Faults.{counted, faults_after}
-use Rattle.tide_edge.specs.FileStates.{FilesState, files_after_open}
-use Rattle.tide_edge.specs.Whole.{Allowance, ReadWithin, both, one_file, source_of, whole}
-use Rattle.tide_edge.specs.Workings.Reading.{IsReadOn}
+use Rattle.tide_edge.specs.FileStates.{FilesState, Opening, Openings, files_after_open, just_opened, openings_after_open, openings_after_read}
+use Rattle.tide_edge.specs.Whole.{Allowance, OpenedOnce, ReadWithin, as_came, both, one_file, source_of, whole}
+use Rattle.tide_edge.specs.Workings.Reading.{HasCome, IsReadOn}
 
 counted_most_by : (last : Bool) (count : ℕ) → (count == 2 ^ 64 - 1) ≡ last → counted count ≤ count + 1
 counted_most_by true count is = rw is (omega arith)
@@ -82,3 +86,66 @@ read_more a b failed before after read = record {
   bytes = omega (arith, read.bytes);
   faults = read.faults;
 }
+
+-- more than the limit came of a file that was opened
+pub too_long_came : (limit : ℕ) (name bytes : List ℕ) (is_ended : Bool) → limit < length bytes
+    → whole limit (as_came limit (record { name = name; is_open = true; bytes = bytes; is_ended = is_ended })) ≡ Err TooLong
+too_long_came limit name bytes true over = rw (lt-leb (length bytes) limit over) refl
+too_long_came limit name bytes false over = rw (le-leb (suc limit) (length bytes) over) (rw (lt-leb (length bytes) limit over) refl)
+
+-- a piece past the limit
+pub too_long_on : (limit count : ℕ) (room name bytes : List ℕ) (is_ended : Bool) → count ≤ length room → length bytes ≤ limit
+    → limit - length bytes < count
+    → whole limit (as_came limit (record { name = name; is_open = true; bytes = bytes ++ take count room; is_ended = is_ended })) ≡ Err TooLong
+too_long_on limit count room name bytes is_ended within most over =
+    too_long_came limit name (bytes ++ take count room) is_ended
+    (rw (length-append bytes (take count room), length-take-le count room within) (omega (arith, most, over)))
+
+-- one more reading of the latest opening
+pub came_on : {T E : Type 0} (source : E → Source) (expected : Option (List ℕ) → Result T E) (limit count : ℕ) (room name bytes : List ℕ)
+    (initial now after : Openings) (result : Result T E) → initial.latest ≡ Some (just_opened true name)
+    → now ≡ record initial { latest = Some (record { name = name; is_open = true; bytes = bytes; is_ended = false }) }
+    → after ≡ openings_after_read count room now
+    → Meets source (Unit {0}) (expected (as_came limit (record { name = name; is_open = true; bytes = bytes ++ take count room; is_ended = (count == 0) || false }))) result
+    → HasCome source expected limit initial after result
+came_on source expected limit count room name bytes initial now after result fresh so_far next meets =
+    (name, bytes ++ take count room, (count == 0) || false, fresh, next ∙ ap (openings_after_read count room) so_far, meets)
+
+-- out of memory says nothing of the file
+pub memory_met : (expected : Result (List ℕ) ReadAllFault) (result : Result (List ℕ) ReadAllFault)
+    → IsErrAnd result (λ fault. fault ≡ NoMemory) → Meets source_of (Unit {0}) expected result
+memory_met expected (Err fault) is = rw is tt
+memory_met expected (Ok bytes) is = absurd is
+
+-- a file was opened, and then read on
+pub opened_once : {T E : Type 0} (source : E → Source) (expected : Option (List ℕ) → Result T E) (limit : ℕ) (name : List ℕ)
+    (before between after : Openings) (result : Result T E) → between ≡ openings_after_open true name before
+    → HasCome source expected limit between after result → OpenedOnce source expected limit name before after result
+opened_once source expected limit name before between after result opened (other, bytes, is_ended, fresh, come, meets) =
+    let opening : Opening = record { name = other; is_open = true; bytes = bytes; is_ended = is_ended } in
+    let next : Openings → Openings = λ o. record o { latest = Some opening } in
+    let name_of : Openings → List ℕ = λ o. option_map_or (λ it. it.name) o.latest [] in
+    let named : other ≡ name = ap (λ latest. option_map_or (λ it. it.name) latest []) (sym fresh) ∙ ap name_of opened in
+    inr (opening, named, come ∙ ap next opened, meets)
+
+-- a file couldn't be opened
+pub unopened_once : {T E : Type 0} (source : E → Source) (expected : Option (List ℕ) → Result T E) (limit : ℕ) (name : List ℕ)
+    (before after : Openings) (result : Result T E) → after ≡ openings_after_open false name before
+    → Meets source (Unit {0}) (expected None) result → OpenedOnce source expected limit name before after result
+unopened_once source expected limit name before after result opened meets = inr (just_opened false name, refl, opened, meets)
+
+-- out of memory before a file was opened
+pub unasked_once : {T E : Type 0} (source : E → Source) (expected : Option (List ℕ) → Result T E) (limit : ℕ) (name : List ℕ)
+    (before : Openings) (fault : E) (result : Result T E) → IsErrAnd result (λ it. it ≡ fault) → source fault ≡ memory
+    → OpenedOnce source expected limit name before before result
+unasked_once source expected limit name before fault (Err it) is of_memory = inl (refl, rw is of_memory)
+unasked_once source expected limit name before fault (Ok value) is of_memory = absurd is
+
+-- what is expected of the file as it came says what else is expected of it
+pub come_as : {T E S F : Type 0} (source : E → Source) (expected : Option (List ℕ) → Result T E) (also : F → Source)
+    (expected_also : Option (List ℕ) → Result S F) (limit : ℕ) (before after : Openings) (result : Result T E) (other : Result S F)
+    → ((file : Option (List ℕ)) → Meets source (Unit {0}) (expected file) result → Meets also (Unit {0}) (expected_also file) other)
+    → HasCome source expected limit before after result → HasCome also expected_also limit before after other
+come_as source expected also expected_also limit before after result other says (name, bytes, is_ended, fresh, come, meets) =
+    (name, bytes, is_ended, fresh, come,
+      says (as_came limit (record { name = name; is_open = true; bytes = bytes; is_ended = is_ended })) meets)

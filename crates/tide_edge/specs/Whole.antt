@@ -1,8 +1,8 @@
 -- What reading a file to its end is to give, and what it takes of the files (this project).
-use Rattle.std.specs.Prelude.{◌≡◌, ◌≤◌, ◌+◌, ℕ, Bool, nat_le, if◌then◌else◌, List, length, Option, Some, None, Result, Ok, Err}
-use Rattle.decimal_text.specs.Expected.{Source, memory, outside, given}
+use Rattle.std.specs.Prelude.{◌≡◌, ◌⊎◌, ◌≤◌, ◌+◌, ℕ, Bool, true, false, nat_le, nat_lt, ◌&&◌, ◌||◌, if◌then◌else◌, List, length, Option, Some, None, Result, Ok, Err}
+use Rattle.decimal_text.specs.Expected.{Source, Meets, memory, outside, given}
 use Rattle.tide_edge.specs.Faults.{faults_after}
-use Rattle.tide_edge.specs.FileStates.{FilesState}
+use Rattle.tide_edge.specs.FileStates.{FilesState, Opening, Openings, openings_of}
 use Rattle.tide_edge.specs.declared.read_all_fault.ReadAllFault.{ReadAllFault}
 use Rattle.tide_edge.specs.declared.read_all_fault.ReadAllFault.TheVariants.{Failed, TooLong, NoMemory}
 use Rattle.tide_edge.specs.declared.piece.TheConstants.{PIECE}
@@ -11,6 +11,12 @@ use Rattle.tide_edge.specs.declared.piece.TheConstants.{PIECE}
 abbrev pub whole : ℕ → Option (List ℕ) → Result (List ℕ) ReadAllFault
 whole limit None = Err Failed
 whole limit (Some bytes) = (if nat_le (length bytes) limit then Ok bytes else Err TooLong)
+
+-- The file, as far as an opening shows it: the bytes that came, if their end was found, or more than `limit` came. Otherwise it
+-- couldn't be opened or read, which is as if there were none.
+abbrev pub as_came : ℕ → Opening → Option (List ℕ)
+as_came limit opening =
+    if opening.is_open && (opening.is_ended || nat_lt limit (length opening.bytes)) then Some opening.bytes else None
 
 -- where each fault comes from
 abbrev pub source_of : ReadAllFault → Source
@@ -42,3 +48,16 @@ pub record ReadWithin (allowed : Allowance) (failed : Bool) (before after : File
   pub ends : after.reads.ends ≤ before.reads.ends + allowed.files
   pub bytes : after.reads.bytes ≤ before.reads.bytes + allowed.bytes
   pub faults : after.faults ≡ faults_after failed before.faults
+
+-- a result is out of memory
+abbrev pub IsOutOfMemory : {T E : Type 0} → (E → Source) → Result T E → Type 0
+IsOutOfMemory source (Ok value) = ⊥
+IsOutOfMemory source (Err fault) = source fault ≡ memory
+
+-- One file of that name was opened, and the answer is what is expected of it as it came; or it was out of memory before that.
+abbrev pub OpenedOnce : {T E : Type 0} → (E → Source) → (Option (List ℕ) → Result T E) → ℕ → List ℕ → Openings → Openings → Result T E
+    → Type 0
+OpenedOnce source expected limit name before after result =
+    ((after ≡ before) × IsOutOfMemory source result)
+    ⊎ ((opening : Opening) × (opening.name ≡ name) × (after ≡ record { earlier = openings_of before; latest = Some opening })
+        × Meets source (Unit {0}) (expected (as_came limit opening)) result)

@@ -2,8 +2,8 @@
 
 ghost use Rattle.std.specs.Prelude.{◌≡◌, ◌≤◌, IsTrue, length, Some, IfOk};
 ghost use Rattle.decimal_text.specs.Expected.{Meets, is_outside_fault};
-ghost use Rattle.tide_edge.specs.Whole.{ReadWithin, one_file, source_of, whole};
-ghost use Rattle.tide_edge.specs.Workings.Reading.{IsReadOn};
+ghost use Rattle.tide_edge.specs.Whole.{OpenedOnce, ReadWithin, one_file, source_of, whole};
+ghost use Rattle.tide_edge.specs.Workings.Reading.{HasCome, IsFresh, IsReadOn};
 
 use crate::files::Files;
 use crate::piece::PIECE;
@@ -26,6 +26,7 @@ pub fn read_all<F: Files>(
 ) -> Result<Bytes, ReadAllFault>
     ensures whole { IsTrue (F.state files.old).store.is_observable
         → Meets source_of (IsTrue (F.state files.old).store.is_steady) (whole limit ((F.state files.old).store.folder name.now)) result }
+    ensures came { OpenedOnce source_of (whole limit) limit name.now (F.state files.old).openings (F.state files.new).openings result }
     ensures within { IfOk result (λ bytes. length bytes ≤ limit) }
     ensures read { ReadWithin (one_file limit) (is_outside_fault source_of result) (F.state files.old) (F.state files.new) }
 {
@@ -43,9 +44,11 @@ fn read_rest<F: Files>(
     room: &mut [u8],
     limit: u64,
 ) -> Result<Bytes, ReadAllFault>
-    requires { length room.old ≡ PIECE }
+    requires room { length room.old ≡ PIECE }
+    requires fresh { IsFresh (F.state files.old).openings }
     ensures whole { IsTrue (F.state files.old).store.is_observable
         → Meets source_of (IsTrue (F.state files.old).store.is_steady) (whole limit (Some (F.state files.old).rest)) result }
+    ensures came { HasCome source_of (whole limit) limit (F.state files.old).openings (F.state files.new).openings result }
     ensures within { IfOk result (λ bytes. length bytes ≤ limit) }
     ensures read { IsReadOn limit (is_outside_fault source_of result) (F.state files.old) (F.state files.new) }
 {

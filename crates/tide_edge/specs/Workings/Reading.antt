@@ -1,7 +1,9 @@
 -- Reading the open file on (this project).
-use Rattle.std.specs.Prelude.{◌≡◌, ◌≤◌, ◌+◌, ℕ, Bool}
+use Rattle.std.specs.Prelude.{◌≡◌, ◌≤◌, ◌+◌, ℕ, Bool, true, false, List, [], Option, Some, Result}
+use Rattle.decimal_text.specs.Expected.{Source, Meets}
 use Rattle.tide_edge.specs.Faults.{faults_after}
-use Rattle.tide_edge.specs.FileStates.{FilesState}
+use Rattle.tide_edge.specs.FileStates.{FilesState, Opening, Openings, just_opened}
+use Rattle.tide_edge.specs.Whole.{as_came}
 use Rattle.tide_edge.specs.declared.piece.TheConstants.{PIECE}
 
 -- the open file was read on, by a piece past the limit at most, and its end was found once at most; no other was opened
@@ -11,3 +13,15 @@ pub record IsReadOn (limit : ℕ) (failed : Bool) (before after : FilesState) : 
   pub ends : after.reads.ends ≤ before.reads.ends + 1
   pub bytes : after.reads.bytes ≤ before.reads.bytes + (limit + PIECE)
   pub faults : after.faults ≡ faults_after failed before.faults
+
+-- a file was just opened
+abbrev pub IsFresh : Openings → Type 0
+IsFresh o = (name : List ℕ) × (o.latest ≡ Some (just_opened true name))
+
+-- the latest opening was read on, and the answer is what is expected of it as it came
+abbrev pub HasCome : {T E : Type 0} → (E → Source) → (Option (List ℕ) → Result T E) → ℕ → Openings → Openings → Result T E → Type 0
+HasCome source expected limit before after result =
+    (name bytes : List ℕ) × (is_ended : Bool)
+    × (before.latest ≡ Some (just_opened true name))
+    × (after ≡ record before { latest = Some (record { name = name; is_open = true; bytes = bytes; is_ended = is_ended }) })
+    × Meets source (Unit {0}) (expected (as_came limit (record { name = name; is_open = true; bytes = bytes; is_ended = is_ended }))) result

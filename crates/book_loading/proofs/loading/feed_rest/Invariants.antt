@@ -1,4 +1,5 @@
-use Rattle.std.proofs.Common.{◌≡◌, ◌≤◌, ◌+◌, ◌-◌, ◌++◌, IsTrue, length}
+use Rattle.std.proofs.Common.{◌≡◌, ◌≤◌, ◌+◌, ◌-◌, ◌++◌, ℕ, List, Some, true, false, IsTrue, length}
+use Rattle.tide_edge.specs.FileStates.{just_opened}
 use Rattle.book_loading.proofs.loading.feed_rest.Given as goal
 
 abbrev pub invariant-loop-count : goal.invariant-loop-count
@@ -8,6 +9,9 @@ invariant-loop-count g l = record {
   store : (g.F.Files.state l.files).store ≡ (g.F.Files.state l.initial.files).store;
   read : IsTrue (g.F.Files.state l.initial.files).store.is_observable
       → (g.F.Files.state l.initial.files).rest ≡ l.reader.bytes ++ (g.F.Files.state l.files).rest;
+  openings : (name : List ℕ) × ((g.F.Files.state l.initial.files).openings.latest ≡ Some (just_opened true name))
+      × ((g.F.Files.state l.files).openings ≡ record (g.F.Files.state l.initial.files).openings {
+          latest = Some (record { name = name; is_open = true; bytes = l.reader.bytes; is_ended = false }) });
   opens : (g.F.Files.state l.files).reads.opens ≡ (g.F.Files.state l.initial.files).reads.opens;
   ends : (g.F.Files.state l.files).reads.ends ≡ (g.F.Files.state l.initial.files).reads.ends;
   bytes : (g.F.Files.state l.files).reads.bytes ≤ (g.F.Files.state l.initial.files).reads.bytes + l.fed;

@@ -1,7 +1,8 @@
-use Rattle.book_loading.proofs.LoadingLemmas.{unopened, some_reading, loaded_opened}
-use Rattle.book_loading.specs.Loading.{source_of}
-use Rattle.tide_edge.proofs.ReadingLemmas.{read_on_within, unopened_within}
-use Rattle.tide_edge.specs.declared.read_all_fault.ReadAllFault.TheVariants as reading
+use Rattle.book_loading.proofs.LoadingLemmas.{unopened, loaded_opened}
+use Rattle.std.proofs.Common.{None, Err, ap, refl}
+use Rattle.book_loading.specs.Loading.{loaded, source_of}
+use Rattle.book_loading.specs.declared.loading.LoadFault.TheVariants.{Failed}
+use Rattle.tide_edge.proofs.ReadingLemmas.{opened_once, read_on_within, unopened_once, unopened_within}
 use Rattle.decimal_text.specs.Expected.{is_outside_fault}
 use Rattle.book_loading.proofs.loading.load_book.Goals as goal
 
@@ -31,8 +32,35 @@ pub returns-clause-own : goal.returns-clause-own
 returns-clause-own g c =
     λ t. unopened c.args.limit _ ((g.F.Files.state c.args.files.now).store.folder c.args.name.now) (c.in-Err.ensures.absent t)
 
-pub returns-clause-some : goal.returns-clause-some
-returns-clause-some g c = some_reading c.args.limit reading.Failed
+pub load_rest-requires-clause-fresh : goal.load_rest-requires-clause-fresh
+load_rest-requires-clause-fresh g c = (c.args.name.now, ap (λ s. s.openings.latest) c.in-Ok.ensures.after)
+
+pub returns-in-Ok-clause-came : goal.returns-in-Ok-clause-came
+returns-in-Ok-clause-came g c =
+    opened_once
+    source_of
+    (loaded c.args.limit)
+    c.args.limit
+    c.args.name.now
+    (g.F.Files.state c.args.files.now).openings
+    _
+    (g.F.Files.state c.load_rest.new.files).openings
+    c.load_rest.result
+    (ap (λ s. s.openings) c.in-Ok.ensures.after)
+    c.load_rest.ensures.came
+
+pub returns-clause-came : goal.returns-clause-came
+returns-clause-came g c =
+    unopened_once
+    source_of
+    (loaded c.args.limit)
+    c.args.limit
+    c.args.name.now
+    (g.F.Files.state c.args.files.now).openings
+    _
+    (Err Failed)
+    (ap (λ s. s.openings) c.in-Err.ensures.after)
+    (unopened c.args.limit (Unit {0}) None (λ firm. refl))
 
 pub returns-clause-read : goal.returns-clause-read
 returns-clause-read g c =

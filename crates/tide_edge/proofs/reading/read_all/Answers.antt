@@ -1,7 +1,8 @@
-use Rattle.std.proofs.Common.{refl}
+use Rattle.std.proofs.Common.{refl, ap, Err}
+use Rattle.tide_edge.specs.declared.read_all_fault.ReadAllFault.TheVariants.{Failed}
 use Rattle.decimal_text.specs.Expected.{is_outside_fault}
-use Rattle.tide_edge.specs.Whole.{source_of}
-use Rattle.tide_edge.proofs.ReadingLemmas.{read_on_whole, read_on_within, unopened_within}
+use Rattle.tide_edge.specs.Whole.{source_of, whole}
+use Rattle.tide_edge.proofs.ReadingLemmas.{opened_once, read_on_whole, read_on_within, unopened_once, unopened_within}
 use Rattle.tide_edge.proofs.reading.read_all.Goals as goal
 
 pub returns-in-Ok-clause-whole : goal.returns-in-Ok-clause-whole
@@ -33,3 +34,33 @@ pub returns-clause-read : goal.returns-clause-read
 returns-clause-read g c =
     rw c.in-Err.ensures.after
     (unopened_within (Unit {0}) c.in-Err.field-0 c.args.limit c.args.name.now (g.F.Files.state c.args.files.now))
+
+pub read_rest-requires-clause-fresh : goal.read_rest-requires-clause-fresh
+read_rest-requires-clause-fresh g c = (c.args.name.now, ap (λ s. s.openings.latest) c.in-Ok.ensures.after)
+
+pub returns-in-Ok-clause-came : goal.returns-in-Ok-clause-came
+returns-in-Ok-clause-came g c =
+    opened_once
+    source_of
+    (whole c.args.limit)
+    c.args.limit
+    c.args.name.now
+    (g.F.Files.state c.args.files.now).openings
+    _
+    (g.F.Files.state c.read_rest.new.files).openings
+    c.read_rest.result
+    (ap (λ s. s.openings) c.in-Ok.ensures.after)
+    c.read_rest.ensures.came
+
+pub returns-clause-came : goal.returns-clause-came
+returns-clause-came g c =
+    unopened_once
+    source_of
+    (whole c.args.limit)
+    c.args.limit
+    c.args.name.now
+    (g.F.Files.state c.args.files.now).openings
+    _
+    (Err Failed)
+    (ap (λ s. s.openings) c.in-Err.ensures.after)
+    (λ firm. refl)
