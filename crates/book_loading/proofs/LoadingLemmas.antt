@@ -1,15 +1,12 @@
 -- What loading gives, from what its reading and its form give.
-use Rattle.std.proofs.Common.{◌≡◌, ℕ, suc, ◌≤◌, List, length, Option, Some, None, IsSome, Result, Ok, Err, refl, arith}
+use Rattle.std.proofs.Common.{◌≡◌, ℕ, List, Option, IsErrAnd, Some, None, IsSome, Result, Ok, Err, refl}
 use Rattle.std.specs.Bool.{IsTrue}
 use Rattle.tide_edge.proofs.ReadingLemmas.{begun_whole}
 use Rattle.tide_edge.specs.FileStates.{FilesState, files_after_open}
-use Rattle.std.specs.Prelude.{replicate}
-use Rattle.std.proofs.lemmas.Bool.{le-leb, lt-leb}
-use Rattle.std.proofs.lemmas.List.{length-replicate}
-use Rattle.decimal_text.specs.Expected.{Excused}
 use Rattle.harmonics_text.specs.declared.book.Book.{Book as TheBook}
 use Rattle.harmonics_text.specs.declared.fault.BookFault.{BookFault}
 use Rattle.harmonics_text.specs.declared.fault.BookFault.TheVariants as form
+use Rattle.harmonics_text.specs.Pieces.{Fed}
 use Rattle.harmonics_text.specs.Reading.{FailsBook, book_of}
 use Rattle.tide_edge.specs.declared.read_all_fault.ReadAllFault.{ReadAllFault}
 use Rattle.tide_edge.specs.declared.read_all_fault.ReadAllFault.TheVariants as reading
@@ -17,7 +14,8 @@ use Rattle.decimal_text.specs.Expected.{Excuses, Meets}
 use Rattle.tide_edge.specs.Whole.{whole, source_of as source_of_reading}
 use Rattle.book_loading.specs.declared.loading.LoadFault.{LoadFault}
 use Rattle.book_loading.specs.declared.loading.LoadFault.TheVariants.{Failed, Book}
-use Rattle.book_loading.specs.Loading.{loaded, fault_of_reading, source_of, wants_memory}
+use Rattle.book_loading.specs.Loading.{loaded, fault_of_reading, source_of}
+use Rattle.book_loading.specs.Workings.Feeding.{bytes_fed}
 
 -- where reading has a fault
 pub excuses_reading : (limit : ℕ) (firm : Type 0) (file : Option (List ℕ)) (fault : ReadAllFault) → Excuses (source_of_reading fault) firm (whole limit file) fault → Excuses (source_of (fault_of_reading fault)) firm (loaded limit file) (fault_of_reading fault)
@@ -25,6 +23,12 @@ unfolding loaded
 excuses_reading limit firm file reading.Failed excused = λ s. rw (excused s) refl
 excuses_reading limit firm file reading.TooLong excused = rw excused refl
 excuses_reading limit firm file reading.NoMemory excused = tt
+
+-- a read failed
+pub failed_meets : (limit : ℕ) (reader : Fed) (file : Option (List ℕ)) (result : Result (Unit {0}) ReadAllFault) → file ≡ None
+    → IsErrAnd result (λ it. it ≡ reading.Failed) → Meets source_of_reading (Unit {0}) (whole limit file) (bytes_fed reader result)
+failed_meets limit reader file (Err it) none is = rw (is, none) (λ firm. refl)
+failed_meets limit reader file (Ok done) none is = absurd is
 
 -- where the form has one
 pub excuses_form : (limit : ℕ) (firm : Type 0) (file : Option (List ℕ)) (bytes : List ℕ) (fault : BookFault) → whole limit file ≡ Ok bytes → FailsBook fault (book_of bytes) → Excuses (source_of (Book fault)) firm (loaded limit file) (Book fault)

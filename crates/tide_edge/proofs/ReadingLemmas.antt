@@ -1,5 +1,5 @@
 -- What opening a file and reading it on come to.
-use Rattle.std.proofs.Common.{◌≡◌, ℕ, ◌+◌, ◌-◌, ◌^◌, ◌≤◌, ◌<◌, suc, length, take, ◌++◌, Bool, false, true, if◌then◌else◌, IsTrue, List, [], Option, Some, None, IsSome, Result, Ok, Err, unwrap_or, IsErrAnd, inl, inr, arith, refl, sym, ap, ◌∙◌}
+use Rattle.std.proofs.Common.{◌≡◌, ℕ, ◌+◌, ◌-◌, ◌^◌, ◌≤◌, ◌<◌, suc, length, take, ◌++◌, Bool, false, true, if◌then◌else◌, IsTrue, List, [], Option, Some, None, IsSome, Result, Ok, Err, unwrap_or, IsErrAnd, inl, inr, append-nil, arith, refl, sym, ap, ◌∙◌}
 use Rattle.std.specs.Prelude.{◌==◌, ◌||◌}
 use Rattle.std.specs.Option.{option_map_or}
 use Rattle.std.proofs.lemmas.List.{length-append, length-take-le}
@@ -11,7 +11,7 @@ use Rattle.decimal_text.specs.Expected.{Source, Meets, memory}
 use Rattle.tide_edge.specs.Faults.{counted, faults_after}
 use Rattle.tide_edge.specs.FileStates.{FilesState, Opening, Openings, files_after_open, just_opened, openings_after_open, openings_after_read}
 use Rattle.tide_edge.specs.Whole.{Allowance, OpenedOnce, ReadWithin, as_came, both, one_file, source_of, whole}
-use Rattle.tide_edge.specs.Workings.Reading.{HasCome, IsReadOn}
+use Rattle.tide_edge.specs.Workings.Reading.{HasCome, IsFresh, IsReadOn}
 
 counted_most_by : (last : Bool) (count : ℕ) → (count == 2 ^ 64 - 1) ≡ last → counted count ≤ count + 1
 counted_most_by true count is = rw is (omega arith)
@@ -149,3 +149,26 @@ pub come_as : {T E S F : Type 0} (source : E → Source) (expected : Option (Lis
 come_as source expected also expected_also limit before after result other says (name, bytes, is_ended, fresh, come, meets) =
     (name, bytes, is_ended, fresh, come,
       says (as_came limit (record { name = name; is_open = true; bytes = bytes; is_ended = is_ended })) meets)
+
+-- out of memory says nothing of what is expected
+pub memory_meets : {T E : Type 0} (source : E → Source) (expected result : Result T E) (fault : E) → IsErrAnd result (λ it. it ≡ fault)
+    → source fault ≡ memory → Meets source (Unit {0}) expected result
+memory_meets source expected (Err it) fault is of_memory = rw (is, of_memory) tt
+memory_meets source expected (Ok value) fault is of_memory = absurd is
+
+-- out of memory before anything was read of the open file
+pub unread_come : {T E : Type 0} (source : E → Source) (expected : Option (List ℕ) → Result T E) (limit : ℕ) (before : Openings) (fault : E)
+    (result : Result T E) → IsFresh before → IsErrAnd result (λ it. it ≡ fault) → source fault ≡ memory
+    → HasCome source expected limit before before result
+unread_come source expected limit before fault result (name, fresh) is of_memory =
+    (name, [], false, fresh, ap (λ latest. record before { latest = latest }) fresh, memory_meets source _ result fault is of_memory)
+
+-- no more than the limit came, and then a read failed
+pub cut_came : (limit : ℕ) (name bytes : List ℕ) → length bytes ≤ limit
+    → as_came limit (record { name = name; is_open = true; bytes = bytes; is_ended = false }) ≡ None
+cut_came limit name bytes within = rw (lt-leb (suc limit) (length bytes) (omega (arith, within))) refl
+
+-- no more than the limit came, and then the end
+pub ended_came : (limit : ℕ) (name bytes : List ℕ) → length bytes ≤ limit
+    → whole limit (as_came limit (record { name = name; is_open = true; bytes = bytes ++ []; is_ended = true })) ≡ Ok bytes
+ended_came limit name bytes within = rw (append-nil bytes, le-leb (length bytes) limit within) refl

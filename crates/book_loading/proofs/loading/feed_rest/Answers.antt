@@ -1,9 +1,10 @@
 use Rattle.std.proofs.lemmas.Grind.{pieces}
-use Rattle.std.proofs.Common.{ap, arith, Err, false}
+use Rattle.std.proofs.Common.{ap, arith, Ok, Err, false, ◌∙◌}
 use Rattle.std.specs.Prelude.{◌==◌, ◌||◌}
 use Rattle.tide_edge.specs.Whole.{source_of, whole}
 use Rattle.tide_edge.specs.declared.read_all_fault.ReadAllFault.TheVariants.{TooLong}
-use Rattle.tide_edge.proofs.ReadingLemmas.{came_on, too_long_on}
+use Rattle.tide_edge.proofs.ReadingLemmas.{came_on, cut_came, ended_came, too_long_on}
+use Rattle.book_loading.proofs.LoadingLemmas.{failed_meets}
 use Rattle.book_loading.proofs.loading.feed_rest.Goals as goal
 
 pub returns-then-count-limit-clause-came : goal.returns-then-count-limit-clause-came
@@ -34,3 +35,34 @@ returns-then-count-limit-clause-came g c =
     (search (pieces, arith))
     (search (pieces, arith, at.within, at.counted))
     (search (pieces, arith, at.counted)))
+
+pub returns-in_err-count-clause-came : goal.returns-in_err-count-clause-came
+returns-in_err-count-clause-came g c =
+    let at = c.loop-count.invariant in (
+      at.openings.0,
+      c.loop-count.reader.bytes,
+      false,
+      at.openings.1,
+      ap (λ s. s.openings) c.in_err-count.ensures.after ∙ at.openings.2,
+      failed_meets c.args.limit c.loop-count.reader _ _ (cut_came c.args.limit at.openings.0 c.loop-count.reader.bytes (rw (← at.counted) at.within)) c.from_residual.ensures.1,
+    )
+
+pub returns-then-count-eq0-clause-came : goal.returns-then-count-eq0-clause-came
+returns-then-count-eq0-clause-came g c =
+    let at = c.loop-count.invariant in
+    came_on
+    source_of
+    (whole c.args.limit)
+    c.args.limit
+    0
+    c.read.new.room
+    at.openings.0
+    c.loop-count.reader.bytes
+    (g.F.Files.state c.args.files.now).openings
+    (g.F.Files.state c.loop-count.files).openings
+    (g.F.Files.state c.read.new.self).openings
+    (Ok c.loop-count.reader.bytes)
+    at.openings.1
+    at.openings.2
+    (rw (← c.if-count-eq0.true) (ap (λ s. s.openings) c.in_ok-count.ensures.after))
+    (ended_came c.args.limit at.openings.0 c.loop-count.reader.bytes (rw (← at.counted) at.within))

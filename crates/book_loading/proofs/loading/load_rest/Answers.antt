@@ -1,8 +1,10 @@
-use Rattle.std.proofs.Common.{Some}
+use Rattle.std.proofs.Common.{Some, Ok, Err, refl}
+use Rattle.harmonics_text.specs.declared.fault.BookFault.TheVariants as form
+use Rattle.book_loading.specs.declared.loading.LoadFault.TheVariants.{Book}
 use Rattle.std.proofs.lemmas.Result.{err_from_is_err_and}
 use Rattle.book_loading.proofs.LoadingLemmas.{excuses_reading, excuses_form, loaded_whole}
 use Rattle.book_loading.specs.Loading.{loaded, source_of}
-use Rattle.tide_edge.proofs.ReadingLemmas.{come_as}
+use Rattle.tide_edge.proofs.ReadingLemmas.{come_as, unread_come}
 use Rattle.tide_edge.specs.Whole.{whole, source_of as source_of_reading}
 use Rattle.book_loading.proofs.loading.load_rest.Goals as goal
 
@@ -22,8 +24,8 @@ returns-in_err-fed-clause-came g c =
     c.args.limit
     (g.F.Files.state c.args.files.now).openings
     (g.F.Files.state c.feed_rest-fed.new.files).openings
-    _
-    _
+    (Err c.in_err-fed.field-0.0)
+    c.from_residual-in_err-fed.result
     (λ file meets. rw (p.1, p.2) (excuses_reading c.args.limit (Unit {0}) file _ meets))
     c.in_err-fed.ensures.came
 
@@ -44,8 +46,8 @@ returns-in_err-book-clause-came g c =
     c.args.limit
     (g.F.Files.state c.args.files.now).openings
     (g.F.Files.state c.feed_rest-fed.new.files).openings
-    _
-    _
+    (Ok c.feed_rest-fed.new.reader.bytes)
+    c.from_residual-in_err-book.result
     (λ file meets. rw (p.1, p.2) (excuses_form c.args.limit (Unit {0}) file _ _ meets c.in_err-book.ensures.exact))
     c.in_ok-fed.ensures.came
 
@@ -63,7 +65,20 @@ returns-clause-came g c =
     c.args.limit
     (g.F.Files.state c.args.files.now).openings
     (g.F.Files.state c.feed_rest-fed.new.files).openings
-    _
-    _
+    (Ok c.feed_rest-fed.new.reader.bytes)
+    (Ok c.in_ok-book.field-0)
     (λ file meets. loaded_whole c.args.limit file _ _ meets c.in_ok-book.ensures.exact)
     c.in_ok-fed.ensures.came
+
+pub returns-in_err-reader-clause-came : goal.returns-in_err-reader-clause-came
+returns-in_err-reader-clause-came g c =
+    unread_come
+    source_of
+    (loaded c.args.limit)
+    c.args.limit
+    (g.F.Files.state c.args.files.now).openings
+    (Book form.NoMemory)
+    c.from_residual.result
+    c.requires.fresh
+    c.from_residual.ensures.1
+    refl
