@@ -35,12 +35,14 @@ mod passed;
 mod piece;
 mod pieces;
 mod read_all_fault;
+mod read_through;
 mod reading;
 mod reads;
 mod replies;
 mod rest;
 mod rows;
 mod sink;
+mod write_through;
 mod writing;
 
 pub use clock::Clock;
