@@ -2,6 +2,8 @@
 use Rattle.std.specs.Prelude.{◌≡◌, ℕ, ◌≤◌, List, [], length, take, Option, Some, None, Result, Ok, Err}
 use Rattle.std.specs.Io.KnownBytes.{Appends}
 use Rattle.tide_edge.specs.declared.failed.Failed.{Failed}
+use Rattle.tide_edge.specs.declared.host_door.HostDoor.{HostDoor}
+use Rattle.tide_edge.specs.declared.host_line.HostLine.{HostLine}
 use Rattle.tide_edge.specs.declared.host_files.HostFiles.{HostFiles}
 use Rattle.tide_edge.specs.declared.host_sink.HostSink.{HostSink}
 
@@ -23,3 +25,16 @@ file_of files = files.opened
 abbrev pub left_of : {F : Type 0} → (F → Option (List ℕ)) → Option F → Option (List ℕ)
 left_of remaining None = Some []
 left_of remaining (Some file) = remaining file
+
+-- the stream below a connection
+abbrev pub stream_of : {S : Type 0} → HostLine S → S
+stream_of line = line.stream
+
+-- the connection that a door has open, if there is one
+abbrev pub line_of : {R S L : Type 0} → HostDoor R S L → Option (HostLine S)
+line_of door = door.line
+
+-- the known bytes of the stream below an open connection, whichever are meant; unknown if none is open
+abbrev pub known_of : {S : Type 0} → (S → Option (List ℕ)) → Option (HostLine S) → Option (List ℕ)
+known_of known None = None
+known_of known (Some line) = known (stream_of line)

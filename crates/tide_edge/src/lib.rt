@@ -29,6 +29,7 @@ mod memory_files;
 mod memory_sink;
 mod minute_transcript;
 mod named_file;
+mod open_line;
 mod opening;
 mod openings;
 mod passed;
