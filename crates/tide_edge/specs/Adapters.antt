@@ -1,6 +1,9 @@
 -- What the adapters hold of the machine, and what its known bytes have to do with their answers (this project).
 use Rattle.std.specs.Prelude.{◌≡◌, ℕ, ◌≤◌, List, [], length, take, Option, Some, None, Result, Ok, Err}
 use Rattle.std.specs.Io.KnownBytes.{Appends}
+use Rattle.std.specs.declared.fd.AsRawFd as AsRawFd
+use Rattle.std.specs.declared.io.traits.Read as Read
+use Rattle.std.specs.declared.io.traits.Write as Write
 use Rattle.tide_edge.specs.declared.failed.Failed.{Failed}
 use Rattle.tide_edge.specs.declared.host_door.HostDoor.{HostDoor}
 use Rattle.tide_edge.specs.declared.host_line.HostLine.{HostLine}
@@ -31,7 +34,8 @@ abbrev pub stream_of : {S : Type 0} → HostLine S → S
 stream_of line = line.stream
 
 -- the connection that a door has open, if there is one
-abbrev pub line_of : {R S L : Type 0} → HostDoor R S L → Option (HostLine S)
+abbrev pub line_of : {R S L : Type 0} {read : Read.Ghosts S} {write : Write.Ghosts S} {stream : AsRawFd.Ghosts S} {listener : AsRawFd.Ghosts L}
+    → HostDoor R S L read write stream listener → Option (HostLine S)
 line_of door = door.line
 
 -- the known bytes of the stream below an open connection, whichever are meant; unknown if none is open

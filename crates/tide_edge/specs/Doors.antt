@@ -1,5 +1,5 @@
 -- What a door tells of its connections (this project).
-use Rattle.std.specs.Prelude.{ℕ, ◌-◌, ◌==◌, nat_lt, Bool, true, false, ◌||◌, if◌then◌else◌, List, [], ◌∷◌, ◌++◌, length, take, drop, Option, Some, None, Result, Ok, Err, is_ok, is_err}
+use Rattle.std.specs.Prelude.{◌≡◌, ℕ, ◌-◌, ◌==◌, nat_lt, Bool, true, false, ◌||◌, if◌then◌else◌, List, [], ◌∷◌, ◌++◌, length, take, drop, Option, Some, None, Result, Ok, Err, is_ok, is_err}
 use Rattle.tide_edge.specs.declared.failed.Failed.{Failed}
 use Rattle.std.specs.Option.{option_map}
 use Rattle.tide_edge.specs.Faults.{counted, faults_after}
@@ -98,6 +98,10 @@ no_connections = record { earlier = []; latest = None }
 
 abbrev pub connections_of : Connections → List Connection
 connections_of c = c.earlier ++ listed c.latest
+
+-- A door that wasn't asked to listen has taken no connection, has none open, and `next` hasn't answered that no more will come.
+abbrev pub IsUntouched : Doorway → Connections → Type 0
+IsUntouched doorway connections = (doorway ≡ unasked) × (connections ≡ no_connections)
 
 abbrev pub just_taken : Connection
 just_taken = record { came = []; is_ended = false; sent = []; read_failed = false; write_failed = false }

@@ -6,5 +6,6 @@ pub mod Doors
 pub mod FileStates
 pub mod Memory
 pub mod SinkStates
+pub mod StoreLaws
 pub mod Workings
 pub mod Whole

@@ -1,8 +1,8 @@
 //! A port of the machine.
 
-ghost use Rattle.std.specs.Prelude.{◌≡◌, ◌<◌, ◌≤◌, false, IsTrue, [], length, IfOk};
+ghost use Rattle.std.specs.Prelude.{◌≡◌, ◌<◌, ◌≤◌, false, IsTrue, [], length, None, IfOk};
 ghost use Rattle.std.specs.Io.KnownBytes.{ReadConsumes, WriteAppends};
-ghost use Rattle.tide_edge.specs.Doors.{door_after_next, door_after_read, door_after_write};
+ghost use Rattle.tide_edge.specs.Doors.{IsUntouched, door_after_next, door_after_read, door_after_write};
 
 use crate::door::Door;
 use crate::doorway::Doorway;
@@ -36,6 +36,7 @@ pub struct HostDoor<R: Net + rt::Clock + Drop> {
     connections: Connections,
     faults: u64,
     line_faults: u64,
+    ghost untouched: { doorway.port ≡ None → IsUntouched doorway connections },
 }
 
 impl<R: Net + rt::Clock + Drop> HostDoor<R> {

@@ -2,6 +2,7 @@
 
 ghost use Rattle.std.specs.Prelude.{◌≡◌};
 ghost use Rattle.tide_edge.specs.Memory.{HeldFiles, HeldSink, HeldClock, HeldDoor, files_state, sink_state, clock_state, door_state};
+ghost use Rattle.tide_edge.specs.StoreLaws.{OpenKeepsStore, ReadKeepsStore, StartsOfStore};
 
 use crate::clock::Clock;
 use crate::door::Door;
@@ -30,4 +31,13 @@ pub fn fixed_clock_tells()
 /// A door in memory tells which requests wait and which replies were given, and keeps pieces.
 pub fn memory_door_tells()
     ensures { (d : HeldDoor) → ⟦<MemoryDoor as Door>⟧.state d ≡ door_state d }
+{}
+
+/// The bytes of each opening of observable files are a prefix of its file's bytes, and all of them if its end was found.
+///
+/// It is so before any opening, and calls of `open` and `read` that meet their contracts keep it so.
+pub fn openings_are_of_store()
+    ensures at_first { StartsOfStore }
+    ensures opened { OpenKeepsStore }
+    ensures read { ReadKeepsStore }
 {}
