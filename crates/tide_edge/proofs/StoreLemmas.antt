@@ -1,12 +1,12 @@
 -- Calls on observable files keep what came of each opening tied to the file that it opened.
-use Rattle.std.proofs.Common.{◌≡◌, ◌↔◌, ℕ, zero, suc, Bool, true, false, ◌||◌, if◌then◌else◌, IsTrue, IsSome, IfSome, IfOk, OnOk, All, List, [], ◌∷◌, ◌++◌, take, drop, Option, Some, None, Result, Ok, Err, unwrap_or, is_ok, refl, sym, ap, ◌∙◌, append_assoc, take-append-drop}
+use Rattle.std.proofs.Common.{◌≡◌, ℕ, zero, suc, Bool, true, false, ◌||◌, if◌then◌else◌, IsTrue, IsSome, IfSome, OnOk, All, List, [], ◌++◌, take, drop, Option, Some, None, Result, Ok, Err, is_ok, refl, sym, ap, ◌∙◌, append_assoc, take-append-drop}
 use Rattle.std.specs.Prelude.{◌==◌}
 use Rattle.std.proofs.lemmas.Bool.Decides.{Decides-eqb}
 use Rattle.std.specs.Option.{option_map}
 use Rattle.std.proofs.lemmas.List.Elements.{All-append, All-cons, All-nil}
 use Rattle.tide_edge.specs.declared.failed.Failed.{Failed}
-use Rattle.tide_edge.specs.FileStates.{Folder, FilesState, Opening, Openings, begun, just_opened, listed, opening_after_read, openings_of, openings_after_open, files_after_open, files_after_read, no_openings}
-use Rattle.tide_edge.specs.StoreLaws.{AreOfStore, IsReadOf, OpenKeepsStore, ReadKeepsStore, StartsOfStore, content_of}
+use Rattle.tide_edge.specs.FileStates.{Folder, Opening, begun, just_opened, listed, opening_after_read}
+use Rattle.tide_edge.specs.StoreLaws.{IsReadOf, OpenKeepsStore, ReadKeepsStore, StartsOfStore}
 
 abbrev IsReadOfSome : Folder → Opening → Type 0
 IsReadOfSome folder o = (left : List ℕ) × IsReadOf folder left o

@@ -1,5 +1,5 @@
 -- What the adapters hold of the machine, and what its known bytes have to do with their answers (this project).
-use Rattle.std.specs.Prelude.{◌≡◌, ℕ, ◌≤◌, List, [], length, take, Option, Some, None, Result, Ok, Err}
+use Rattle.std.specs.Prelude.{ℕ, ◌≤◌, List, [], length, take, Option, Some, None, Result, Ok, Err}
 use Rattle.std.specs.Io.KnownBytes.{Appends}
 use Rattle.std.specs.declared.fd.AsRawFd as AsRawFd
 use Rattle.std.specs.declared.io.traits.Read as Read

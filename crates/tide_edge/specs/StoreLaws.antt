@@ -1,5 +1,5 @@
 -- What came of each opening is of the file that it opened, if the files are observable (this project).
-use Rattle.std.specs.Prelude.{◌≡◌, ◌↔◌, ℕ, Bool, if◌then◌else◌, IsTrue, IsSome, IfSome, IfOk, OnOk, All, List, [], ◌++◌, take, Result, unwrap_or}
+use Rattle.std.specs.Prelude.{◌≡◌, ◌↔◌, ℕ, if◌then◌else◌, IsTrue, IsSome, IfSome, IfOk, OnOk, All, List, [], ◌++◌, take, Result, unwrap_or}
 use Rattle.tide_edge.specs.declared.failed.Failed.{Failed}
 use Rattle.tide_edge.specs.FileStates.{Folder, FilesState, Opening, files_after_open, files_after_read, no_openings}
 
