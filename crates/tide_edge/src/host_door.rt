@@ -42,7 +42,7 @@ pub struct HostDoor<R: Net + rt::Clock + Drop> {
 impl<R: Net + rt::Clock + Drop> HostDoor<R> {
     ghost use Rattle.tide_edge.specs.Doors.{no_connections, unasked};
 
-    /// A door that wasn't asked to listen yet.
+    /// A door that doesn't listen yet.
     pub fn new(system: R) -> HostDoor<R>
         ensures doorway { (⟦<HostDoor<R> as Door>⟧.state result).doorway ≡ unasked }
         ensures connections { (⟦<HostDoor<R> as Door>⟧.state result).connections ≡ no_connections }
@@ -151,7 +151,7 @@ fn take_next<L: OpenListener>(listener: &L) -> io::Result<L::Stream> {
     Err(io::Error::from(ErrorKind::ConnectionAborted))
 }
 
-// Whether an error of taking a connection is that connection's own, as accept(2) tells them.
+// True if an error of taking a connection is that connection's own, as accept(2) lists them.
 fn is_of_connection(fault: &io::Error) -> bool {
     let is_named = matches!(
         fault.kind(),

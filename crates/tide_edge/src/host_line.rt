@@ -17,7 +17,7 @@ const REPLY_SECONDS: u64 = 60;
 /// How many seconds a peer has after its reply to end what it sends.
 const FAREWELL_SECONDS: u64 = 2;
 
-/// How many milliseconds a socket is told to wait at least. Told none, it would wait for ever.
+/// The least timeout of a socket, in milliseconds: with 0 it would wait for ever.
 const SHORTEST_WAIT_MILLISECONDS: u64 = 1;
 
 /// How often a connection is called at most within a deadline: more often than there is time for.
@@ -37,7 +37,7 @@ impl Deadline {
         }
     }
 
-    // The time that is left until then, rounded up to what a socket is told.
+    // The time that is left until then, and the least timeout of a socket at least.
     fn left(self, clock: &impl rt::Clock) -> io::Result<Duration> {
         let now = Instant::now(clock)?;
         let shortest = Duration::from_millis(SHORTEST_WAIT_MILLISECONDS);

@@ -1,7 +1,7 @@
 //! The outside of the program: files, where bytes are written to, the clock, and the door that connections come through.
 //!
-//! Each is a trait, with an implementation in memory that tells what it holds and one over the
-//! machine that doesn't. [`read_all`] reads a whole file and [`write_all`] writes all of its bytes,
+//! Each is a trait, with an observable implementation in memory and one over the machine, whose
+//! answers are tied to the bytes known below it. [`read_all`] reads a whole file and [`write_all`] writes all of its bytes,
 //! over any of them.
 #![tactic(auto)]
 
