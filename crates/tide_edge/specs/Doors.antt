@@ -1,11 +1,11 @@
--- What a door tells of its connections (this project).
-use Rattle.std.specs.Prelude.{ℕ, ◌-◌, ◌==◌, nat_lt, Bool, true, false, ◌||◌, if◌then◌else◌, List, [], ◌∷◌, ◌++◌, length, take, drop, Option, Some, None, Result, Ok, Err, is_ok, is_err}
+-- A door, its connections, and what passed over each (this project).
+use Rattle.std.specs.Prelude.{◌≡◌, ℕ, ◌-◌, ◌==◌, nat_lt, Bool, true, false, ◌||◌, if◌then◌else◌, List, [], ◌∷◌, ◌++◌, length, take, drop, Option, Some, None, Result, Ok, Err, is_ok, is_err}
 use Rattle.tide_edge.specs.declared.failed.Failed.{Failed}
 use Rattle.std.specs.Option.{option_map}
 use Rattle.tide_edge.specs.Faults.{counted, faults_after}
 use Rattle.tide_edge.specs.FileStates.{listed}
 
--- What a door always tells: the port that it was asked to listen on, and whether it does; how many connections were taken, a
+-- The observable part of every door: the port that it was to listen on, and whether it does; how many connections were taken, a
 -- count that stays at the last value of a `u64`; whether one is open; and whether `next` has answered that no more will come.
 pub record Doorway : Type 0 where
   pub port : Option ℕ
@@ -36,7 +36,7 @@ abbrev pub closed : Doorway → Doorway
 closed d =
     record { port = d.port; listens = d.listens; taken = d.taken; is_open = false; is_over = d.is_over }
 
--- What a door may tell besides: the requests that wait, each in the pieces in which it comes, which aren't empty; what wasn't
+-- The part that only some doors have observable: the requests that wait, each in the pieces in which it comes, which aren't empty; what wasn't
 -- read yet of the connection taken last; and the replies given, one a connection, of which an open connection's is the last.
 pub record Traffic : Type 0 where
   pub waiting : List (List (List ℕ))
@@ -99,6 +99,10 @@ no_connections = record { earlier = []; latest = None }
 abbrev pub connections_of : Connections → List Connection
 connections_of c = c.earlier ++ listed c.latest
 
+-- A door that wasn't asked to listen has taken no connection, has none open, and `next` hasn't answered that no more will come.
+abbrev pub IsUntouched : Doorway → Connections → Type 0
+IsUntouched doorway connections = (doorway ≡ unasked) × (connections ≡ no_connections)
+
 abbrev pub just_taken : Connection
 just_taken = record { came = []; is_ended = false; sent = []; read_failed = false; write_failed = false }
 
@@ -134,7 +138,7 @@ pub record DoorState : Type 0 where
   pub faults : ℕ
   pub line_faults : ℕ
 
--- a change of what is told, where it is
+-- a change of the traffic, if that is observable
 abbrev pub told_traffic : (Traffic → Traffic) → DoorState → Traffic
 told_traffic change s = if s.is_observable then change s.traffic else s.traffic
 

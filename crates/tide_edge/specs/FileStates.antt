@@ -1,4 +1,4 @@
--- What files tell, and what their calls make of it (this project).
+-- What files hold, what was opened and read of them, and what their calls make of it (this project).
 use Rattle.std.specs.Prelude.{ℕ, ◌+◌, ◌-◌, ◌^◌, ◌==◌, min, Bool, false, ◌||◌, if◌then◌else◌, List, [], ◌∷◌, ◌++◌, take, drop, Option, Some, None, unwrap_or, Result, Ok, Err, is_ok, is_err}
 use Rattle.std.specs.Option.{option_map}
 use Rattle.tide_edge.specs.declared.failed.Failed.{Failed}
@@ -8,8 +8,8 @@ use Rattle.tide_edge.specs.Faults.{counted, counted_if, faults_after}
 abbrev pub Folder : Type 0
 Folder = List ℕ → Option (List ℕ)
 
--- What no call changes: whether it is told what the files hold, the files by their names, and whether they are steady, so that
--- opening one that is there and reading it don't fail. Where nothing is told, folder and steadiness mean nothing.
+-- What no call changes: whether what the files hold is observable, the files by their names, and whether they are steady, so that
+-- opening one that is there and reading it don't fail. If they aren't observable, folder and steadiness mean nothing.
 pub record Store : Type 0 where
   pub is_observable : Bool
   pub folder : Folder

@@ -1,3 +1,4 @@
+pub mod Adapters
 pub mod Faults
 pub mod Calls
 pub mod Clocks
@@ -5,5 +6,6 @@ pub mod Doors
 pub mod FileStates
 pub mod Memory
 pub mod SinkStates
+pub mod StoreLaws
 pub mod Workings
 pub mod Whole

@@ -38,7 +38,7 @@ impl Calls {
         }
     }
 
-    /// Counts one more call, and fails where it is one of those that are to fail.
+    /// Counts one more call, and fails if it is one of those that are to fail.
     pub(crate) fn next(&mut self) -> Result<(), Failed>
         ensures answer { result ≡ answer (is_to_fail self.old) record {} }
         ensures after { self.new ≡ after_call (is_to_fail self.old) self.old }

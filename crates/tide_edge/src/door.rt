@@ -2,7 +2,7 @@
 
 ghost use Rattle.std.specs.Prelude.{◌≡◌, ◌↔◌, ◌<◌, ◌≤◌, false, IsTrue, [], length, take, None, IfOk};
 ghost use Rattle.std.specs.List.{concat};
-ghost use Rattle.tide_edge.specs.Doors.{DoorState, door_after_listen, door_after_next, door_after_read, door_after_write, door_after_close, first_or_empty};
+ghost use Rattle.tide_edge.specs.Doors.{DoorState, door_after_listen, door_after_next, door_after_read, door_after_write, door_after_close, first_or_empty, IsUntouched};
 
 use crate::failed::Failed;
 
@@ -19,7 +19,8 @@ pub trait Door {
     /// [`Failed`] where the door can't listen there.
     fn listen(&mut self, port: u16) -> Result<(), Failed>
         requires { (state self.old).doorway.port ≡ None }
-        ensures { state self.new ≡ door_after_listen result port (state self.old) };
+        ensures after { state self.new ≡ door_after_listen result port (state self.old) }
+        ensures untouched { IsUntouched (state self.old).doorway (state self.old).connections };
 
     /// Takes the next connection, and answers whether there is one: false means that no more will come.
     ///

@@ -1,11 +1,11 @@
-//! What a door always tells.
+//! The observable part of every door.
 
 ghost use Rattle.std.specs.Prelude.{◌≡◌, Ok, true, false};
 
 use crate::count::one_more;
 use std::marker::Model;
 
-/// The port that a door was asked to listen on, and what came of it.
+/// The port that a door was to listen on, and what came of it.
 #[derive(Debug, Drop)]
 pub(crate) struct Doorway {
     port: Option<u16>,
@@ -32,7 +32,7 @@ impl Model for Doorway {
 impl Doorway {
     ghost use Rattle.tide_edge.specs.Doors.{unasked, asked, after_next, closed};
 
-    /// Before the door is asked to listen.
+    /// Before `listen` is called.
     pub(crate) fn unasked() -> Doorway
         ensures { result ≡ unasked }
     {
@@ -45,7 +45,7 @@ impl Doorway {
         }
     }
 
-    /// Where the door was asked to listen on that port.
+    /// After a call of `listen` with `port`.
     pub(crate) fn asked(port: u16, listens: bool) -> Doorway
         ensures { result ≡ asked port listens }
     {

@@ -2,7 +2,7 @@
 
 use thiserror::Error;
 
-/// A call on files, a sink, a clock or a door failed. Why isn't told: the object's count of faults shows that it did.
+/// A call on files, a sink, a clock or a door failed. The object's count of faults shows it; the reason isn't kept.
 #[derive(Clone, Copy, Debug, PartialEq, Eq, Error)]
 #[error("a call on files, a sink, a clock or a door failed")]
 pub struct Failed;

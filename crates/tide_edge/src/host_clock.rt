@@ -15,7 +15,7 @@ const LAST_MINUTE: u64 = 10_000_000_000;
 
 /// The clock of the machine. The minutes to come aren't observable: only those that it has given.
 ///
-/// It fails before 1970, which the system doesn't tell, and from 10,000,000,001 minutes later on.
+/// It fails before 1970, for which the system gives no time, and from 10,000,000,001 minutes later on.
 #[derive(Drop)]
 pub struct HostClock<R: rt::Clock + Drop> {
     system: R,
@@ -56,7 +56,7 @@ impl<R: rt::Clock + Drop> Clock for HostClock<R> {
     }
 }
 
-/// The minute that so many seconds since 1970-01-01 00:00 UTC lie in, if a clock may show it.
+/// The minute that has the second `seconds` since 1970-01-01 00:00 UTC, if a clock may give it.
 fn minute_of(seconds: u64) -> Option<i64>
     ensures exact { MatchOption result (10000000000 < seconds / 60) (λ minute. minute ≡ pos (seconds / 60)) }
     ensures in_range { IfSome result IsClockMinute }

@@ -1,12 +1,15 @@
 //! A port of the machine.
 
-ghost use Rattle.std.specs.Prelude.{◌≡◌, false, []};
+ghost use Rattle.std.specs.Prelude.{◌≡◌, ◌<◌, ◌≤◌, false, IsTrue, [], length, None, IfOk};
+ghost use Rattle.std.specs.Io.KnownBytes.{ReadConsumes, WriteAppends};
+ghost use Rattle.tide_edge.specs.Doors.{IsUntouched, door_after_next, door_after_read, door_after_write};
 
 use crate::door::Door;
 use crate::doorway::Doorway;
 use crate::failed::Failed;
-use crate::host_fault::{accepted, count_fault, outcome};
+use crate::host_fault::count_fault;
 use crate::host_line::HostLine;
+use crate::open_line::{read_open, write_open};
 use crate::passed::Connections;
 use std::io::{self, ErrorKind};
 use std::net::{Ipv4Addr, Net, OpenListener, TcpListener};
@@ -33,12 +36,13 @@ pub struct HostDoor<R: Net + rt::Clock + Drop> {
     connections: Connections,
     faults: u64,
     line_faults: u64,
+    ghost untouched: { doorway.port ≡ None → IsUntouched doorway connections },
 }
 
 impl<R: Net + rt::Clock + Drop> HostDoor<R> {
     ghost use Rattle.tide_edge.specs.Doors.{no_connections, unasked};
 
-    /// A door that wasn't asked to listen yet.
+    /// A door that doesn't listen yet.
     pub fn new(system: R) -> HostDoor<R>
         ensures doorway { (⟦<HostDoor<R> as Door>⟧.state result).doorway ≡ unasked }
         ensures connections { (⟦<HostDoor<R> as Door>⟧.state result).connections ≡ no_connections }
@@ -58,6 +62,8 @@ impl<R: Net + rt::Clock + Drop> HostDoor<R> {
 }
 
 impl<R: Net + rt::Clock + Drop> Door for HostDoor<R> {
+    ghost use Rattle.tide_edge.specs.Adapters.{known_of, line_of};
+
     ghost state = { λ h. record {
       is_observable = false;
       keeps_pieces = false;
@@ -82,7 +88,12 @@ impl<R: Net + rt::Clock + Drop> Door for HostDoor<R> {
         }
     }
 
-    fn next(&mut self) -> Result<bool, Failed> {
+    fn next(&mut self) -> Result<bool, Failed>
+        requires listens { IsTrue (⟦<HostDoor<R> as Door>⟧.state self.old).doorway.listens }
+        requires none_open { (⟦<HostDoor<R> as Door>⟧.state self.old).doorway.is_open ≡ false }
+        ensures after { ⟦<HostDoor<R> as Door>⟧.state self.new ≡ door_after_next result (⟦<HostDoor<R> as Door>⟧.state self.old) }
+        ensures never_over { IfOk result IsTrue }
+    {
         if let Some(listener) = &self.listener
             && let Ok(stream) = take_next(listener)
         {
@@ -94,20 +105,27 @@ impl<R: Net + rt::Clock + Drop> Door for HostDoor<R> {
         Err(count_fault(&mut self.faults))
     }
 
-    fn read(&mut self, room: &mut [u8]) -> Result<usize, Failed> {
-        let read = match &mut self.line {
-            Some(line) => outcome(&mut self.line_faults, line.read(&self.system, room)),
-            None => Err(count_fault(&mut self.line_faults)),
-        };
+    fn read(&mut self, room: &mut [u8]) -> Result<usize, Failed>
+        requires room { 0 < length room.old }
+        requires open { IsTrue (⟦<HostDoor<R> as Door>⟧.state self.old).doorway.is_open }
+        ensures after { ⟦<HostDoor<R> as Door>⟧.state self.new ≡ door_after_read result room.new (⟦<HostDoor<R> as Door>⟧.state self.old) }
+        ensures within { IfOk result (λ count. count ≤ length room.old) }
+        ensures tied { ReadConsumes (known_of R.Stream.remaining (line_of self.old)) (known_of R.Stream.remaining (line_of self.new)) result room.new }
+    {
+        let read = read_open(&mut self.line, &self.system, &mut self.line_faults, room);
         self.connections.read(room, &read);
         read
     }
 
-    fn write(&mut self, piece: &[u8]) -> Result<usize, Failed> {
-        let written = match &mut self.line {
-            Some(line) => accepted(&mut self.line_faults, line.write(&self.system, piece)),
-            None => Err(count_fault(&mut self.line_faults)),
-        };
+    fn write(&mut self, piece: &[u8]) -> Result<usize, Failed>
+        requires piece { 0 < length piece.now }
+        requires open { IsTrue (⟦<HostDoor<R> as Door>⟧.state self.old).doorway.is_open }
+        ensures after { ⟦<HostDoor<R> as Door>⟧.state self.new ≡ door_after_write result piece.now (⟦<HostDoor<R> as Door>⟧.state self.old) }
+        ensures some { IfOk result (λ count. 0 < count) }
+        ensures within { IfOk result (λ count. count ≤ length piece.now) }
+        ensures tied { WriteAppends (known_of R.Stream.contents (line_of self.old)) (known_of R.Stream.contents (line_of self.new)) result piece.now }
+    {
+        let written = write_open(&mut self.line, &self.system, &mut self.line_faults, piece);
         self.connections.write(piece, &written);
         written
     }
@@ -133,7 +151,7 @@ fn take_next<L: OpenListener>(listener: &L) -> io::Result<L::Stream> {
     Err(io::Error::from(ErrorKind::ConnectionAborted))
 }
 
-// Whether an error of taking a connection is that connection's own, as accept(2) tells them.
+// True if an error of taking a connection is that connection's own, as accept(2) lists them.
 fn is_of_connection(fault: &io::Error) -> bool {
     let is_named = matches!(
         fault.kind(),

@@ -1,15 +1,16 @@
 //! The files of the machine.
 
-ghost use Rattle.std.specs.Prelude.{◌≡◌, false, [], None};
-ghost use Rattle.tide_edge.specs.FileStates.{FilesState, no_openings};
+ghost use Rattle.std.specs.Prelude.{◌≡◌, ◌<◌, ◌≤◌, false, [], length, None, IfOk, OnOk, OnErr, IsSome};
+ghost use Rattle.std.specs.Io.KnownBytes.{ReadConsumes};
+ghost use Rattle.tide_edge.specs.FileStates.{FilesState, no_openings, files_after_open, files_after_read};
 
 use crate::failed::Failed;
 use crate::files::Files;
 use crate::host_fault::count_fault;
 use crate::openings::Openings;
+use crate::read_through::read_through;
 use crate::reads::Reads;
 use decimal_text::Text;
-use std::io::Read;
 use std::{fs, rt};
 
 /// The files of the machine, by their paths. What they hold isn't observable: only what was opened and what came of it.
@@ -26,8 +27,11 @@ pub struct HostFiles<R: rt::Files + Drop> {
 }
 
 impl<R: rt::Files + Drop> HostFiles<R> {
+    ghost use Rattle.tide_edge.specs.Adapters.{file_of};
+
     /// The files of the machine, none of them open.
     pub fn new(system: R) -> HostFiles<R>
+        ensures none_open { file_of result ≡ None }
         ensures openings { (⟦<HostFiles<R> as Files>⟧.state result).openings ≡ no_openings }
         ensures reads { (⟦<HostFiles<R> as Files>⟧.state result).reads ≡ record { opens = 0; ends = 0; bytes = 0 } }
         ensures faults { (⟦<HostFiles<R> as Files>⟧.state result).faults ≡ 0 }
@@ -43,6 +47,8 @@ impl<R: rt::Files + Drop> HostFiles<R> {
 }
 
 impl<R: rt::Files + Drop> Files for HostFiles<R> {
+    ghost use Rattle.tide_edge.specs.Adapters.{file_of, left_of};
+
     ghost state = { λ h. record {
       store = record { is_observable = false; folder = λ name. None; is_steady = false };
       rest = [];
@@ -51,7 +57,11 @@ impl<R: rt::Files + Drop> Files for HostFiles<R> {
       faults = h.faults;
     } };
 
-    fn open(&mut self, name: &Text) -> Result<(), Failed> {
+    fn open(&mut self, name: &Text) -> Result<(), Failed>
+        ensures after { ⟦<HostFiles<R> as Files>⟧.state self.new ≡ files_after_open result name.now (⟦<HostFiles<R> as Files>⟧.state self.old) }
+        ensures opened { OnOk result (IsSome (file_of self.new)) }
+        ensures none_open { OnErr result (file_of self.new ≡ None) }
+    {
         self.opened = None;
         self.reads.open();
         match fs::open(&self.system, name.as_str()) {
@@ -67,20 +77,22 @@ impl<R: rt::Files + Drop> Files for HostFiles<R> {
         }
     }
 
-    fn read(&mut self, room: &mut [u8]) -> Result<usize, Failed> {
-        let Some(file) = &mut self.opened else {
-            self.openings.read(room, 0);
-            return Ok(self.reads.read(0));
-        };
-        match file.read(room) {
+    fn read(&mut self, room: &mut [u8]) -> Result<usize, Failed>
+        requires { 0 < length room.old }
+        ensures after { ⟦<HostFiles<R> as Files>⟧.state self.new ≡ files_after_read result room.new (⟦<HostFiles<R> as Files>⟧.state self.old) }
+        ensures within { IfOk result (λ count. count ≤ length room.old) }
+        ensures tied { ReadConsumes (left_of R.File.remaining (file_of self.old)) (left_of R.File.remaining (file_of self.new)) result room.new }
+    {
+        let outcome = read_through(&mut self.opened, room);
+        match outcome {
             Ok(count) => {
-                if count == 0 {
-                    self.opened = None;
-                }
                 self.openings.read(room, count);
-                Ok(self.reads.read(count))
+                self.reads.read(count);
             }
-            Err(_) => Err(count_fault(&mut self.faults)),
+            Err(_) => {
+                count_fault(&mut self.faults);
+            }
         }
+        outcome
     }
 }

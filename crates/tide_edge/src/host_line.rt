@@ -1,6 +1,7 @@
 //! A connection of the machine.
 
 ghost use Rattle.std.specs.Prelude.{◌<◌, ◌≤◌, length, IfOk};
+ghost use Rattle.std.specs.Io.KnownBytes.{ReadConsumes, WriteAppends};
 
 use std::io::{self, ErrorKind, Read, Write};
 use std::net::{OpenStream, Shutdown};
@@ -16,7 +17,7 @@ const REPLY_SECONDS: u64 = 60;
 /// How many seconds a peer has after its reply to end what it sends.
 const FAREWELL_SECONDS: u64 = 2;
 
-/// How many milliseconds a socket is told to wait at least. Told none, it would wait for ever.
+/// The least timeout of a socket, in milliseconds: with 0 it would wait for ever.
 const SHORTEST_WAIT_MILLISECONDS: u64 = 1;
 
 /// How often a connection is called at most within a deadline: more often than there is time for.
@@ -36,7 +37,7 @@ impl Deadline {
         }
     }
 
-    // The time that is left until then, rounded up to what a socket is told.
+    // The time that is left until then, and the least timeout of a socket at least.
     fn left(self, clock: &impl rt::Clock) -> io::Result<Duration> {
         let now = Instant::now(clock)?;
         let shortest = Duration::from_millis(SHORTEST_WAIT_MILLISECONDS);
@@ -57,6 +58,8 @@ pub(crate) struct HostLine<S: OpenStream + Read + Write + Drop> {
 }
 
 impl<S: OpenStream + Read + Write + Drop> HostLine<S> {
+    ghost use Rattle.tide_edge.specs.Adapters.{stream_of};
+
     /// A connection that was just taken.
     pub(crate) fn new(stream: S, clock: &impl rt::Clock) -> HostLine<S> {
         HostLine {
@@ -68,36 +71,22 @@ impl<S: OpenStream + Read + Write + Drop> HostLine<S> {
 
     /// Reads the next bytes, and answers how many came: 0 at their end.
     pub(crate) fn read(&mut self, clock: &impl rt::Clock, room: &mut [u8]) -> io::Result<usize>
-        ensures { IfOk result (λ count. count ≤ length room.old) }
+        ensures within { IfOk result (λ count. count ≤ length room.old) }
+        ensures tied { ReadConsumes (S.remaining (stream_of self.old)) (S.remaining (stream_of self.new)) result room.new }
     {
-        for _ in 0..TRIES {
-            self.stream
-                .set_read_timeout(Some(self.deadline.left(clock)?))?;
-            match self.stream.read(room) {
-                Err(fault) if fault.kind() == ErrorKind::Interrupted => {}
-                answer => return answer,
-            }
-        }
-        Err(io::Error::from(ErrorKind::Interrupted))
+        read_in_time(&mut self.stream, self.deadline, clock, room)
     }
 
     /// Writes the first bytes of `piece`, and answers how many were taken. The reply's time begins with its first call.
     pub(crate) fn write(&mut self, clock: &impl rt::Clock, piece: &[u8]) -> io::Result<usize>
-        ensures { IfOk result (λ count. count ≤ length piece.now) }
+        ensures within { IfOk result (λ count. count ≤ length piece.now) }
+        ensures tied { WriteAppends (S.contents (stream_of self.old)) (S.contents (stream_of self.new)) result piece.now }
     {
         if !self.replies {
             self.replies = true;
             self.deadline = Deadline::in_seconds(clock, REPLY_SECONDS);
         }
-        for _ in 0..TRIES {
-            self.stream
-                .set_write_timeout(Some(self.deadline.left(clock)?))?;
-            match self.stream.write(piece) {
-                Err(fault) if fault.kind() == ErrorKind::Interrupted => {}
-                answer => return answer,
-            }
-        }
-        Err(io::Error::from(ErrorKind::Interrupted))
+        write_in_time(&mut self.stream, self.deadline, clock, piece)
     }
 
     /// Says that the reply has ended, and takes what the peer still sends until its end, since a system that closes a
@@ -115,4 +104,44 @@ impl<S: OpenStream + Read + Write + Drop> HostLine<S> {
             }
         }
     }
+}
+
+// The count of the bytes that came into the begin of `room` before the deadline: 0 at their end.
+fn read_in_time<S: OpenStream + Read>(
+    stream: &mut S,
+    deadline: Deadline,
+    clock: &impl rt::Clock,
+    room: &mut [u8],
+) -> io::Result<usize>
+    ensures within { IfOk result (λ count. count ≤ length room.old) }
+    ensures tied { ReadConsumes (S.remaining stream.old) (S.remaining stream.new) result room.new }
+{
+    for _ in 0..TRIES {
+        stream.set_read_timeout(Some(deadline.left(clock)?))?;
+        match stream.read(room) {
+            Err(fault) if fault.kind() == ErrorKind::Interrupted => {}
+            answer => return answer,
+        }
+    }
+    Err(io::Error::from(ErrorKind::Interrupted))
+}
+
+// The count of the first bytes of `piece` that the stream accepted before the deadline.
+fn write_in_time<S: OpenStream + Write>(
+    stream: &mut S,
+    deadline: Deadline,
+    clock: &impl rt::Clock,
+    piece: &[u8],
+) -> io::Result<usize>
+    ensures within { IfOk result (λ count. count ≤ length piece.now) }
+    ensures tied { WriteAppends (S.contents stream.old) (S.contents stream.new) result piece.now }
+{
+    for _ in 0..TRIES {
+        stream.set_write_timeout(Some(deadline.left(clock)?))?;
+        match stream.write(piece) {
+            Err(fault) if fault.kind() == ErrorKind::Interrupted => {}
+            answer => return answer,
+        }
+    }
+    Err(io::Error::from(ErrorKind::Interrupted))
 }

@@ -1,11 +1,13 @@
 //! Standard output and standard error.
 
-ghost use Rattle.std.specs.Prelude.{◌≡◌, []};
+ghost use Rattle.std.specs.Prelude.{◌≡◌, ◌<◌, ◌≤◌, [], length, IfOk};
+ghost use Rattle.tide_edge.specs.SinkStates.{sink_after_write};
 
 use crate::byte_transcript::ByteTranscript;
 use crate::failed::Failed;
 use crate::host_fault::count_fault;
 use crate::sink::Sink;
+use crate::write_through::write_through;
 use std::io::Write;
 
 /// A writer of the machine, as standard output or standard error.
@@ -19,9 +21,12 @@ pub struct HostSink<W: Write + Drop> {
 }
 
 impl<W: Write + Drop> HostSink<W> {
+    ghost use Rattle.tide_edge.specs.Adapters.{writer_of};
+
     /// A sink over a writer, as `rt.stdout()` or `rt.stderr()`.
     pub fn new(writer: W) -> HostSink<W>
-        ensures { ⟦<HostSink<W> as Sink>⟧.state result ≡ record { taken = []; faults = 0 } }
+        ensures over { writer_of result ≡ writer }
+        ensures unused { ⟦<HostSink<W> as Sink>⟧.state result ≡ record { taken = []; faults = 0 } }
     {
         HostSink {
             writer,
@@ -32,15 +37,26 @@ impl<W: Write + Drop> HostSink<W> {
 }
 
 impl<W: Write + Drop> Sink for HostSink<W> {
+    ghost use Rattle.tide_edge.specs.Adapters.{writer_of, WritesThrough};
+
     ghost state = { λ h. record { taken = h.accepted.bytes; faults = h.faults } };
 
-    fn write(&mut self, piece: &[u8]) -> Result<usize, Failed> {
-        match self.writer.write(piece) {
-            Ok(count) if count > 0 && self.writer.flush().is_ok() => {
+    fn write(&mut self, piece: &[u8]) -> Result<usize, Failed>
+        requires { 0 < length piece.now }
+        ensures after { ⟦<HostSink<W> as Sink>⟧.state self.new ≡ sink_after_write result piece.now (⟦<HostSink<W> as Sink>⟧.state self.old) }
+        ensures some { IfOk result (λ count. 0 < count) }
+        ensures within { IfOk result (λ count. count ≤ length piece.now) }
+        ensures tied { WritesThrough (W.contents (writer_of self.old)) (W.contents (writer_of self.new)) result piece.now }
+    {
+        let written = write_through(&mut self.writer, piece);
+        match written {
+            Ok(count) => {
                 self.accepted = self.accepted.then(&piece[..count]);
-                Ok(count)
             }
-            _ => Err(count_fault(&mut self.faults)),
+            Err(_) => {
+                count_fault(&mut self.faults);
+            }
         }
+        written
     }
 }

@@ -1,7 +1,8 @@
-//! What the objects in memory tell.
+//! Laws of the objects of the outside.
 
 ghost use Rattle.std.specs.Prelude.{◌≡◌};
 ghost use Rattle.tide_edge.specs.Memory.{HeldFiles, HeldSink, HeldClock, HeldDoor, files_state, sink_state, clock_state, door_state};
+ghost use Rattle.tide_edge.specs.StoreLaws.{OpenKeepsStore, ReadKeepsStore, StartsOfStore};
 
 use crate::clock::Clock;
 use crate::door::Door;
@@ -12,22 +13,31 @@ use crate::memory_files::MemoryFiles;
 use crate::memory_sink::MemorySink;
 use crate::sink::Sink;
 
-/// Files in memory tell what they hold, and are steady where none of their calls is to fail.
+/// Files in memory are observable, and steady if none of their calls is to fail.
 pub fn memory_files_tell()
     ensures { (m : HeldFiles) → ⟦<MemoryFiles as Files>⟧.state m ≡ files_state m }
 {}
 
-/// A sink in memory tells what it has taken.
+/// The bytes that a sink in memory has accepted are observable.
 pub fn memory_sink_tells()
     ensures { (s : HeldSink) → ⟦<MemorySink as Sink>⟧.state s ≡ sink_state s }
 {}
 
-/// A clock that stands still tells its minute, the same for each asking.
+/// The minute of a clock that stands still is observable, and the same for each reading.
 pub fn fixed_clock_tells()
     ensures { (c : HeldClock) → ⟦<FixedClock as Clock>⟧.state c ≡ clock_state c }
 {}
 
-/// A door in memory tells which requests wait and which replies were given, and keeps pieces.
+/// The requests that wait at a door in memory, and its replies, are observable, and it keeps pieces.
 pub fn memory_door_tells()
     ensures { (d : HeldDoor) → ⟦<MemoryDoor as Door>⟧.state d ≡ door_state d }
+{}
+
+/// The bytes of each opening of observable files are a prefix of its file's bytes, and all of them if its end was found.
+///
+/// It is so before any opening, and calls of `open` and `read` that meet their contracts keep it so.
+pub fn openings_are_of_store()
+    ensures at_first { StartsOfStore }
+    ensures opened { OpenKeepsStore }
+    ensures read { ReadKeepsStore }
 {}

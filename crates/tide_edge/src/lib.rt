@@ -1,7 +1,7 @@
 //! The outside of the program: files, where bytes are written to, the clock, and the door that connections come through.
 //!
-//! Each is a trait, with an implementation in memory that tells what it holds and one over the
-//! machine that doesn't. [`read_all`] reads a whole file and [`write_all`] writes all of its bytes,
+//! Each is a trait, with an observable implementation in memory and one over the machine, whose
+//! answers are tied to the bytes known below it. [`read_all`] reads a whole file and [`write_all`] writes all of its bytes,
 //! over any of them.
 #![tactic(auto)]
 
@@ -29,18 +29,21 @@ mod memory_files;
 mod memory_sink;
 mod minute_transcript;
 mod named_file;
+mod open_line;
 mod opening;
 mod openings;
 mod passed;
 mod piece;
 mod pieces;
 mod read_all_fault;
+mod read_through;
 mod reading;
 mod reads;
 mod replies;
 mod rest;
 mod rows;
 mod sink;
+mod write_through;
 mod writing;
 
 pub use clock::Clock;
@@ -52,7 +55,10 @@ pub use host_clock::HostClock;
 pub use host_door::HostDoor;
 pub use host_files::HostFiles;
 pub use host_sink::HostSink;
-pub use laws::{fixed_clock_tells, memory_door_tells, memory_files_tell, memory_sink_tells};
+pub use laws::{
+    fixed_clock_tells, memory_door_tells, memory_files_tell, memory_sink_tells,
+    openings_are_of_store,
+};
 pub use memory_door::MemoryDoor;
 pub use memory_files::MemoryFiles;
 pub use memory_sink::MemorySink;

@@ -30,9 +30,10 @@ pub struct MemoryDoor {
 }
 
 impl Model for MemoryDoor {
-    ghost use Rattle.std.specs.Prelude.{◌≤◌, IsTrue, map};
+    ghost use Rattle.std.specs.Prelude.{◌≡◌, ◌≤◌, IsTrue, None, map};
     ghost use Rattle.std.specs.List.{list_all};
     ghost use Rattle.std.specs.VecDeque.{deque_len};
+    ghost use Rattle.tide_edge.specs.Doors.{IsUntouched};
     ghost use Rattle.tide_edge.specs.Memory.{HeldDoor, are_pieces};
 
     ghost Value = { HeldDoor };
@@ -49,7 +50,8 @@ impl Model for MemoryDoor {
     } };
 
     ghost invariant = { λ d. (deque_len d.waiting ≤ d.replies.more)
-        × IsTrue (list_all (λ request. are_pieces request.items) d.waiting.items) };
+        × IsTrue (list_all (λ request. are_pieces request.items) d.waiting.items)
+        × (d.doorway.port ≡ None → IsUntouched d.doorway d.connections) };
 }
 
 impl MemoryDoor {
@@ -99,6 +101,7 @@ impl MemoryDoor {
 
 impl Door for MemoryDoor {
     ghost use Rattle.tide_edge.specs.Calls.{answer, is_to_fail};
+    ghost use Rattle.tide_edge.specs.Doors.{IsUntouched};
     ghost use Rattle.tide_edge.specs.Memory.{door_state, comes, after_listen, after_taking, line_count, line_read, after_line_read, is_shut, line_write, after_line_write, after_close};
 
     ghost state = { λ d. door_state d };
@@ -107,6 +110,7 @@ impl Door for MemoryDoor {
         requires { self.old.doorway.port ≡ None }
         ensures answer { result ≡ answer (is_to_fail self.old.calls) record {} }
         ensures after { self.new ≡ after_listen self.old port }
+        ensures untouched { IsUntouched self.old.doorway self.old.connections }
     {
         let outcome = self.calls.next();
         self.doorway = Doorway::asked(port, outcome.is_ok());

@@ -42,7 +42,7 @@ impl Reads {
         self.opens = one_more(self.opens);
     }
 
-    /// Counts a call of `read` that gave so many bytes, and answers how many.
+    /// Counts a call of `read` that gave `count` bytes, and returns `count`.
     pub(crate) fn read(&mut self, count: usize) -> usize
         ensures same { result ≡ count }
         ensures after { self.new ≡ one_reading count self.old }

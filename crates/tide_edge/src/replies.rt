@@ -30,7 +30,7 @@ impl Model for Replies {
 }
 
 impl Replies {
-    /// No reply yet, with memory for so many bytes and so many replies.
+    /// No reply yet, with memory for these counts of bytes and replies.
     pub(crate) fn new(alloc: Global, room: u64, more: usize) -> Result<Replies, AllocError>
         ensures { IfOk result (λ replies. replies ≡ record { replies = []; room = room; more = more }) }
     {

@@ -1,4 +1,4 @@
-//! Where bytes are written to.
+//! Writers of bytes.
 
 ghost use Rattle.std.specs.Prelude.{◌≡◌, ◌<◌, ◌≤◌, length, IfOk};
 ghost use Rattle.tide_edge.specs.SinkStates.{SinkState, sink_after_write};

@@ -1,0 +1,57 @@
+//! The open connection of a door of the machine, if there is one.
+
+ghost use Rattle.std.specs.Prelude.{◌≡◌, ◌<◌, ◌≤◌, length, IfOk, is_err};
+ghost use Rattle.std.specs.Io.KnownBytes.{ReadConsumes, WriteAppends};
+ghost use Rattle.tide_edge.specs.Adapters.{known_of};
+ghost use Rattle.tide_edge.specs.Faults.{faults_after};
+
+use crate::failed::Failed;
+use crate::host_fault::count_fault;
+use crate::host_line::HostLine;
+use std::io::{Read, Write};
+use std::net::OpenStream;
+use std::rt;
+
+/// The count of the bytes that came into the begin of `room`, with a failure counted.
+pub(crate) fn read_open<S: OpenStream + Read + Write + Drop>(
+    line: &mut Option<HostLine<S>>,
+    clock: &impl rt::Clock,
+    faults: &mut u64,
+    room: &mut [u8],
+) -> Result<usize, Failed>
+    ensures within { IfOk result (λ count. count ≤ length room.old) }
+    ensures counts { faults.new ≡ faults_after (is_err result) faults.old }
+    ensures tied { ReadConsumes (known_of S.remaining line.old) (known_of S.remaining line.new) result room.new }
+{
+    let Some(line) = line else {
+        return Err(count_fault(faults));
+    };
+    match line.read(clock, room) {
+        Ok(count) => Ok(count),
+        Err(_) => Err(count_fault(faults)),
+    }
+}
+
+/// The count of the first bytes of `piece` that were accepted, with a failure counted. A write that accepted none is one.
+pub(crate) fn write_open<S: OpenStream + Read + Write + Drop>(
+    line: &mut Option<HostLine<S>>,
+    clock: &impl rt::Clock,
+    faults: &mut u64,
+    piece: &[u8],
+) -> Result<usize, Failed>
+    ensures some { IfOk result (λ count. 0 < count) }
+    ensures within { IfOk result (λ count. count ≤ length piece.now) }
+    ensures counts { faults.new ≡ faults_after (is_err result) faults.old }
+    ensures tied { WriteAppends (known_of S.contents line.old) (known_of S.contents line.new) result piece.now }
+{
+    let Some(line) = line else {
+        return Err(count_fault(faults));
+    };
+    let Ok(count) = line.write(clock, piece) else {
+        return Err(count_fault(faults));
+    };
+    if count == 0 {
+        return Err(count_fault(faults));
+    }
+    Ok(count)
+}

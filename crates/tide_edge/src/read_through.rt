@@ -1,0 +1,31 @@
+//! One read of a file of the machine.
+
+ghost use Rattle.std.specs.Prelude.{◌<◌, ◌≤◌, length, IfOk};
+ghost use Rattle.std.specs.Io.KnownBytes.{ReadConsumes};
+ghost use Rattle.tide_edge.specs.Adapters.{left_of};
+
+use crate::failed::Failed;
+use std::io::Read;
+
+/// The count of the bytes that came into the begin of `room`: 0 at the end of the file, which is closed then, and if no file
+/// is open.
+pub(crate) fn read_through<F: Read + Drop>(
+    opened: &mut Option<F>,
+    room: &mut [u8],
+) -> Result<usize, Failed>
+    requires { 0 < length room.old }
+    ensures within { IfOk result (λ count. count ≤ length room.old) }
+    ensures through { ReadConsumes (left_of F.remaining opened.old) (left_of F.remaining opened.new) result room.new }
+{
+    let Some(file) = opened else {
+        return Ok(0);
+    };
+    let count = match file.read(room) {
+        Ok(count) => count,
+        Err(_) => return Err(Failed),
+    };
+    if count == 0 {
+        *opened = None;
+    }
+    Ok(count)
+}
