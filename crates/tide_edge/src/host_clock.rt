@@ -1,6 +1,7 @@
 //! The clock of the machine.
 
 ghost use Rattle.std.specs.Prelude.{◌≡◌, ◌/◌, ◌<◌, pos, false, [], IfSome, MatchOption};
+ghost use Rattle.std.specs.Time.{system_time_nanos};
 ghost use Rattle.tide_edge.specs.Clocks.{IsClockMinute};
 
 use crate::clock::Clock;
@@ -46,13 +47,23 @@ impl<R: rt::Clock + Drop> Clock for HostClock<R> {
     fn minute(&mut self) -> Result<i64, Failed> {
         self.asked = one_more(self.asked);
         if let Ok(now) = SystemTime::now(&self.system)
-            && let Ok(since) = now.duration_since(UNIX_EPOCH)
-            && let Some(minute) = minute_of(since.as_secs())
+            && let Some(minute) = minute_at(now)
         {
             self.given = self.given.then(&minute);
             return Ok(minute);
         }
         Err(count_fault(&mut self.faults))
+    }
+}
+
+/// The minute of `now`, if a clock may give it.
+fn minute_at(now: SystemTime) -> Option<i64>
+    ensures exact { MatchOption result (10000000000 < system_time_nanos now / 1000000000 / 60) (λ minute. minute ≡ pos (system_time_nanos now / 1000000000 / 60)) }
+    ensures in_range { IfSome result IsClockMinute }
+{
+    match now.duration_since(UNIX_EPOCH) {
+        Ok(since) => minute_of(since.as_secs()),
+        Err(_) => None,
     }
 }
 
