@@ -146,9 +146,14 @@ pub come_as : {T E S F : Type 0} (source : E → Source) (expected : Option (Lis
     (expected_also : Option (List ℕ) → Result S F) (limit : ℕ) (before after : Openings) (result : Result T E) (other : Result S F)
     → ((file : Option (List ℕ)) → Meets source (Unit {0}) (expected file) result → Meets also (Unit {0}) (expected_also file) other)
     → HasCome source expected limit before after result → HasCome also expected_also limit before after other
-come_as source expected also expected_also limit before after result other says (name, bytes, is_ended, fresh, come, meets) =
-    (name, bytes, is_ended, fresh, come,
-      says (as_came limit (record { name = name; is_open = true; bytes = bytes; is_ended = is_ended })) meets)
+come_as source expected also expected_also limit before after result other says (name, bytes, is_ended, fresh, come, meets) = (
+  name,
+  bytes,
+  is_ended,
+  fresh,
+  come,
+  says (as_came limit (record { name = name; is_open = true; bytes = bytes; is_ended = is_ended })) meets,
+)
 
 -- out of memory says nothing of what is expected
 pub memory_meets : {T E : Type 0} (source : E → Source) (expected result : Result T E) (fault : E) → IsErrAnd result (λ it. it ≡ fault)

@@ -1,5 +1,5 @@
 -- What reading a file to its end is to give, and what it takes of the files (this project).
-use Rattle.std.specs.Prelude.{◌≡◌, ◌⊎◌, ◌≤◌, ◌+◌, ℕ, Bool, true, false, nat_le, nat_lt, ◌&&◌, ◌||◌, if◌then◌else◌, List, length, Option, Some, None, Result, Ok, Err}
+use Rattle.std.specs.Prelude.{◌≡◌, ◌⊎◌, ◌≤◌, ◌+◌, ℕ, Bool, nat_le, nat_lt, ◌&&◌, ◌||◌, if◌then◌else◌, List, length, Option, Some, None, Result, Ok, Err}
 use Rattle.decimal_text.specs.Expected.{Source, Meets, memory, outside, given}
 use Rattle.tide_edge.specs.Faults.{faults_after}
 use Rattle.tide_edge.specs.FileStates.{FilesState, Opening, Openings, openings_of}
@@ -60,4 +60,4 @@ abbrev pub OpenedOnce : {T E : Type 0} → (E → Source) → (Option (List ℕ)
 OpenedOnce source expected limit name before after result =
     ((after ≡ before) × IsOutOfMemory source result)
     ⊎ ((opening : Opening) × (opening.name ≡ name) × (after ≡ record { earlier = openings_of before; latest = Some opening })
-        × Meets source (Unit {0}) (expected (as_came limit opening)) result)
+    × Meets source (Unit {0}) (expected (as_came limit opening)) result)

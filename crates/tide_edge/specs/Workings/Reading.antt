@@ -1,8 +1,8 @@
 -- Reading the open file on (this project).
-use Rattle.std.specs.Prelude.{◌≡◌, ◌≤◌, ◌+◌, ℕ, Bool, true, false, List, [], Option, Some, Result}
+use Rattle.std.specs.Prelude.{◌≡◌, ◌≤◌, ◌+◌, ℕ, Bool, true, List, Option, Some, Result}
 use Rattle.decimal_text.specs.Expected.{Source, Meets}
 use Rattle.tide_edge.specs.Faults.{faults_after}
-use Rattle.tide_edge.specs.FileStates.{FilesState, Opening, Openings, just_opened}
+use Rattle.tide_edge.specs.FileStates.{FilesState, Openings, just_opened}
 use Rattle.tide_edge.specs.Whole.{as_came}
 use Rattle.tide_edge.specs.declared.piece.TheConstants.{PIECE}
 

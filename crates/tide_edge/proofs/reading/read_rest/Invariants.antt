@@ -10,7 +10,8 @@ invariant-loop-bytes g l = record {
       → (g.F.Files.state l.initial.files).rest ≡ l.bytes.items ++ (g.F.Files.state l.files).rest;
   openings : (name : List ℕ) × ((g.F.Files.state l.initial.files).openings.latest ≡ Some (just_opened true name))
       × ((g.F.Files.state l.files).openings ≡ record (g.F.Files.state l.initial.files).openings {
-          latest = Some (record { name = name; is_open = true; bytes = l.bytes.items; is_ended = false }) });
+        latest = Some (record { name = name; is_open = true; bytes = l.bytes.items; is_ended = false });
+      });
   opens : (g.F.Files.state l.files).reads.opens ≡ (g.F.Files.state l.initial.files).reads.opens;
   ends : (g.F.Files.state l.files).reads.ends ≡ (g.F.Files.state l.initial.files).reads.ends;
   bytes : (g.F.Files.state l.files).reads.bytes ≤ (g.F.Files.state l.initial.files).reads.bytes + vec_len l.bytes;
