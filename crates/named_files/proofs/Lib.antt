@@ -1,2 +1,3 @@
+mod OpenedLemmas
 pub mod ReadingLemmas
 pub mod TellingLemmas

@@ -1,9 +1,6 @@
 -- How what was read follows from its steps.
-use Rattle.std.proofs.Common.{◌≡◌, ◌∙◌, ap, sym, ℕ, suc, ◌≤◌, nat_le, Bool, true, false, cond, List, length, Option, Some, None, Result, Ok, Err, refl, subst, arith}
-use Rattle.std.specs.Prelude.{replicate}
+use Rattle.std.proofs.Common.{◌≡◌, ◌∙◌, ap, sym, ℕ, nat_le, Bool, true, false, cond, List, length, Option, Some, None, Result, Ok, Err, refl, subst}
 use Rattle.std.specs.Result.{IsErrAnd}
-use Rattle.std.proofs.lemmas.Bool.{le-leb, lt-leb}
-use Rattle.std.proofs.lemmas.List.{length-replicate}
 use Rattle.decimal_text.specs.Expected.{◌>>=◌, Excused, Gives}
 use Rattle.harmonics_text.specs.declared.book.Book.{Book as TheBook}
 use Rattle.harmonics_text.specs.declared.fault.BookFault.TheVariants as form
@@ -14,7 +11,7 @@ use Rattle.book_loading.specs.declared.loading.LoadFault.TheVariants as load
 use Rattle.tide_fault.specs.declared.slot.Slot.{Slot}
 use Rattle.tide_fault.specs.declared.slot.Slot.TheVariants.{File, Offsets, Zone, Certificate}
 use Rattle.tide_fault.specs.Faults.{wants_memory as fault_wants_memory, wants_memory_of_refusal}
-use Rattle.book_loading.specs.Loading.{loaded, bytes_from as load_bytes_from, book_from as load_book_from, source_of as source_of_loading, wants_memory as load_wants_memory}
+use Rattle.book_loading.specs.Loading.{loaded, bytes_from as load_bytes_from, book_from as load_book_from, source_of as source_of_loading}
 use Rattle.tide_edge.specs.declared.read_all_fault.ReadAllFault.{ReadAllFault}
 use Rattle.tide_edge.specs.declared.read_all_fault.ReadAllFault.TheVariants as reading
 use Rattle.decimal_text.specs.Expected.{Source, memory, outside, given, Excuses, Meets}
@@ -28,7 +25,7 @@ use Rattle.tide_edge.proofs.ReadingLemmas.{read_more, read_then}
 use Rattle.named_files.specs.declared.no_answer.NoAnswer.{NoAnswer}
 use Rattle.named_files.specs.declared.no_answer.NoAnswer.TheVariants.{Unread, Told, Refused}
 use Rattle.named_files.specs.NoAnswers.{IsOf, file_of, is_unread, reading_failed, source_of, told, wants_memory}
-use Rattle.named_files.specs.Readings.{Folders, allowed_for, allowed_to, files_allowed, zone_file, book_from, book_named, bytes_from, bytes_of, fault_of_loading, fault_of_reading, limit_of}
+use Rattle.named_files.specs.Readings.{allowed_for, allowed_to, files_allowed, zone_file, book_from, book_named, bytes_from, bytes_of, fault_of_loading, fault_of_reading, limit_of}
 
 -- ---- Steps, one after the other
 
@@ -82,27 +79,14 @@ excuses_weaker firm weaker given expected none implies excused = excused
 
 -- ---- The bytes of a file
 
-long_file : (limit : ℕ) → (file : Option (List ℕ)) × (whole limit file ≡ Err reading.TooLong)
-long_file limit =
-    let bytes : List ℕ = replicate (suc limit) 0 in
-    (Some bytes, rw (lt-leb (length bytes) limit (omega (arith, length-replicate {A = ℕ} (suc limit) 0))) refl)
-
 pub excuses_bytes : (firm : Type 0) (slot : Slot) (file : Option (List ℕ)) (fault : ReadAllFault) → Excuses (source_of_reading fault) firm (whole (limit_of slot) file) fault → Excuses (source_of (fault_of_reading slot fault)) firm (bytes_of slot file) (fault_of_reading slot fault)
 excuses_bytes firm slot file reading.Failed excused = λ s. rw (excused s) refl
 excuses_bytes firm slot file reading.TooLong excused = rw excused refl
 excuses_bytes firm slot file reading.NoMemory excused = tt
 
-pub some_bytes : (slot : Slot) (bytes : List ℕ) → length bytes ≤ limit_of slot → bytes_of slot (Some bytes) ≡ Ok bytes
-some_bytes slot bytes within = rw (le-leb (length bytes) (limit_of slot) within) refl
-
-pub some_fault : (slot : Slot) (fault : ReadAllFault) → (file : Option (List ℕ)) × Excuses (source_of (fault_of_reading slot fault)) (Unit {0}) (bytes_of slot file) (fault_of_reading slot fault)
-some_fault slot reading.Failed = (None, λ f. refl)
-some_fault slot reading.TooLong = let long = long_file (limit_of slot) in (long.0, rw long.1 refl)
-some_fault slot reading.NoMemory = (None, tt)
-
 -- ---- The book, which is loaded in pieces
 
-named_from : Result TheBook LoadFault → Result TheBook NoAnswer
+unfoldable pub named_from : Result TheBook LoadFault → Result TheBook NoAnswer
 named_from (Ok book) = Ok book
 named_from (Err fault) = Err (fault_of_loading fault)
 
@@ -135,21 +119,6 @@ excuses_book firm folder name load.Failed excused = λ s. named_as_loaded folder
 excuses_book firm folder name load.TooLong excused = named_as_loaded folder name (Err load.TooLong) excused
 excuses_book firm folder name (load.Book form.NoMemory) excused = tt
 excuses_book firm folder name (load.Book (form.At line why)) excused = named_as_loaded folder name (Err (load.Book (form.At line why))) excused
-
-pub some_book : (folder : Folder) (name : List ℕ) (fault : LoadFault) → Excused (load_wants_memory fault) (loaded (limit_of File) (folder name)) fault → Excuses (source_of (fault_of_loading fault)) (Unit {0}) (book_named folder name) (fault_of_loading fault)
-unfolding named_from
-some_book folder name load.Failed excused = λ f. named_as_loaded folder name (Err load.Failed) excused
-some_book folder name load.TooLong excused = named_as_loaded folder name (Err load.TooLong) excused
-some_book folder name (load.Book form.NoMemory) excused = tt
-some_book folder name (load.Book (form.At line why)) excused = named_as_loaded folder name (Err (load.Book (form.At line why))) excused
-
--- ---- What was read of each file, together
-
-abbrev pub by_slot : Folder → Folder → Folder → Folder → Folders
-by_slot file offsets zone certificate File = file
-by_slot file offsets zone certificate Offsets = offsets
-by_slot file offsets zone certificate Zone = zone
-by_slot file offsets zone certificate Certificate = certificate
 
 -- ---- How much was read before a fault
 

@@ -1,4 +1,5 @@
 pub mod NoAnswers
+pub mod Opened
 pub mod Readings
 pub mod Telling
 pub mod Worked

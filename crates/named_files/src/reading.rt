@@ -1,15 +1,15 @@
 //! Reading the files of a question.
 
-ghost use Rattle.std.specs.Prelude.{◌≡◌, ◌≤◌, ℕ, false, IsTrue, length, List, Option, IfOk, IfErr};
+ghost use Rattle.std.specs.Prelude.{◌≡◌, ◌≤◌, false, IsTrue, length, Some, IfOk, IfErr};
 ghost use Rattle.decimal_text.specs.Expected.{Gives};
 ghost use Rattle.harmonics_text.specs.Books.{IsBook};
 ghost use Rattle.question.specs.Asked.{IsZoneWord};
 ghost use Rattle.station_table.specs.Table.{table_of};
 ghost use Rattle.zone_time.specs.Zones.{IsZone, zone_of};
-ghost use Rattle.tide_edge.specs.FileStates.{Folder};
 ghost use Rattle.tide_edge.specs.Whole.{ReadWithin, one_file};
 ghost use Rattle.named_files.specs.NoAnswers.{IsOf, IsTold, file_of, is_unread, reading_failed, source_of, wants_memory};
-ghost use Rattle.named_files.specs.Readings.{Folders, allowed_for, allowed_to, files_allowed, zone_file, limit_of, fault_of_reading, bytes_of, book_named, table_from, table_named, zone_from, zone_named, certificate_named, files_in};
+ghost use Rattle.named_files.specs.Opened.{AreOpened, Opened};
+ghost use Rattle.named_files.specs.Readings.{allowed_for, allowed_to, files_allowed, zone_file, limit_of, fault_of_reading, bytes_of, book_named, table_from, table_named, zone_from, zone_named, certificate_named, files_in};
 ghost use Rattle.named_files.specs.Workings.Materials.{AreMaterials};
 ghost use Rattle.decimal_text.specs.Expected.{Meets};
 ghost use Rattle.decimal_text.specs.declared.limits.TheConstants.{MOST_BYTES};
@@ -38,7 +38,7 @@ pub fn read_files<F: Files>(
 ) -> Result<Materials, NoAnswer>
     ensures own { IsTrue (F.state files.old).store.is_observable
         → Meets source_of (IsTrue (F.state files.old).store.is_steady) (files_in (λ slot. (F.state files.old).store.folder) question.now name.now) result }
-    ensures some { (folders : Folders) × Meets source_of (Unit {0}) (files_in folders question.now name.now) result }
+    ensures opened { AreOpened question.now name.now (F.state files.old).openings (F.state files.new).openings result }
     ensures sound { IfOk result AreMaterials }
     ensures told { IfErr result IsTold }
     ensures read { ReadWithin (files_allowed question.now) (reading_failed result) (F.state files.old) (F.state files.new) }
@@ -61,7 +61,7 @@ pub fn read_files<F: Files>(
 pub fn read_book<F: Files>(alloc: Global, files: &mut F, name: &Text) -> Result<Book, NoAnswer>
     ensures own { IsTrue (F.state files.old).store.is_observable
         → Meets source_of (IsTrue (F.state files.old).store.is_steady) (book_named (F.state files.old).store.folder name.now) result }
-    ensures some { (folder : Folder) × Meets source_of (Unit {0}) (book_named folder name.now) result }
+    ensures opened { Opened Slot.File (Some name.now) (λ file. book_named (λ _. file) name.now) (F.state files.old).openings (F.state files.new).openings result }
     ensures sound { IfOk result IsBook }
     ensures told { IfErr result IsTold }
     ensures read { ReadWithin (one_file (limit_of Slot.File)) (reading_failed result) (F.state files.old) (F.state files.new) }
@@ -81,7 +81,7 @@ pub fn read_table<F: Files>(
 ) -> Result<OffsetTable, NoAnswer>
     ensures own { IsTrue (F.state files.old).store.is_observable
         → Meets source_of (IsTrue (F.state files.old).store.is_steady) (table_named (F.state files.old).store.folder name.now) result }
-    ensures some { (folder : Folder) × Meets source_of (Unit {0}) (table_named folder name.now) result }
+    ensures opened { Opened Slot.Offsets name.now (λ file. table_named (λ _. file) name.now) (F.state files.old).openings (F.state files.new).openings result }
     ensures told { IfErr result IsTold }
     ensures read { ReadWithin (allowed_for Slot.Offsets name.now) (reading_failed result) (F.state files.old) (F.state files.new) }
     ensures fault { IfErr result (IsOf Slot.Offsets) }
@@ -117,7 +117,7 @@ fn read_zone_named<F: Files>(
     requires { IsZoneWord word.now }
     ensures own { IsTrue (F.state files.old).store.is_observable
         → Meets source_of (IsTrue (F.state files.old).store.is_steady) (zone_named (F.state files.old).store.folder word.now) result }
-    ensures some { (folder : Folder) × Meets source_of (Unit {0}) (zone_named folder word.now) result }
+    ensures opened { Opened Slot.Zone (zone_file word.now) (λ file. zone_named (λ _. file) word.now) (F.state files.old).openings (F.state files.new).openings result }
     ensures sound { IfOk result IsZone }
     ensures told { IfErr result IsTold }
     ensures read { ReadWithin (allowed_for Slot.Zone (zone_file word.now)) (reading_failed result) (F.state files.old) (F.state files.new) }
@@ -155,7 +155,7 @@ fn read_certificate<F: Files>(
 ) -> Result<Bytes, NoAnswer>
     ensures own { IsTrue (F.state files.old).store.is_observable
         → Meets source_of (IsTrue (F.state files.old).store.is_steady) (certificate_named (F.state files.old).store.folder name.now) result }
-    ensures some { (folder : Folder) × Meets source_of (Unit {0}) (certificate_named folder name.now) result }
+    ensures opened { Opened Slot.Certificate name.now (λ file. certificate_named (λ _. file) name.now) (F.state files.old).openings (F.state files.new).openings result }
     ensures within { IfOk result (λ bytes. length bytes ≤ MOST_BYTES) }
     ensures told { IfErr result IsTold }
     ensures read { ReadWithin (allowed_for Slot.Certificate name.now) (reading_failed result) (F.state files.old) (F.state files.new) }
@@ -176,7 +176,7 @@ fn read_file<F: Files>(
 ) -> Result<Bytes, NoAnswer>
     ensures own { IsTrue (F.state files.old).store.is_observable
         → Meets source_of (IsTrue (F.state files.old).store.is_steady) (bytes_of slot ((F.state files.old).store.folder name.now)) result }
-    ensures some { (file : Option (List ℕ)) × Meets source_of (Unit {0}) (bytes_of slot file) result }
+    ensures opened { Opened slot (Some name.now) (bytes_of slot) (F.state files.old).openings (F.state files.new).openings result }
     ensures within { IfOk result (λ bytes. length bytes ≤ limit_of slot) }
     ensures told { IfErr result IsTold }
     ensures read { ReadWithin (one_file (limit_of slot)) (reading_failed result) (F.state files.old) (F.state files.new) }

@@ -1,4 +1,6 @@
 use Rattle.std.proofs.Common.{None, refl}
+use Rattle.tide_fault.specs.declared.slot.Slot.TheVariants.{Certificate}
+use Rattle.named_files.proofs.OpenedLemmas.{opened_none}
 use Rattle.named_files.specs.Readings.{certificate_named}
 use Rattle.named_files.proofs.reading.read_certificate.Goals as goal
 
@@ -6,15 +8,16 @@ pub returns-in-Some-clause-own : goal.returns-in-Some-clause-own
 unfolding certificate_named
 returns-in-Some-clause-own g c = λ t. rw c.in-Some.is (c.read_file.ensures.own t)
 
-pub returns-in-Some-clause-some : goal.returns-in-Some-clause-some
+pub returns-in-Some-clause-opened : goal.returns-in-Some-clause-opened
 unfolding certificate_named
-returns-in-Some-clause-some g c =
-    let some = c.read_file.ensures.some in (λ _. some.0, rw c.in-Some.is some.1)
+returns-in-Some-clause-opened g c = rw c.in-Some.is c.read_file.ensures.opened
 
 pub returns-in-None-clause-own : goal.returns-in-None-clause-own
 unfolding certificate_named
 returns-in-None-clause-own g c = λ t. rw (c.in-None.is, c.from_vec.ensures, c.new.ensures.items) refl
 
-pub returns-in-None-clause-some : goal.returns-in-None-clause-some
+pub returns-in-None-clause-opened : goal.returns-in-None-clause-opened
 unfolding certificate_named
-returns-in-None-clause-some g c = (λ _. None, rw (c.in-None.is, c.from_vec.ensures, c.new.ensures.items) refl)
+returns-in-None-clause-opened g c =
+    rw c.in-None.is
+    (opened_none Certificate (λ file. certificate_named (λ _. file) None) (g.F.Files.state c.args.files.now).openings _ (λ file. rw (c.from_vec.ensures, c.new.ensures.items) refl))

@@ -1,4 +1,5 @@
-use Rattle.std.proofs.Common.{None, refl}
+use Rattle.std.proofs.Common.{Some, None, Ok, Err, refl}
+use Rattle.named_files.proofs.OpenedLemmas.{always_whole, never_whole, opened_as, opened_none}
 use Rattle.std.specs.Bool.{IsTrue}
 use Rattle.tide_fault.specs.declared.slot.Slot.TheVariants.{Offsets}
 use Rattle.named_files.specs.Readings.{bytes_of, table_named}
@@ -11,29 +12,51 @@ returns-in_err-bytes-in-Some-clause-own g c =
     λ t. rw c.in-Some.is
     (meets_at (IsTrue (g.F.Files.state c.args.files.now).store.is_steady) (bytes_of Offsets ((g.F.Files.state c.args.files.now).store.folder c.in-Some.name)) _ c.from_residual.result _ c.from_residual.ensures.1 (c.in_err-bytes-in-Some.ensures.own t))
 
-pub returns-in_err-bytes-in-Some-clause-some : goal.returns-in_err-bytes-in-Some-clause-some
+pub returns-in_err-bytes-in-Some-clause-opened : goal.returns-in_err-bytes-in-Some-clause-opened
 unfolding table_named
-returns-in_err-bytes-in-Some-clause-some g c =
-    let some = c.in_err-bytes-in-Some.ensures.some in (
-      λ _. some.0,
-      rw c.in-Some.is (meets_at (Unit {0}) (bytes_of Offsets some.0) _ c.from_residual.result _ c.from_residual.ensures.1 some.1),
-    )
+returns-in_err-bytes-in-Some-clause-opened g c =
+    rw c.in-Some.is
+    (opened_as
+    Offsets
+    (Some c.in-Some.name)
+    (bytes_of Offsets)
+    (λ file. table_named (λ _. file) (Some c.in-Some.name))
+    (g.F.Files.state c.args.files.now).openings
+    _
+    (Err c.in_err-bytes-in-Some.field-0.0)
+    c.from_residual.result
+    (λ file meets. meets_at (Unit {0}) (bytes_of Offsets file) _ c.from_residual.result _ c.from_residual.ensures.1 meets)
+    (λ left whole. never_whole _ c.from_residual.result _ c.from_residual.ensures.1)
+    c.in_err-bytes-in-Some.ensures.opened)
 
 pub returns-in_ok-bytes-in-Some-clause-own : goal.returns-in_ok-bytes-in-Some-clause-own
 unfolding table_named
 returns-in_ok-bytes-in-Some-clause-own g c =
     λ t. rw (c.in-Some.is, c.in_ok-bytes-in-Some.ensures.own t) (meets_inside _ _ c.table_in.result c.table_in.ensures.exact)
 
-pub returns-in_ok-bytes-in-Some-clause-some : goal.returns-in_ok-bytes-in-Some-clause-some
+pub returns-in_ok-bytes-in-Some-clause-opened : goal.returns-in_ok-bytes-in-Some-clause-opened
 unfolding table_named
-returns-in_ok-bytes-in-Some-clause-some g c =
-    let some = c.in_ok-bytes-in-Some.ensures.some in
-    (λ _. some.0, rw (c.in-Some.is, some.1) (meets_inside _ _ c.table_in.result c.table_in.ensures.exact))
+returns-in_ok-bytes-in-Some-clause-opened g c =
+    rw c.in-Some.is
+    (opened_as
+    Offsets
+    (Some c.in-Some.name)
+    (bytes_of Offsets)
+    (λ file. table_named (λ _. file) (Some c.in-Some.name))
+    (g.F.Files.state c.args.files.now).openings
+    _
+    (Ok c.in_ok-bytes-in-Some.bytes)
+    c.table_in.result
+    (λ file meets. rw meets (meets_inside _ _ c.table_in.result c.table_in.ensures.exact))
+    (λ left whole. always_whole _ c.table_in.result whole)
+    c.in_ok-bytes-in-Some.ensures.opened)
 
 pub returns-in-None-clause-own : goal.returns-in-None-clause-own
 unfolding table_named
 returns-in-None-clause-own g c = λ t. rw (c.in-None.is, c.new.ensures) refl
 
-pub returns-in-None-clause-some : goal.returns-in-None-clause-some
+pub returns-in-None-clause-opened : goal.returns-in-None-clause-opened
 unfolding table_named
-returns-in-None-clause-some g c = (λ _. None, rw (c.in-None.is, c.new.ensures) refl)
+returns-in-None-clause-opened g c =
+    rw c.in-None.is
+    (opened_none Offsets (λ file. table_named (λ _. file) None) (g.F.Files.state c.args.files.now).openings _ (λ file. rw c.new.ensures refl))

@@ -1,4 +1,6 @@
-use Rattle.std.proofs.Common.{None, refl, rules}
+use Rattle.std.proofs.Common.{Some, Ok, Err, refl, rules}
+use Rattle.question.specs.declared.question.ZoneWord.TheVariants as words
+use Rattle.named_files.proofs.OpenedLemmas.{always_whole, never_whole, opened_as, opened_none}
 use Rattle.std.specs.Bool.{IsTrue}
 use Rattle.tide_fault.specs.declared.slot.Slot.TheVariants.{Zone}
 use Rattle.named_files.specs.Readings.{bytes_of, zone_named}
@@ -11,37 +13,60 @@ returns-in_err-bytes-in-Named-clause-own g c =
     λ t. rw c.in-Named.is
     (meets_at (IsTrue (g.F.Files.state c.args.files.now).store.is_steady) (bytes_of Zone ((g.F.Files.state c.args.files.now).store.folder c.in-Named.name)) _ c.from_residual.result _ c.from_residual.ensures.1 (c.in_err-bytes-in-Named.ensures.own t))
 
-pub returns-in_err-bytes-in-Named-clause-some : goal.returns-in_err-bytes-in-Named-clause-some
+pub returns-in_err-bytes-in-Named-clause-opened : goal.returns-in_err-bytes-in-Named-clause-opened
 unfolding zone_named
-returns-in_err-bytes-in-Named-clause-some g c =
-    let some = c.in_err-bytes-in-Named.ensures.some in (
-      λ _. some.0,
-      rw c.in-Named.is (meets_at (Unit {0}) (bytes_of Zone some.0) _ c.from_residual.result _ c.from_residual.ensures.1 some.1),
-    )
+returns-in_err-bytes-in-Named-clause-opened g c =
+    rw c.in-Named.is
+    (opened_as
+    Zone
+    (Some c.in-Named.name)
+    (bytes_of Zone)
+    (λ file. zone_named (λ _. file) (words.Named c.in-Named.name))
+    (g.F.Files.state c.args.files.now).openings
+    _
+    (Err c.in_err-bytes-in-Named.field-0.0)
+    c.from_residual.result
+    (λ file meets. meets_at (Unit {0}) (bytes_of Zone file) _ c.from_residual.result _ c.from_residual.ensures.1 meets)
+    (λ left whole. never_whole _ c.from_residual.result _ c.from_residual.ensures.1)
+    c.in_err-bytes-in-Named.ensures.opened)
 
 pub returns-in_ok-bytes-in-Named-clause-own : goal.returns-in_ok-bytes-in-Named-clause-own
 unfolding zone_named
 returns-in_ok-bytes-in-Named-clause-own g c =
     λ t. rw (c.in-Named.is, c.in_ok-bytes-in-Named.ensures.own t) (meets_inside _ _ c.zone_in.result c.zone_in.ensures.exact)
 
-pub returns-in_ok-bytes-in-Named-clause-some : goal.returns-in_ok-bytes-in-Named-clause-some
+pub returns-in_ok-bytes-in-Named-clause-opened : goal.returns-in_ok-bytes-in-Named-clause-opened
 unfolding zone_named
-returns-in_ok-bytes-in-Named-clause-some g c =
-    let some = c.in_ok-bytes-in-Named.ensures.some in
-    (λ _. some.0, rw (c.in-Named.is, some.1) (meets_inside _ _ c.zone_in.result c.zone_in.ensures.exact))
+returns-in_ok-bytes-in-Named-clause-opened g c =
+    rw c.in-Named.is
+    (opened_as
+    Zone
+    (Some c.in-Named.name)
+    (bytes_of Zone)
+    (λ file. zone_named (λ _. file) (words.Named c.in-Named.name))
+    (g.F.Files.state c.args.files.now).openings
+    _
+    (Ok c.in_ok-bytes-in-Named.bytes)
+    c.zone_in.result
+    (λ file meets. rw meets (meets_inside _ _ c.zone_in.result c.zone_in.ensures.exact))
+    (λ left whole. always_whole _ c.zone_in.result whole)
+    c.in_ok-bytes-in-Named.ensures.opened)
 
 pub returns-in-Utc-clause-own : goal.returns-in-Utc-clause-own
 unfolding zone_named
 returns-in-Utc-clause-own g c = λ t. rw c.in-Utc.is refl
 
-pub returns-in-Utc-clause-some : goal.returns-in-Utc-clause-some
+pub returns-in-Utc-clause-opened : goal.returns-in-Utc-clause-opened
 unfolding zone_named
-returns-in-Utc-clause-some g c = (λ _. None, rw c.in-Utc.is refl)
+returns-in-Utc-clause-opened g c =
+    rw c.in-Utc.is (opened_none Zone (λ file. zone_named (λ _. file) words.Utc) (g.F.Files.state c.args.files.now).openings _ (λ file. refl))
 
 pub returns-in-Fixed-clause-own : goal.returns-in-Fixed-clause-own
 unfolding zone_named
 returns-in-Fixed-clause-own g c = λ t. rw c.in-Fixed.is (search rules)
 
-pub returns-in-Fixed-clause-some : goal.returns-in-Fixed-clause-some
+pub returns-in-Fixed-clause-opened : goal.returns-in-Fixed-clause-opened
 unfolding zone_named
-returns-in-Fixed-clause-some g c = (λ _. None, rw c.in-Fixed.is (search rules))
+returns-in-Fixed-clause-opened g c =
+    rw c.in-Fixed.is
+    (opened_none Zone (λ file. zone_named (λ _. file) (words.Fixed c.in-Fixed.minutes)) (g.F.Files.state c.args.files.now).openings _ (λ file. search rules))

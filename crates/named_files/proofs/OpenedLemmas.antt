@@ -1,0 +1,413 @@
+-- What was opened of one file, and of one after the other.
+use Rattle.std.proofs.Common.{◌≡◌, ◌∙◌, ap, sym, ℕ, ◌+◌, List, [], ◌∷◌, ◌++◌, length, map, Option, Some, None, Result, Ok, Err, inl, inr, refl, append_assoc, append-nil, suc}
+use Rattle.std.specs.Prelude.{OnOk, slice_get}
+use Rattle.std.specs.Result.{IsErrAnd}
+use Rattle.book_loading.specs.declared.loading.LoadFault.{LoadFault}
+use Rattle.book_loading.specs.declared.loading.LoadFault.TheVariants as load
+use Rattle.book_loading.specs.Loading.{loaded, source_of as source_of_loading}
+use Rattle.decimal_text.specs.Expected.{Meets, Source, memory, outside, given}
+use Rattle.harmonics_text.specs.declared.book.Book.{Book as TheBook}
+use Rattle.harmonics_text.specs.declared.fault.BookFault.TheVariants as form
+use Rattle.question.specs.declared.question.Question.{Question}
+use Rattle.question.specs.declared.question.ZoneWord.{ZoneWord}
+use Rattle.station_table.specs.declared.offsets.Offsets.{Offsets as Row}
+use Rattle.std.specs.Option.{ForSome}
+use Rattle.std.proofs.lemmas.List.{length-append}
+use Rattle.tide_edge.specs.FileStates.{Opening, Openings, listed, openings_of}
+use Rattle.tide_edge.specs.Whole.{IsOutOfMemory, OpenedOnce, as_came, whole, source_of as source_of_reading}
+use Rattle.tide_edge.specs.declared.read_all_fault.ReadAllFault.{ReadAllFault}
+use Rattle.tide_edge.specs.declared.read_all_fault.ReadAllFault.TheVariants as reading
+use Rattle.tide_fault.specs.declared.slot.Slot.{Slot}
+use Rattle.zone_time.specs.declared.zone.Zone.{Zone as TheZone}
+use Rattle.tide_fault.specs.declared.slot.Slot.TheVariants.{File, Offsets, Zone, Certificate}
+use Rattle.named_files.specs.declared.no_answer.NoAnswer.{NoAnswer}
+use Rattle.named_files.specs.NoAnswers.{IsOf, file_of, source_of}
+use Rattle.named_files.specs.Opened.{AreOpened, IsShown, Opened, folders_shown, index_of, names_of, names_to, shown}
+use Rattle.named_files.specs.declared.materials.Materials.{Materials}
+use Rattle.named_files.specs.Readings.{book_named, bytes_from, bytes_of, certificate_named, files_in, limit_of, table_named, zone_file, zone_named}
+use Rattle.named_files.proofs.ReadingLemmas.{excuses_book, excuses_bytes, meets_at, named_book, named_from}
+
+out_of_memory_meets : {T : Type 0} (expected result : Result T NoAnswer) → IsOutOfMemory source_of result → Meets source_of (Unit {0}) expected result
+out_of_memory_meets expected (Ok value) of_memory = absurd of_memory
+out_of_memory_meets expected (Err none) of_memory = rw of_memory tt
+
+out_of_memory_whole : {T : Type 0} (P : Type 0) (result : Result T NoAnswer) → IsOutOfMemory source_of result → OnOk result P
+out_of_memory_whole P (Ok value) of_memory = absurd of_memory
+out_of_memory_whole P (Err none) of_memory = tt
+
+pub always_whole : {T : Type 0} (P : Type 0) (result : Result T NoAnswer) → P → OnOk result P
+always_whole P (Ok value) p = p
+always_whole P (Err none) p = tt
+
+pub never_whole : {T : Type 0} (P : Type 0) (result : Result T NoAnswer) (none : NoAnswer) → IsErrAnd result (λ e. e ≡ none) → OnOk result P
+never_whole P (Ok value) none is = absurd is
+never_whole P (Err it) none is = tt
+
+-- a file that is named
+pub opened_named : {T : Type 0} (slot : Slot) (name : List ℕ) (expected : Option (List ℕ) → Result T NoAnswer) (before after : Openings)
+    (result : Result T NoAnswer) → OpenedOnce source_of expected (limit_of slot) name before after result
+    → Opened slot (Some name) expected before after result
+opened_named slot name expected before after result (inl (same, of_memory)) = record {
+  openings = [];
+  unopened = name ∷ [];
+  all = ap openings_of same ∙ sym (append-nil (openings_of before));
+  names = refl;
+  whole = out_of_memory_whole _ result of_memory;
+  answer = λ file is. out_of_memory_meets (expected file) result of_memory;
+}
+opened_named slot name expected before after result (inr (opening, named, is, meets)) = record {
+  openings = opening ∷ [];
+  unopened = [];
+  all = ap openings_of is;
+  names = ap (λ n. n ∷ []) (sym named);
+  whole = always_whole _ result refl;
+  answer = λ file shows. rw shows meets;
+}
+
+-- none
+pub opened_none : {T : Type 0} (slot : Slot) (expected : Option (List ℕ) → Result T NoAnswer) (before : Openings) (result : Result T NoAnswer)
+    → ((file : Option (List ℕ)) → Meets source_of (Unit {0}) (expected file) result) → Opened slot None expected before before result
+opened_none slot expected before result meets = record {
+  openings = [];
+  unopened = [];
+  all = sym (append-nil (openings_of before));
+  names = refl;
+  whole = always_whole _ result refl;
+  answer = λ file is. meets file;
+}
+
+-- what is expected of a file says what else is
+pub opened_as : {T S : Type 0} (slot : Slot) (name : Option (List ℕ)) (expected : Option (List ℕ) → Result T NoAnswer)
+    (also : Option (List ℕ) → Result S NoAnswer) (before after : Openings) (result : Result T NoAnswer) (other : Result S NoAnswer)
+    → ((file : Option (List ℕ)) → Meets source_of (Unit {0}) (expected file) result → Meets source_of (Unit {0}) (also file) other)
+    → ((left : List (List ℕ)) → OnOk result (left ≡ []) → OnOk other (left ≡ []))
+    → Opened slot name expected before after result → Opened slot name also before after other
+opened_as slot name expected also before after result other says whole o = record {
+  openings = o.openings;
+  unopened = o.unopened;
+  all = o.all;
+  names = o.names;
+  whole = whole o.unopened o.whole;
+  answer = λ file is. says file (o.answer file is);
+}
+
+-- the same of a file that is named, whatever the fault of reading it
+pub opened_once_as : {T E S : Type 0} (slot : Slot) (name : List ℕ) (source : E → Source) (expected : Option (List ℕ) → Result T E)
+    (also : Option (List ℕ) → Result S NoAnswer) (before after : Openings) (result : Result T E) (other : Result S NoAnswer)
+    → ((file : Option (List ℕ)) → Meets source (Unit {0}) (expected file) result → Meets source_of (Unit {0}) (also file) other)
+    → (IsOutOfMemory source result → IsOutOfMemory source_of other)
+    → OpenedOnce source expected (limit_of slot) name before after result → OpenedOnce source_of also (limit_of slot) name before after other
+opened_once_as slot name source expected also before after result other says out (inl (same, of_memory)) = inl (same, out of_memory)
+opened_once_as slot name source expected also before after result other says out (inr (opening, named, is, meets)) =
+    inr (opening, named, is, says (as_came (limit_of slot) opening) meets)
+
+-- what stands at an index behind as many
+get_behind : (before : List Opening) (here : Opening) (more : List Opening) → slice_get (before ++ here ∷ more) (length before) ≡ Some here
+get_behind [] here more = refl
+get_behind (first ∷ before) here more = get_behind before here more
+
+-- openings in their place show their file
+pub shown_at : (slot : Slot) (before here more : List Opening) (index : ℕ) → index ≡ length before
+    → IsShown slot here (shown slot (slice_get (before ++ (here ++ more)) index))
+shown_at slot before [] more index at = tt
+shown_at slot before (opening ∷ rest) more index at = rw at (ap (shown slot) (get_behind before opening (rest ++ more)))
+
+-- ---- What is read of a file, by what was read of its bytes
+
+memory_of_bytes : (slot : Slot) (result : Result (List ℕ) ReadAllFault) → IsOutOfMemory source_of_reading result
+    → IsOutOfMemory source_of (bytes_from slot result)
+memory_of_bytes slot (Ok bytes) out = absurd out
+memory_of_bytes slot (Err reading.NoMemory) out = refl
+memory_of_bytes slot (Err reading.Failed) out = let no : outside ≡ memory = out in cc
+memory_of_bytes slot (Err reading.TooLong) out = let no : given ≡ memory = out in cc
+
+bytes_meet : (slot : Slot) (file : Option (List ℕ)) (result : Result (List ℕ) ReadAllFault)
+    → Meets source_of_reading (Unit {0}) (whole (limit_of slot) file) result → Meets source_of (Unit {0}) (bytes_of slot file) (bytes_from slot result)
+bytes_meet slot file (Ok bytes) meets = rw meets refl
+bytes_meet slot file (Err fault) meets = excuses_bytes (Unit {0}) slot file fault meets
+
+pub opened_bytes : (slot : Slot) (name : List ℕ) (before after : Openings) (result : Result (List ℕ) ReadAllFault)
+    → OpenedOnce source_of_reading (whole (limit_of slot)) (limit_of slot) name before after result
+    → Opened slot (Some name) (bytes_of slot) before after (bytes_from slot result)
+opened_bytes slot name before after result once =
+    opened_named slot name (bytes_of slot) before after (bytes_from slot result)
+    (opened_once_as slot name source_of_reading (whole (limit_of slot)) (bytes_of slot) before after result (bytes_from slot result)
+    (λ file meets. bytes_meet slot file result meets) (memory_of_bytes slot result) once)
+
+memory_of_book : (result : Result TheBook LoadFault) → IsOutOfMemory source_of_loading result → IsOutOfMemory source_of (named_from result)
+unfolding named_from
+memory_of_book (Ok book) out = absurd out
+memory_of_book (Err load.Failed) out = let no : outside ≡ memory = out in cc
+memory_of_book (Err load.TooLong) out = let no : given ≡ memory = out in cc
+memory_of_book (Err (load.Book form.NoMemory)) out = refl
+memory_of_book (Err (load.Book (form.At line why))) out = let no : given ≡ memory = out in cc
+
+book_meets : (name : List ℕ) (file : Option (List ℕ)) (result : Result TheBook LoadFault)
+    → Meets source_of_loading (Unit {0}) (loaded (limit_of File) file) result → Meets source_of (Unit {0}) (book_named (λ _. file) name) (named_from result)
+unfolding named_from
+book_meets name file (Ok book) meets = named_book (λ _. file) name book meets
+book_meets name file (Err fault) meets = excuses_book (Unit {0}) (λ _. file) name fault meets
+
+pub opened_book : (name : List ℕ) (before after : Openings) (result : Result TheBook LoadFault)
+    → OpenedOnce source_of_loading (loaded (limit_of File)) (limit_of File) name before after result
+    → Opened File (Some name) (λ file. book_named (λ _. file) name) before after (named_from result)
+opened_book name before after result once =
+    opened_named File name (λ file. book_named (λ _. file) name) before after (named_from result)
+    (opened_once_as File name source_of_loading (loaded (limit_of File)) (λ file. book_named (λ _. file) name) before after result (named_from result)
+    (λ file meets. book_meets name file result meets) (memory_of_book result) once)
+
+-- ---- One file after the other
+
+-- what was opened goes on behind what was opened before
+go_on : (before between after : Openings) (first second : List Opening) → openings_of between ≡ openings_of before ++ first
+    → openings_of after ≡ openings_of between ++ second → openings_of after ≡ openings_of before ++ (first ++ second)
+go_on before between after first second is then =
+    then ∙ ap (λ o. o ++ second) is ∙ append_assoc (openings_of before) first second
+
+map-append : (first second : List Opening) → map (λ o. o.name) (first ++ second) ≡ map (λ o. o.name) first ++ map (λ o. o.name) second
+map-append [] second = refl
+map-append (o ∷ first) second = ap (λ names. o.name ∷ names) (map-append first second)
+
+-- and so do the names
+names_on : (first second : List Opening) (names more left : List (List ℕ)) → names ≡ map (λ o. o.name) first
+    → more ≡ map (λ o. o.name) second ++ left → names ++ more ≡ map (λ o. o.name) (first ++ second) ++ left
+names_on first second names more left is then =
+    ap (λ n. n ++ more) is
+    ∙ ap (λ m. map (λ o. o.name) first ++ m) then
+    ∙ sym (append_assoc (map (λ o. o.name) first) (map (λ o. o.name) second) left)
+    ∙ ap (λ n. n ++ left) (sym (map-append first second))
+
+-- a file that was read was opened, if it is named
+all_named : {T : Type 0} (slot : Slot) (name : Option (List ℕ)) (expected : Option (List ℕ) → Result T NoAnswer) (before after : Openings)
+    (value : T) (o : Opened slot name expected before after (Ok value)) → listed name ≡ map (λ it. it.name) o.openings
+all_named slot name expected before after value o =
+    o.names ∙ ap (λ left. map (λ it. it.name) o.openings ++ left) o.whole ∙ append-nil (map (λ it. it.name) o.openings)
+
+length-names : (openings : List Opening) → length (map (λ o. o.name) openings) ≡ length openings
+length-names [] = refl
+length-names (o ∷ openings) = ap suc (length-names openings)
+
+as_many : {T : Type 0} (slot : Slot) (name : Option (List ℕ)) (expected : Option (List ℕ) → Result T NoAnswer) (before after : Openings)
+    (value : T) (o : Opened slot name expected before after (Ok value)) → length (listed name) ≡ length o.openings
+as_many slot name expected before after value o = ap length (all_named slot name expected before after value o) ∙ length-names o.openings
+
+-- the last of the files that were opened
+last_all : {T : Type 0} (slot : Slot) (name : Option (List ℕ)) (expected : Option (List ℕ) → Result T NoAnswer) (before after : Openings)
+    (result : Result T NoAnswer) (o : Opened slot name expected before after result) → openings_of after ≡ openings_of before ++ (o.openings ++ [])
+last_all slot name expected before after result o = o.all ∙ ap (λ it. openings_of before ++ it) (sym (append-nil o.openings))
+
+last_names : {T : Type 0} (slot : Slot) (name : Option (List ℕ)) (expected : Option (List ℕ) → Result T NoAnswer) (before after : Openings)
+    (result : Result T NoAnswer) (o : Opened slot name expected before after result)
+    → listed name ≡ map (λ it. it.name) (o.openings ++ []) ++ o.unopened
+last_names slot name expected before after result o =
+    o.names ∙ ap (λ it. map (λ it. it.name) it ++ o.unopened) (sym (append-nil o.openings))
+
+-- ---- The names up to a fault
+
+up_to : (name : List ℕ) (question : Question) (slot : Slot) → (more : List (List ℕ)) × (names_of name question ≡ names_to name question (Some slot) ++ more)
+up_to name question File = (listed question.offsets ++ (listed (zone_file question.zone) ++ listed question.certificate), refl)
+up_to name question Offsets = (listed (zone_file question.zone) ++ listed question.certificate, refl)
+up_to name question Zone =
+    (listed question.certificate, ap (λ n. name ∷ n) (sym (append_assoc (listed question.offsets) (listed (zone_file question.zone)) (listed question.certificate))))
+up_to name question Certificate = ([], sym (append-nil (names_of name question)))
+
+stops_at : (name : List ℕ) (question : Question) (slot : Slot) (said : Option Slot) → ForSome said (λ other. other ≡ slot)
+    → (more : List (List ℕ)) × (names_to name question said ≡ names_to name question (Some slot) ++ more)
+stops_at name question slot None is = up_to name question slot
+stops_at name question slot (Some other) is =
+    ([], ap (λ it. names_to name question (Some it)) (is other refl) ∙ sym (append-nil (names_to name question (Some slot))))
+
+-- the files that were opened up to one that is why there is no answer
+stopped : (question : Question) (name : List ℕ) (slot : Slot) (before after : Openings) (none : NoAnswer) (openings : List Opening)
+    (left : List (List ℕ)) → IsOf slot none → openings_of after ≡ openings_of before ++ openings
+    → names_to name question (Some slot) ≡ map (λ o. o.name) openings ++ left
+    → Meets {T = Materials} source_of (Unit {0}) (files_in (folders_shown question openings) question name) (Err none)
+    → (result : Result Materials NoAnswer) → IsErrAnd result (λ e. e ≡ none) → AreOpened question name before after result
+stopped question name slot before after none openings left of_slot all names answer (Ok read) is = absurd is
+stopped question name slot before after none openings left of_slot all names answer (Err it) is =
+    let to = stops_at name question slot (file_of none) of_slot in
+    rw is
+    (record {
+      openings = openings;
+      unopened = left ++ to.0;
+      all = all;
+      names = to.1 ∙ ap (λ n. n ++ to.0) names ∙ append_assoc (map (λ o. o.name) openings) left to.0;
+      whole = tt;
+      answer = answer;
+    })
+
+-- ---- What the openings show of each file
+
+shown_second : (p q more : List Opening) → 1 ≡ length p → IsShown Offsets q (shown Offsets (slice_get (p ++ (q ++ more)) 1))
+shown_second p q more one = shown_at Offsets p q more 1 one
+
+shown_third : (p q r more : List Opening) (count : ℕ) → 1 ≡ length p → count ≡ length q
+    → IsShown Zone r (shown Zone (slice_get (p ++ (q ++ (r ++ more))) (1 + count)))
+shown_third p q r more count one counted =
+    rw (← append_assoc p q (r ++ more))
+    (shown_at Zone (p ++ q) r more (1 + count) (rw (one, counted) (sym (length-append p q))))
+
+shown_fourth : (p q r s : List Opening) (count also : ℕ) → 1 ≡ length p → count ≡ length q → also ≡ length r
+    → IsShown Certificate s (shown Certificate (slice_get (p ++ (q ++ (r ++ (s ++ [])))) (1 + (count + also))))
+shown_fourth p q r s count also one counted too =
+    rw (← append_assoc q r (s ++ []), ← append_assoc p (q ++ r) (s ++ []))
+    (shown_at Certificate (p ++ (q ++ r)) s [] (1 + (count + also))
+    (rw (one, counted, too) (sym (length-append p (q ++ r) ∙ ap (λ n. length p + n) (length-append q r)))))
+
+-- ---- The files of a question
+
+-- each is read by its own name, from the file that its openings show
+abbrev book_shown : List ℕ → Option (List ℕ) → Result TheBook NoAnswer
+book_shown name file = book_named (λ _. file) name
+
+abbrev table_shown : Option (List ℕ) → Option (List ℕ) → Result (List Row) NoAnswer
+table_shown name file = table_named (λ _. file) name
+
+abbrev zone_shown : ZoneWord → Option (List ℕ) → Result TheZone NoAnswer
+zone_shown word file = zone_named (λ _. file) word
+
+abbrev certificate_shown : Option (List ℕ) → Option (List ℕ) → Result (List ℕ) NoAnswer
+certificate_shown name file = certificate_named (λ _. file) name
+
+pub stopped_at_book : (question : Question) (name : List ℕ) (before after : Openings) (none : NoAnswer) (result : Result Materials NoAnswer)
+    → IsErrAnd result (λ e. e ≡ none) → IsOf File none → Opened File (Some name) (book_shown name) before after (Err none)
+    → AreOpened question name before after result
+unfolding files_in
+stopped_at_book question name before after none result is of_book book =
+    let openings = book.openings ++ [] in
+    stopped question name File before after none openings book.unopened of_book
+    (last_all File (Some name) (book_shown name) before after (Err none) book)
+    (last_names File (Some name) (book_shown name) before after (Err none) book)
+    (meets_at (Unit {0}) (book_named (folders_shown question openings File) name) _ (Err none) none refl
+    (book.answer (shown File (slice_get openings 0)) (shown_at File [] book.openings [] 0 refl)))
+    result is
+
+pub stopped_at_table : (question : Question) (name : List ℕ) (before between after : Openings) (read : TheBook) (none : NoAnswer)
+    (result : Result Materials NoAnswer) → IsErrAnd result (λ e. e ≡ none) → IsOf Offsets none
+    → Opened File (Some name) (book_shown name) before between (Ok read)
+    → Opened Offsets question.offsets (table_shown question.offsets) between after (Err none)
+    → AreOpened question name before after result
+unfolding files_in
+stopped_at_table question name before between after read none result is of_table book table =
+    let last = table.openings ++ [] in
+    let openings = book.openings ++ last in
+    let one = as_many File (Some name) (book_shown name) before between read book in
+    stopped question name Offsets before after none openings table.unopened of_table
+    (go_on before between after book.openings last book.all (last_all Offsets question.offsets (table_shown question.offsets) between after (Err none) table))
+    (names_on book.openings last (name ∷ []) (listed question.offsets) table.unopened (all_named File (Some name) (book_shown name) before between read book)
+    (last_names Offsets question.offsets (table_shown question.offsets) between after (Err none) table))
+    (rw (book.answer (shown File (slice_get openings 0)) (shown_at File [] book.openings last 0 refl))
+    (meets_at (Unit {0}) (table_named (folders_shown question openings Offsets) question.offsets) _ (Err none) none refl
+    (table.answer (shown Offsets (slice_get openings 1)) (shown_second book.openings table.openings [] one))))
+    result is
+
+pub stopped_at_zone : (question : Question) (name : List ℕ) (before between beyond after : Openings) (read : TheBook) (rows : List Row)
+    (none : NoAnswer) (result : Result Materials NoAnswer) → IsErrAnd result (λ e. e ≡ none) → IsOf Zone none
+    → Opened File (Some name) (book_shown name) before between (Ok read)
+    → Opened Offsets question.offsets (table_shown question.offsets) between beyond (Ok rows)
+    → Opened Zone (zone_file question.zone) (zone_shown question.zone) beyond after (Err none)
+    → AreOpened question name before after result
+unfolding files_in
+stopped_at_zone question name before between beyond after read rows none result is of_zone book table zone =
+    let third = zone.openings ++ [] in
+    let last = table.openings ++ third in
+    let openings = book.openings ++ last in
+    let one = as_many File (Some name) (book_shown name) before between read book in
+    let two = as_many Offsets question.offsets (table_shown question.offsets) between beyond rows table in
+    stopped question name Zone before after none openings zone.unopened of_zone
+    (go_on before between after book.openings last book.all
+    (go_on between beyond after table.openings third table.all (last_all Zone (zone_file question.zone) (zone_shown question.zone) beyond after (Err none) zone)))
+    (names_on book.openings last (name ∷ []) (listed question.offsets ++ listed (zone_file question.zone)) zone.unopened
+    (all_named File (Some name) (book_shown name) before between read book)
+    (names_on table.openings third (listed question.offsets) (listed (zone_file question.zone)) zone.unopened
+    (all_named Offsets question.offsets (table_shown question.offsets) between beyond rows table)
+    (last_names Zone (zone_file question.zone) (zone_shown question.zone) beyond after (Err none) zone)))
+    (rw (
+      book.answer (shown File (slice_get openings 0)) (shown_at File [] book.openings last 0 refl),
+      table.answer (shown Offsets (slice_get openings 1)) (shown_second book.openings table.openings third one),
+    )
+    (meets_at (Unit {0}) (zone_named (folders_shown question openings Zone) question.zone) _ (Err none) none refl
+    (zone.answer (shown Zone (slice_get openings (index_of question Zone))) (shown_third book.openings table.openings zone.openings [] (length (listed question.offsets)) one two))))
+    result is
+
+pub stopped_at_certificate : (question : Question) (name : List ℕ) (before between beyond later after : Openings) (read : TheBook) (rows : List Row)
+    (clock : TheZone) (none : NoAnswer) (result : Result Materials NoAnswer) → IsErrAnd result (λ e. e ≡ none) → IsOf Certificate none
+    → Opened File (Some name) (book_shown name) before between (Ok read)
+    → Opened Offsets question.offsets (table_shown question.offsets) between beyond (Ok rows)
+    → Opened Zone (zone_file question.zone) (zone_shown question.zone) beyond later (Ok clock)
+    → Opened Certificate question.certificate (certificate_shown question.certificate) later after (Err none)
+    → AreOpened question name before after result
+unfolding files_in
+stopped_at_certificate question name before between beyond later after read rows clock none result is of_certificate book table zone certificate =
+    let fourth = certificate.openings ++ [] in
+    let third = zone.openings ++ fourth in
+    let last = table.openings ++ third in
+    let openings = book.openings ++ last in
+    let one = as_many File (Some name) (book_shown name) before between read book in
+    let two = as_many Offsets question.offsets (table_shown question.offsets) between beyond rows table in
+    let three = as_many Zone (zone_file question.zone) (zone_shown question.zone) beyond later clock zone in
+    stopped question name Certificate before after none openings certificate.unopened of_certificate
+    (go_on before between after book.openings last book.all
+    (go_on between beyond after table.openings third table.all
+    (go_on beyond later after zone.openings fourth zone.all
+    (last_all Certificate question.certificate (certificate_shown question.certificate) later after (Err none) certificate))))
+    (names_on book.openings last (name ∷ []) _ certificate.unopened
+    (all_named File (Some name) (book_shown name) before between read book)
+    (names_on table.openings third (listed question.offsets) _ certificate.unopened
+    (all_named Offsets question.offsets (table_shown question.offsets) between beyond rows table)
+    (names_on zone.openings fourth (listed (zone_file question.zone)) (listed question.certificate) certificate.unopened
+    (all_named Zone (zone_file question.zone) (zone_shown question.zone) beyond later clock zone)
+    (last_names Certificate question.certificate (certificate_shown question.certificate) later after (Err none) certificate))))
+    (rw (
+      book.answer (shown File (slice_get openings 0)) (shown_at File [] book.openings last 0 refl),
+      table.answer (shown Offsets (slice_get openings 1)) (shown_second book.openings table.openings third one),
+      zone.answer (shown Zone (slice_get openings (index_of question Zone))) (shown_third book.openings table.openings zone.openings fourth (length (listed question.offsets)) one two),
+    )
+    (meets_at (Unit {0}) (certificate_named (folders_shown question openings Certificate) question.certificate) _ (Err none) none refl
+    (certificate.answer (shown Certificate (slice_get openings (index_of question Certificate)))
+    (shown_fourth book.openings table.openings zone.openings certificate.openings (length (listed question.offsets)) (length (listed (zone_file question.zone))) one two three))))
+    result is
+
+pub all_opened : (question : Question) (name : List ℕ) (before between beyond later after : Openings) (read : TheBook) (rows : List Row)
+    (clock : TheZone) (bytes : List ℕ)
+    → Opened File (Some name) (book_shown name) before between (Ok read)
+    → Opened Offsets question.offsets (table_shown question.offsets) between beyond (Ok rows)
+    → Opened Zone (zone_file question.zone) (zone_shown question.zone) beyond later (Ok clock)
+    → Opened Certificate question.certificate (certificate_shown question.certificate) later after (Ok bytes)
+    → AreOpened question name before after (Ok (record { book = read; table = rows; zone = clock; certificate = bytes }))
+unfolding files_in
+all_opened question name before between beyond later after read rows clock bytes book table zone certificate =
+    let fourth = certificate.openings ++ [] in
+    let third = zone.openings ++ fourth in
+    let last = table.openings ++ third in
+    let openings = book.openings ++ last in
+    let one = as_many File (Some name) (book_shown name) before between read book in
+    let two = as_many Offsets question.offsets (table_shown question.offsets) between beyond rows table in
+    let three = as_many Zone (zone_file question.zone) (zone_shown question.zone) beyond later clock zone in
+    record {
+      openings = openings;
+      unopened = certificate.unopened;
+      all =
+          go_on before between after book.openings last book.all
+          (go_on between beyond after table.openings third table.all
+          (go_on beyond later after zone.openings fourth zone.all
+          (last_all Certificate question.certificate (certificate_shown question.certificate) later after (Ok bytes) certificate)));
+      names =
+          names_on book.openings last (name ∷ []) _ certificate.unopened
+          (all_named File (Some name) (book_shown name) before between read book)
+          (names_on table.openings third (listed question.offsets) _ certificate.unopened
+          (all_named Offsets question.offsets (table_shown question.offsets) between beyond rows table)
+          (names_on zone.openings fourth (listed (zone_file question.zone)) (listed question.certificate) certificate.unopened
+          (all_named Zone (zone_file question.zone) (zone_shown question.zone) beyond later clock zone)
+          (last_names Certificate question.certificate (certificate_shown question.certificate) later after (Ok bytes) certificate)));
+      whole = certificate.whole;
+      answer =
+          rw (
+            book.answer (shown File (slice_get openings 0)) (shown_at File [] book.openings last 0 refl),
+            table.answer (shown Offsets (slice_get openings 1)) (shown_second book.openings table.openings third one),
+            zone.answer (shown Zone (slice_get openings (index_of question Zone))) (shown_third book.openings table.openings zone.openings fourth (length (listed question.offsets)) one two),
+            certificate.answer (shown Certificate (slice_get openings (index_of question Certificate)))
+                (shown_fourth book.openings table.openings zone.openings certificate.openings (length (listed question.offsets)) (length (listed (zone_file question.zone))) one two three),
+          )
+          refl;
+    }
