@@ -1,5 +1,5 @@
 #!/usr/bin/env python3
-"""Asks a running `tide serve`, and returns rows with local times.
+"""Queries a running `tide serve`, and returns rows with local times.
 
 tide_client.py station=NAME begin=2025-06-01T00:00 end=2025-06-08T00:00 zone=America/New_York [mark=4] [server=URL]
 
