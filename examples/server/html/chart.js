@@ -62,8 +62,8 @@ function drawEvent(context, area, graph, event) {
   drawPoint(context, x, y, event);
 }
 
-/** Shades every second day behind the curve, and draws the lines of the sill and of the present moment. */
-function drawBehind(context, area, graph, days, sill) {
+/** Shades every second day behind the curve, and draws the lines of the sill and, but for paper, of the present moment. */
+function drawBehind(context, area, graph, days, { sill, isPaper }) {
   context.fillStyle = '#eef3f8';
   for (let index = 0; index + 1 < days.length; index += 2) {
     const [left, right] = [days[index], days[index + 1]].map(({ start }) => graph.toDomXCoord(start));
@@ -74,26 +74,27 @@ function drawBehind(context, area, graph, days, sill) {
     drawLine(context, [area.x, y], [area.x + area.w, y], { strokeStyle: SILL });
   }
   const now = graph.toDomXCoord(Date.now());
-  if (now >= area.x && now < area.x + area.w) drawLine(context, [now, area.y], [now, area.y + area.h], { strokeStyle: NOW });
+  if (!isPaper && now >= area.x && now < area.x + area.w) drawLine(context, [now, area.y], [now, area.y + area.h], { strokeStyle: NOW });
 }
 
-/** Where a text at a height crosses the fewest events and their labels, from the left. */
+/** The horizontal position, from the left, at which a text crosses the fewest labels and, second, the fewest marks. */
 function freeX(area, graph, events, y, width) {
-  const near = events.filter(({ level }) => Math.abs(graph.toDomYCoord(level) - y) < LABEL).map(({ moment }) => graph.toDomXCoord(moment));
-  const crossed = x => near.filter(other => other > x - 8 && other < x + width + 8).length;
-  const places = Array.from({ length: Math.max(1, Math.floor((area.w - width) / 12)) }, (_, index) => area.x + 6 + 12 * index);
+  const near = events.filter(({ level }) => Math.abs(graph.toDomYCoord(level) - y) < LABEL)
+    .map(event => ({ x: graph.toDomXCoord(event.moment), weight: isMark(event) ? 1 : 4 }));
+  const crossed = from => near.filter(({ x }) => x > from - 8 && x < from + width + 8).reduce((sum, { weight }) => sum + weight, 0);
+  const places = Array.from({ length: Math.max(1, Math.floor((area.w - width) / 6)) }, (_, index) => area.x + 6 + 6 * index);
   return places.reduce((best, x) => (crossed(x) < crossed(best) ? x : best));
 }
 
 /** Draws what lies before the curve: the events, the sill's name, and 'now'. */
-function drawBefore(context, area, graph, events, sillText, sill) {
+function drawBefore(context, area, graph, { events, sillText, sill, isPaper }) {
   for (const event of events) drawEvent(context, area, graph, event);
   if (sill !== null) {
     const y = graph.toDomYCoord(sill) - 8;
     write(context, sillText, freeX(area, graph, events, y, 6 * sillText.length), y, { font: 'bold 11px sans-serif', fillStyle: SILL });
   }
   const now = graph.toDomXCoord(Date.now());
-  if (now < area.x || now >= area.x + area.w) return;
+  if (isPaper || now < area.x || now >= area.x + area.w) return;
   const isLate = now > area.x + area.w - 40;
   write(context, 'now', now + (isLate ? -4 : 4), area.y + 8, { font: 'bold 11px sans-serif', fillStyle: NOW, textAlign: isLate ? 'right' : 'left' });
 }
@@ -109,7 +110,8 @@ export function rangeOf(levels, height, hasSlack) {
 if (window.Dygraph) Dygraph.PLUGINS = Dygraph.PLUGINS.filter(plugin => plugin !== Dygraph.Plugins.Legend);
 
 /** Draws the levels in a box, with the events named, a line at the sill if there is one, and the present moment. */
-export function drawChart(box, { levels, events, dates, zone, sill, sillText, report, pixelRatio }) {
+export function drawChart(box, picture) {
+  const { levels, events, dates, zone, sill, report, isPaper } = picture;
   const days = dates.map(date => ({ date, start: startOfDay(date, zone) }));
   const ticks = days.flatMap(({ date, start }, index) => index + 1 === days.length ? [{ v: start }]
     : [{ v: start }, { label_v: (start + days[index + 1].start) / 2, label: dateText(date) }]);
@@ -119,18 +121,18 @@ export function drawChart(box, { levels, events, dates, zone, sill, sillText, re
     dateWindow: [days[0].start, days.at(-1).start],
     valueRange: rangeOf(levels.map(({ level }) => level).concat(sill ?? []), box.clientHeight, events.some(isSlack)),
     interactionModel: {},
-    pixelRatio,
+    pixelRatio: isPaper ? 3 : null,
     connectSeparatedPoints: true,
     series: {
       level: { strokeWidth: 1.8 },
       event: {
         highlightCircleSize: 0,
-        plotter: ({ drawingContext, plotArea, dygraph }) => drawBefore(drawingContext, plotArea, dygraph, events, sillText, sill),
+        plotter: ({ drawingContext, plotArea, dygraph }) => drawBefore(drawingContext, plotArea, dygraph, picture),
       },
     },
     xAxisHeight: DATES,
     axes: { x: { ticker: () => ticks, axisLabelWidth: 100 }, y: { axisLabelWidth: 40 } },
-    underlayCallback: (context, area, graph) => drawBehind(context, area, graph, days, sill),
+    underlayCallback: (context, area, graph) => drawBehind(context, area, graph, days, picture),
     highlightCallback: (move, moment) => report(moment),
     unhighlightCallback: () => report(null),
   });
@@ -138,12 +140,12 @@ export function drawChart(box, { levels, events, dates, zone, sill, sillText, re
 
 /** Calls for the chart again, as wide as the paper, when the page is printed, and as wide as the window afterwards. */
 export function followPaper(box, draw) {
-  const fit = (width, pixelRatio) => {
+  const fit = (width, isPaper) => {
     Object.assign(box.style, { width, minWidth: width });
-    draw(pixelRatio);
+    draw(isPaper);
   };
-  window.addEventListener('beforeprint', () => fit(PAPER, 3));
-  window.addEventListener('afterprint', () => fit('', null));
+  window.addEventListener('beforeprint', () => fit(PAPER, true));
+  window.addEventListener('afterprint', () => fit('', false));
   // A browser that reports this change has the paper's layout by then.
-  window.matchMedia('print').addEventListener('change', ({ matches }) => fit('', matches ? 3 : null));
+  window.matchMedia('print').addEventListener('change', ({ matches }) => fit('', matches));
 }

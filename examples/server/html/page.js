@@ -126,7 +126,7 @@ function showNear(station) {
     stationLine(other, distanceText(distance, bearing))));
 }
 
-function showCurve(answer, pixelRatio = null) {
+function showCurve(answer, isPaper = false) {
   graph?.destroy();
   graph = null;
   drawn = answer;
@@ -140,7 +140,7 @@ function showCurve(answer, pixelRatio = null) {
   };
   place('chart').setAttribute('aria-label', `The curve of the week in ${answer.units}. The tables below have its events.`);
   const sill = answer.sill === null ? null : Number(answer.sill);
-  graph = drawChart(place('curve'), { ...answer, sill, sillText: thresholdText(answer), report, pixelRatio });
+  graph = drawChart(place('curve'), { ...answer, sill, sillText: thresholdText(answer), report, isPaper });
 }
 
 /** Whether a table is wider than its frame, said above it. */
@@ -230,7 +230,7 @@ function listen() {
   window.addEventListener('popstate', () => { showFound(); show(); });
   window.addEventListener('resize', showHint);
   setInterval(() => graph?.updateOptions({}), 60_000);
-  followPaper(place('curve'), pixelRatio => { if (graph) showCurve(drawn, pixelRatio); });
+  followPaper(place('curve'), isPaper => { if (graph) showCurve(drawn, isPaper); });
 }
 
 /** The clock and the printing are open in a wide window, and folded in a narrow one. */
