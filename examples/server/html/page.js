@@ -143,10 +143,12 @@ function showCurve(answer, isPaper = false) {
   graph = drawChart(place('curve'), { ...answer, sill, sillText: thresholdText(answer), report, isPaper });
 }
 
-/** Whether a table is wider than its frame, said above it. */
-function showHint() {
-  const frame = document.querySelector('.scroll');
-  if (frame) document.querySelector('.hint').hidden = frame.scrollWidth <= frame.clientWidth + 1;
+/** Shows the hint above each table or curve that is wider than its frame. */
+function showHints() {
+  for (const hint of document.querySelectorAll('.hint')) {
+    const frame = hint.nextElementSibling;
+    hint.hidden = frame.scrollWidth <= frame.clientWidth + 1;
+  }
 }
 
 function showAnswer(answer) {
@@ -158,8 +160,8 @@ function showAnswer(answer) {
   if (answer.events.length === 0) place('notes').append('There are no events in this time.');
   place('answer').hidden = false;
   place('sheet').replaceChildren(...(answer.view === 'week' ? weekSheet(answer) : monthSheet(answer)));
-  showHint();
   showCurve(answer);
+  showHints();
   showNear(answer.known);
 }
 
@@ -228,7 +230,7 @@ function listen() {
   controls.today.addEventListener('click', () => goTo({ date: null }));
   controls.print.addEventListener('click', () => window.print());
   window.addEventListener('popstate', () => { showFound(); show(); });
-  window.addEventListener('resize', showHint);
+  window.addEventListener('resize', showHints);
   setInterval(() => graph?.updateOptions({}), 60_000);
   followPaper(place('curve'), isPaper => { if (graph) showCurve(drawn, isPaper); });
 }
