@@ -65,6 +65,7 @@ class PageTrial:
             tab.open('', 'true')
             seen = [tab.until('document.querySelectorAll("#found a").length > 1')]
             tab.press('Tab', 9)
+            tab.press('Tab', 9)
             seen.append(tab.value('document.activeElement.id') == 'words')
             tab.call('Input.insertText', text='harbor massa BOST')
             tab.press('ArrowDown', 40)

@@ -22,6 +22,9 @@ function usualZone(name) {
   return isZone(zone) ? zone : browserZone();
 }
 
+/** A number as the program reads it, or null for none. */
+const decimalText = text => text?.trim().replace(',', '.') || null;
+
 /** The question in the address bar. */
 function question() {
   const query = new URLSearchParams(location.search);
@@ -30,7 +33,7 @@ function question() {
   const date = isDate(query.get('date')) ? query.get('date') : clockAt(Date.now(), zone).date;
   return {
     station, zone, date, view: query.get('view') === 'month' ? 'month' : 'week',
-    sill: query.get('sill')?.trim().replace(',', '.') || null,
+    sill: decimalText(query.get('sill')),
   };
 }
 
@@ -182,7 +185,6 @@ function showControls({ station, view, date, zone, sill }) {
   place('threshold').textContent = known?.isCurrent ? 'limit of' : 'sill at';
   place('units').textContent = known?.units ?? '';
   document.title = station ? `${station}: tides and currents` : 'Tides and currents';
-  for (const link of document.querySelectorAll('a[data-page]')) link.href = link.dataset.page + location.search;
 }
 
 async function show() {
@@ -206,7 +208,8 @@ function changeQuestion(event) {
   event.preventDefault();
   const { view, date, sill, zone } = controls;
   const changes = {
-    view: view.value, date: date.value, sill: sill.value, zone: zone.value === usualZone(question().station) ? null : zone.value,
+    view: view.value, date: date.value, sill: decimalText(sill.value),
+    zone: zone.value === usualZone(question().station) ? null : zone.value,
   };
   // The Enter key changes a field and then submits the form.
   if (event.type === 'change' || !isHere(changes) || place('trouble').hasChildNodes()) goTo(changes);
