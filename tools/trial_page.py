@@ -44,8 +44,8 @@ class PageTrial:
     def pages(self):
         with Tab(self.site, 1280, 900) as tab:
             document = tab.open('tests.html', 'document.getElementById("result").textContent !== "running"')
-        told = re.search(r'\d+ passed, \d+ failed', document)
-        self.say(bool(told) and told[0].endswith(' 0 failed') and not tab.complaints, f'tests.html: {told[0] if told else "no result"}')
+        counts = re.search(r'\d+ passed, \d+ failed', document)
+        self.say(bool(counts) and counts[0].endswith(' 0 failed') and not tab.complaints, f'tests.html: {counts[0] if counts else "no result"}')
         for complaint in tab.complaints + re.findall('<li class="failed">(.*?)</li>', document):
             print(f'     {complaint}')
 
