@@ -1,5 +1,6 @@
 """A site for tools/try_site: nginx and four predictors in a folder of its own, and a browser without a window."""
 
+import base64
 import collections
 import http.client
 import json
@@ -15,7 +16,7 @@ import urllib.parse
 TOP = pathlib.Path(__file__).resolve().parent.parent
 SERVER = TOP / 'examples' / 'server'
 DYGRAPHS = pathlib.Path('/usr/share/javascript/dygraphs/dygraph.min.js')
-WANTED = {'nginx-light': 'nginx', 'chromium': 'chromium'}
+WANTED = {'nginx-light': 'nginx', 'chromium': 'chromium', 'poppler-utils': 'pdftoppm'}
 BROWSER = ['chromium', '--headless', '--no-sandbox', '--disable-gpu', '--disable-dev-shm-usage', '--no-first-run',
            '--disable-background-networking', '--disable-component-update',
            '--host-resolver-rules=MAP * ~NOTFOUND , EXCLUDE 127.0.0.1']
@@ -48,6 +49,15 @@ def free_ports(count):
     for found in sockets:
         found.close()
     return ports
+
+
+def curve_columns(sheet):
+    """The first and the last column of a sheet's first page with a point of the curve's blue, and how many there are."""
+    page = subprocess.run(['pdftoppm', '-r', '72', '-f', '1', '-l', '1', sheet], capture_output=True, check=True).stdout
+    _, size, _, points = page.split(b'\n', 3)
+    width = int(size.split()[0])
+    columns = {index % width for index, (red, blue) in enumerate(zip(points[0::3], points[2::3])) if blue - red > 80}
+    return (min(columns), max(columns), width) if columns else (0, 0, width)
 
 
 class Site:
@@ -131,7 +141,7 @@ class Site:
         command = [*BROWSER, '--enable-logging=stderr', f'--user-data-dir={self.folder / "browser"}',
                    '--virtual-time-budget=30000', *(flags or ['--dump-dom']), f'http://127.0.0.1:{self.port}/{page}']
         with subprocess.Popen(command, stdout=subprocess.PIPE, stderr=subprocess.PIPE, text=True, env=self.home(),
-                              start_new_session=True) as run:
+                              process_group=0) as run:
             try:
                 out, err = run.communicate(timeout=120)
             except subprocess.TimeoutExpired:
@@ -144,18 +154,21 @@ class Tab:
     """A tab of a browser as wide as a telephone, with keys to press. For a `with`."""
 
     def __init__(self, site, width=360, height=740):
-        self.asked, self.requests = 0, []
+        self.asked, self.requests, self.complaints = 0, [], []
+        self.origin = f'http://127.0.0.1:{site.port}/'
         (its_end, self.to), (self.back, other_end) = os.pipe(), os.pipe()
         command = [*BROWSER, '--remote-debugging-pipe', f'--user-data-dir={site.folder / "tab"}']
         self.run = subprocess.Popen(['bash', '-c', f'exec "$@" 3<&{its_end} 4>&{other_end}', 'tab', *command], env=site.home(),
-                                    pass_fds=(its_end, other_end), stderr=subprocess.DEVNULL, start_new_session=True)
+                                    pass_fds=(its_end, other_end), stderr=subprocess.DEVNULL, process_group=0)
         os.close(its_end)
         os.close(other_end)
         self.rest, self.session = b'', {}
         target = self.call('Target.createTarget', url='about:blank')['targetId']
         self.session = {'sessionId': self.call('Target.attachToTarget', targetId=target, flatten=True)['sessionId']}
         self.call('Network.enable')
-        self.call('Emulation.setDeviceMetricsOverride', width=width, height=height, deviceScaleFactor=1, mobile=True)
+        self.call('Log.enable')
+        self.call('Runtime.enable')
+        self.resize(width, height, mobile=width < 500)
 
     def __enter__(self):
         return self
@@ -179,9 +192,24 @@ class Tab:
         self.asked += 1
         os.write(self.to, json.dumps({'id': self.asked, 'method': method, 'params': values, **self.session}).encode() + b'\0')
         while (said := self.message()).get('id') != self.asked:
-            if said.get('method') == 'Network.requestWillBeSent':
-                self.requests.append(said['params']['request']['url'])
+            self.note(said.get('method'), said.get('params'))
         return said.get('result', {})
+
+    def note(self, event, values):
+        """Keeps the requests of the page, and what the browser complains of."""
+        if event == 'Network.requestWillBeSent':
+            self.requests.append(values['request']['url'])
+        if event == 'Log.entryAdded' and values['entry']['level'] in ('warning', 'error'):
+            self.complaints.append(values['entry']['text'])
+        if event == 'Runtime.exceptionThrown':
+            self.complaints.append(values['exceptionDetails']['text'])
+
+    def open(self, page, shown, seconds=60):
+        """Opens a page and returns its document when an expression has come true, or after some seconds."""
+        self.complaints.clear()
+        self.call('Page.navigate', url=f'{self.origin}{page}')
+        self.until(f'document.readyState === "complete" && ({shown})', seconds)
+        return self.value('document.documentElement.outerHTML')
 
     def value(self, expression):
         return self.call('Runtime.evaluate', expression=expression, returnByValue=True)['result'].get('value')
@@ -194,6 +222,17 @@ class Tab:
                 return False
             time.sleep(0.1)
         return True
+
+    def resize(self, width, height, mobile=False):
+        self.call('Emulation.setDeviceMetricsOverride', width=width, height=height, deviceScaleFactor=1, mobile=mobile)
+
+    def print_to(self, sheet, inches, landscape):
+        """Prints the page on a paper of some inches, with the page's own margins."""
+        width, height = inches
+        style = '@page { size: %sin %sin; }' % ((height, width) if landscape else (width, height))
+        self.value(f'document.adoptedStyleSheets = [new CSSStyleSheet()]; document.adoptedStyleSheets[0].replaceSync({json.dumps(style)})')
+        printed = self.call('Page.printToPDF', preferCSSPageSize=True, printBackground=True)
+        sheet.write_bytes(base64.b64decode(printed['data']))
 
     def press(self, key, code):
         text = {'text': '\r'} if key == 'Enter' else {}
