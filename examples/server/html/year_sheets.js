@@ -37,6 +37,9 @@ function dayRows(date, answer) {
     ...rows.map((row, place) => element('tr', {}, ...(place === 0 ? [head] : []), ...row)));
 }
 
+const columnsOf = ({ isCurrent, sill }) => ['day', ...(isCurrent ? ['slack', 'begins'] : []), 'sign', 'time', 'level',
+  ...(isCurrent || sill === null ? [] : ['above'])];
+
 function halvesOf(year, month) {
   const dates = Array.from({ length: daysIn(year, month) }, (_, place) => dateOf(year, month, place + 1));
   return [dates.slice(0, 16), dates.slice(16)];
@@ -44,9 +47,11 @@ function halvesOf(year, month) {
 
 function monthPart(month, answer) {
   const halves = halvesOf(answer.year, month);
+  const columns = () => element('colgroup', {}, ...columnsOf(answer).map(className => element('col', { className })));
+  const table = dates => element('table', {}, columns(), ...dates.map(date => dayRows(date, answer)));
   return element('section', { className: 'month' },
     element('h3', {}, MONTHS[month - 1], ' ', element('span', {}, offsetBefore(halves[0][0], answer))),
-    ...halves.map(dates => element('div', { className: 'half' }, element('table', {}, ...dates.map(date => dayRows(date, answer))))));
+    ...halves.map(dates => element('div', { className: 'half' }, table(dates))));
 }
 
 /** The offset with which a month begins: that of the last change before its first day. */
