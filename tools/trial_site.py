@@ -1,5 +1,6 @@
 """A site for tools/try_site: nginx and four predictors in a folder of its own, and a browser without a window."""
 
+import base64
 import collections
 import http.client
 import json
@@ -15,7 +16,7 @@ import urllib.parse
 TOP = pathlib.Path(__file__).resolve().parent.parent
 SERVER = TOP / 'examples' / 'server'
 DYGRAPHS = pathlib.Path('/usr/share/javascript/dygraphs/dygraph.min.js')
-WANTED = {'nginx-light': 'nginx', 'chromium': 'chromium'}
+WANTED = {'nginx-light': 'nginx', 'chromium': 'chromium', 'poppler-utils': 'pdftoppm'}
 BROWSER = ['chromium', '--headless', '--no-sandbox', '--disable-gpu', '--disable-dev-shm-usage', '--no-first-run',
            '--disable-background-networking', '--disable-component-update',
            '--host-resolver-rules=MAP * ~NOTFOUND , EXCLUDE 127.0.0.1']
@@ -48,6 +49,15 @@ def free_ports(count):
     for found in sockets:
         found.close()
     return ports
+
+
+def curve_columns(sheet):
+    """The first and the last column of a sheet's first page with a point of the curve's blue, and how many there are."""
+    page = subprocess.run(['pdftoppm', '-r', '72', '-f', '1', '-l', '1', sheet], capture_output=True, check=True).stdout
+    _, size, _, points = page.split(b'\n', 3)
+    width = int(size.split()[0])
+    columns = {index % width for index, (red, blue) in enumerate(zip(points[0::3], points[2::3])) if blue - red > 80}
+    return (min(columns), max(columns), width) if columns else (0, 0, width)
 
 
 class Site:
@@ -155,7 +165,7 @@ class Tab:
         target = self.call('Target.createTarget', url='about:blank')['targetId']
         self.session = {'sessionId': self.call('Target.attachToTarget', targetId=target, flatten=True)['sessionId']}
         self.call('Network.enable')
-        self.call('Emulation.setDeviceMetricsOverride', width=width, height=height, deviceScaleFactor=1, mobile=True)
+        self.resize(width, height, mobile=True)
 
     def __enter__(self):
         return self
@@ -194,6 +204,17 @@ class Tab:
                 return False
             time.sleep(0.1)
         return True
+
+    def resize(self, width, height, mobile=False):
+        self.call('Emulation.setDeviceMetricsOverride', width=width, height=height, deviceScaleFactor=1, mobile=mobile)
+
+    def print_to(self, sheet, inches, landscape):
+        """Prints the page on a paper of some inches, with the page's own margins."""
+        width, height = inches
+        style = '@page { size: %sin %sin; }' % ((height, width) if landscape else (width, height))
+        self.value(f'document.adoptedStyleSheets = [new CSSStyleSheet()]; document.adoptedStyleSheets[0].replaceSync({json.dumps(style)})')
+        printed = self.call('Page.printToPDF', preferCSSPageSize=True, printBackground=True)
+        sheet.write_bytes(base64.b64decode(printed['data']))
 
     def press(self, key, code):
         text = {'text': '\r'} if key == 'Enter' else {}

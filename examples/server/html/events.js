@@ -15,7 +15,7 @@ export function levelText(decimal) {
 export const readPoints = text => readRecords(text).map(({ moment, event, level, units }) =>
   ({ moment: Date.parse(moment), event, level: Number(level), shown: levelText(level), units }));
 
-/** An event in the words of `tide predict` in a zone's file. */
+/** An event as a line of `tide predict` with the zone's file. */
 export function lineOf({ moment, event, shown, units }, zone) {
   const { date, time, offset } = clockAt(moment, zone);
   return `${date} ${time} ${offset}  ${shown.padStart(9)} ${units}  ${event}`;
@@ -24,6 +24,7 @@ export function lineOf({ moment, event, shown, units }, zone) {
 export const isMark = ({ event }) => event.startsWith('Mark ');
 export const isSlack = ({ event }) => event.startsWith('Slack ');
 export const isTop = ({ event }) => ['High Tide', 'Max Flood', 'Min Ebb', 'Slack Flood Begins'].includes(event);
+export const isStrongest = ({ event }) => ['High Tide', 'Max Flood', 'Max Ebb'].includes(event);
 
 /**
  * The times above a mark, from the first whole minute above it to the last, of the minutes from `begin` up to `end`.

@@ -1,27 +1,35 @@
-import { drawChart } from './chart.js';
-import { readPoints, timesAbove } from './events.js';
-import { ask, NoAnswer } from './replies.js';
-import { element, monthSheet, weekSheet } from './sheets.js';
-import { findStations, readStations } from './stations.js';
-import {
-  browserZone, clockAt, dateText, daysLater, isDate, isZone, momentText, monthsLater, startOfDay, zoneNames,
-} from './zones.js';
+import { answerTo } from './answer.js';
+import { drawChart, followPaper } from './chart.js';
+import { distanceText, hasPlace, nearestTo, placeText } from './near.js';
+import { ask, NoAnswer, readNotes } from './replies.js';
+import { element, monthSheet, thresholdText, weekSheet } from './sheets.js';
+import { findStations, readStations, withNotes } from './stations.js';
+import { browserZone, clockAt, dateText, daysLater, differenceText, isDate, isZone, monthsLater, zoneNames } from './zones.js';
 
-const MOST_SHOWN = 60;
+const MOST_SHOWN = 100, MOST_NEAR = 10;
 const place = id => document.getElementById(id);
 const controls = place('question').elements;
 let stations = [];
-let asked = 0;
+let shows = 0;
 let graph = null;
+let drawn = null;
+
+const stationOf = name => stations.find(station => station.name === name);
+
+/** The station's own zone, or the browser's if it isn't known. */
+function usualZone(name) {
+  const zone = stationOf(name)?.notes.zone;
+  return isZone(zone) ? zone : browserZone();
+}
 
 /** The question in the address bar. */
 function question() {
   const query = new URLSearchParams(location.search);
-  const zone = isZone(query.get('zone')) ? query.get('zone') : browserZone();
+  const station = query.get('station');
+  const zone = isZone(query.get('zone')) ? query.get('zone') : usualZone(station);
   const date = isDate(query.get('date')) ? query.get('date') : clockAt(Date.now(), zone).date;
   return {
-    station: query.get('station'), zone, date,
-    view: query.get('view') === 'month' ? 'month' : 'week',
+    station, zone, date, view: query.get('view') === 'month' ? 'month' : 'week',
     sill: query.get('sill')?.trim().replace(',', '.') || null,
   };
 }
@@ -34,8 +42,10 @@ function addressOf(changes) {
   return `?${query}`;
 }
 
+const isHere = changes => addressOf(changes) === addressOf({});
+
 function goTo(changes) {
-  history.pushState(null, '', addressOf(changes));
+  if (!isHere(changes)) history.pushState(null, '', addressOf(changes));
   show();
 }
 
@@ -44,21 +54,28 @@ function noteOf(error) {
   return element('div', { className: 'note' }, error.message, ...(error.line ? [' ', element('code', {}, error.line)] : []));
 }
 
-function foundLine({ name, units, isCurrent, reference }) {
+/** A line of a list of stations: a link with the station's kind and name, and what else is said. */
+function stationLine({ name, isCurrent }, quiet) {
   const kind = isCurrent ? 'current' : 'tide';
-  return element('li', {}, element('a', { href: addressOf({ station: name, sill: null }) },
-    element('span', { className: `kind ${kind}` }, kind), name, ' ',
-    element('span', { className: 'quiet' }, reference === null ? units : `after ${reference}`)));
+  return element('li', {}, element('a', { href: addressOf({ station: name, sill: null, zone: null }) },
+    element('span', { className: `kind ${kind}` }, kind), element('span', {}, name, ' ', element('span', { className: 'quiet' }, quiet))));
+}
+
+function foundLine(station) {
+  const { units, reference, notes: { country, identifier } } = station;
+  const noted = [country, identifier].filter(Boolean).join(' · ');
+  return stationLine(station, noted || (reference === null ? units : `by differences from ${reference}`));
 }
 
 function showFound() {
   const words = place('words').value.trim();
-  const isAsked = words !== '' || !question().station;
-  const found = isAsked ? findStations(stations, words) : [];
-  const first = found.length > MOST_SHOWN ? `, of which the first ${MOST_SHOWN} are shown` : '';
+  const hasStation = Boolean(question().station), isShown = words !== '' || !hasStation;
+  const found = isShown ? findStations(stations, words) : [];
+  const first = found.length > MOST_SHOWN ? `, the first ${MOST_SHOWN} by name` : '';
   const count = stations.length > 0 ? `${found.length} of ${stations.length} stations${first}` : 'The list of stations is empty.';
   place('found').replaceChildren(...found.slice(0, MOST_SHOWN).map(foundLine));
-  place('count').textContent = isAsked ? count : '';
+  place('found').className = hasStation ? 'short' : '';
+  place('count').textContent = isShown ? count : '';
 }
 
 function moveAmongFound(press) {
@@ -69,139 +86,176 @@ function moveAmongFound(press) {
   press.preventDefault();
 }
 
-/** What is asked, or, where it is refused with a line, something else, and why. */
-async function orElse(asked, line, other) {
-  try {
-    return [await asked, []];
-  } catch (error) {
-    if (error.line !== line) throw error;
-    return [await other(), [error]];
-  }
+/** The datum of a tide's levels, if the notes name it; a subordinate station's levels are above its reference's. */
+function datumText({ isCurrent, known }) {
+  const datum = known?.notes.datum ?? stationOf(known?.reference)?.notes.datum;
+  return isCurrent || !datum ? '' : ` above ${datum}`;
 }
 
-async function askAll(asking) {
-  const isWeek = asking.view === 'week';
-  const first = isWeek ? asking.date : monthsLater(asking.date, 0);
-  const after = isWeek ? daysLater(first, 7) : monthsLater(first, 1);
-  const dates = [first];
-  while (dates.at(-1) !== after) dates.push(daysLater(dates.at(-1), 1));
-  const [begin, end] = [first, after].map(date => startOfDay(date, asking.zone));
-  const span = { station: asking.station, begin: momentText(begin), end: momentText(end), layout: 'csv' };
-  const points = async (path, words) => readPoints(await ask(path, { ...span, ...words }))
-    .map(point => ({ ...point, clock: clockAt(point.moment, asking.zone) }));
-  const unmarked = () => points('predict', {});
-  const marked = asking.sill === null ? unmarked() : points('predict', { mark: asking.sill });
-  const [events, whyNoSill] = await orElse(marked, 'refused: mark not here', unmarked);
-  const sill = whyNoSill.length > 0 ? null : asking.sill;
-  // A month has no curve: what it wants is whether the sill is covered as it begins.
-  const [levels, whyNoCurve] = isWeek || sill !== null
-    ? await orElse(points('heights', { step: 10, end: isWeek ? span.end : span.begin }), 'refused: level not here', () => [])
-    : [[], []];
-  const above = sill === null ? [] : timesAbove(events, begin, end, levels[0].level > Number(sill));
-  const known = stations.find(({ name }) => name === asking.station);
-  const units = events[0]?.units ?? known?.units ?? '';
-  const clocks = [clockAt(begin, asking.zone), ...events.map(({ clock }) => clock), clockAt(end - 60_000, asking.zone)];
-  const offsets = [...new Set(clocks.map(({ offset }) => offset))];
-  return { ...asking, sill, events, levels, known, units, offsets, above, dates, notes: [...whyNoSill, ...whyNoCurve] };
-}
-
-function aboutLine({ units, known, zone, offsets, sill, view, date }) {
-  const parts = [`${units.startsWith('knots') ? 'Current' : 'Tide'}, in ${units}`, `clock of ${zone} (${offsets.join(', ')})`];
+function aboutLine(answer) {
+  const { units, known, zone, offsets, sill, view, date, isCurrent } = answer;
+  const owner = zone === known?.notes.zone ? ", the station's own" : '';
+  const parts = [`${isCurrent ? 'Current' : 'Tide'} in ${units}${datumText(answer)}`, `clock of ${zone} (${offsets.join(', ')})${owner}`];
   if (known?.reference) parts.push(`by differences from ${known.reference}`);
-  if (sill !== null) parts.push(`sill at ${sill} ${units}`);
+  if (sill !== null) parts.push(thresholdText(answer));
   const when = view === 'month' ? dateText(date, { month: 'long', year: 'numeric' })
     : `Week from ${dateText(date, { weekday: 'long', day: 'numeric', month: 'long', year: 'numeric' })}`;
   return [element('strong', {}, when), `. ${parts.join(' · ')}`];
 }
 
-function showCurve(answer) {
+/** How the browser's clock differs from the station's, or the station's from one that was chosen. */
+function clocksLine({ zone, known, begin, end }) {
+  const own = known?.notes.zone;
+  if (!isZone(own)) return [];
+  const [whose, other] = zone === own ? ["This browser's clock", browserZone()] : ["The station's own clock", own];
+  const difference = differenceText(other, zone, [begin, end - 60_000]);
+  if (difference === '') return [];
+  const link = element('a', { href: addressOf({ zone: other === own ? null : other }) }, 'Show that clock');
+  return [`${whose}, of ${other}, is ${difference}. `, link];
+}
+
+function stationText({ notes }) {
+  const { country, identifier, source } = notes;
+  return [hasPlace(notes) ? placeText(notes) : '', country, identifier, source && `constants from ${source}`].filter(Boolean).join(' · ');
+}
+
+function showNear(station) {
+  const near = nearestTo(station, stations, MOST_NEAR);
+  place('near').hidden = near.length === 0;
+  place('near').querySelector('ol').replaceChildren(...near.map(({ station: other, distance, bearing }) =>
+    stationLine(other, distanceText(distance, bearing))));
+}
+
+function showCurve(answer, isPaper = false) {
   graph?.destroy();
   graph = null;
-  place('chart').hidden = answer.view === 'month' || answer.levels.length === 0 || !window.Dygraph;
-  place('told').textContent = '';
-  if (place('chart').hidden) return;
+  drawn = answer;
+  place('picture').hidden = answer.view === 'month' || answer.levels.length === 0 || !window.Dygraph;
+  place('reading').textContent = '';
+  if (place('picture').hidden) return;
   const points = new Map([...answer.levels, ...answer.events].map(point => [point.moment, point]));
-  const tell = moment => {
+  const report = moment => {
     const { shown, clock } = points.get(moment) ?? {};
-    place('told').textContent = clock ? `${dateText(clock.date)} ${clock.time} ${clock.offset}: ${shown} ${answer.units}` : '';
+    place('reading').textContent = clock ? `${dateText(clock.date)} ${clock.time} ${clock.offset}: ${shown} ${answer.units}` : '';
   };
   place('chart').setAttribute('aria-label', `The curve of the week in ${answer.units}. The tables below have its events.`);
-  graph = drawChart(place('curve'), { ...answer, sill: answer.sill === null ? null : Number(answer.sill), tell });
+  const sill = answer.sill === null ? null : Number(answer.sill);
+  graph = drawChart(place('curve'), { ...answer, sill, sillText: thresholdText(answer), report, isPaper });
+}
+
+/** Whether a table is wider than its frame, said above it. */
+function showHint() {
+  const frame = document.querySelector('.scroll');
+  if (frame) document.querySelector('.hint').hidden = frame.scrollWidth <= frame.clientWidth + 1;
 }
 
 function showAnswer(answer) {
   place('title').textContent = answer.station;
   place('about').replaceChildren(...aboutLine(answer));
+  place('clocks').replaceChildren(...clocksLine(answer));
+  place('station').textContent = answer.known ? stationText(answer.known) : '';
   place('notes').replaceChildren(...answer.notes.map(noteOf));
-  if (answer.events.length === 0) place('notes').append('Nothing happens in this time.');
+  if (answer.events.length === 0) place('notes').append('There are no events in this time.');
   place('answer').hidden = false;
   place('sheet').replaceChildren(...(answer.view === 'week' ? weekSheet(answer) : monthSheet(answer)));
+  showHint();
   showCurve(answer);
+  showNear(answer.known);
+}
+
+/** The zones to choose: the station's, the browser's, and all others. */
+function showZones(zone, name) {
+  const [own, browser] = [stationOf(name)?.notes.zone, browserZone()];
+  const text = value => value + (value === own ? " (the station's)" : '') + (value === browser ? " (this browser's)" : '');
+  const names = [...new Set([...(isZone(own) ? [own] : []), browser, ...zoneNames(), zone])];
+  controls.zone.replaceChildren(...names.map(value => new Option(text(value), value)));
+  controls.zone.value = zone;
 }
 
 function showControls({ station, view, date, zone, sill }) {
+  const known = stationOf(station);
   place('question').hidden = !station;
-  if (![...controls.zone.options].some(({ value }) => value === zone)) controls.zone.append(new Option(zone, zone));
-  Object.entries({ view, date, zone, sill: sill ?? '' }).forEach(([name, value]) => { controls[name].value = value; });
-  place('units').textContent = stations.find(({ name }) => name === station)?.units ?? '';
+  Object.entries({ view, date, sill: sill ?? '' }).forEach(([name, value]) => { controls[name].value = value; });
+  showZones(zone, station);
+  place('threshold').textContent = known?.isCurrent ? 'limit of' : 'sill at';
+  place('units').textContent = known?.units ?? '';
   document.title = station ? `${station}: tides and currents` : 'Tides and currents';
+  for (const link of document.querySelectorAll('a[data-page]')) link.href = link.dataset.page + location.search;
 }
 
 async function show() {
-  const asking = question();
-  const turn = ++asked;
-  showControls(asking);
+  const wanted = question(), turn = ++shows;
+  showControls(wanted);
   place('trouble').replaceChildren();
   place('answer').setAttribute('aria-busy', 'true');
   try {
-    const answer = asking.station ? await askAll(asking) : null;
-    if (turn !== asked) return;
+    const answer = wanted.station ? await answerTo(wanted, stationOf(wanted.station)) : null;
+    if (turn !== shows) return;
     if (answer) showAnswer(answer); else place('answer').hidden = true;
   } catch (error) {
-    if (turn !== asked) return;
+    if (turn !== shows) return;
     place('answer').hidden = true;
     place('trouble').replaceChildren(noteOf(error));
   }
   place('answer').setAttribute('aria-busy', 'false');
 }
 
-function listen() {
-  const take = submit => {
-    submit.preventDefault();
-    const { view, date, sill, zone } = controls;
-    goTo({ view: view.value, date: date.value, sill: sill.value, zone: zone.value === browserZone() ? null : zone.value });
+function changeQuestion(event) {
+  event.preventDefault();
+  const { view, date, sill, zone } = controls;
+  const changes = {
+    view: view.value, date: date.value, sill: sill.value, zone: zone.value === usualZone(question().station) ? null : zone.value,
   };
+  // The Enter key changes a field and then submits the form.
+  if (event.type === 'change' || !isHere(changes) || place('trouble').hasChildNodes()) goTo(changes);
+}
+
+function listen() {
   const move = steps => {
     const { view, date } = question();
     goTo({ date: view === 'week' ? daysLater(date, 7 * steps) : monthsLater(date, steps) });
   };
   place('finder').addEventListener('input', showFound);
   place('finder').addEventListener('keydown', moveAmongFound);
-  place('finder').addEventListener('submit', submit => {
-    submit.preventDefault();
+  place('finder').addEventListener('submit', event => {
+    event.preventDefault();
     place('found').querySelector('a')?.click();
   });
-  place('question').addEventListener('change', change => { if (change.target !== controls.sill) take(change); });
-  place('question').addEventListener('submit', take);
+  place('question').addEventListener('change', changeQuestion);
+  place('question').addEventListener('submit', changeQuestion);
   controls.earlier.addEventListener('click', () => move(-1));
   controls.later.addEventListener('click', () => move(1));
   controls.today.addEventListener('click', () => goTo({ date: null }));
   controls.print.addEventListener('click', () => window.print());
   window.addEventListener('popstate', () => { showFound(); show(); });
+  window.addEventListener('resize', showHint);
   setInterval(() => graph?.updateOptions({}), 60_000);
+  followPaper(place('curve'), isPaper => { if (graph) showCurve(drawn, isPaper); });
+}
+
+/** The clock and the printing are open in a wide window, and folded in a narrow one. */
+function foldControls() {
+  const wide = window.matchMedia('(min-width: 45rem)');
+  const fold = () => { place('more').open = wide.matches; };
+  wide.addEventListener('change', fold);
+  fold();
 }
 
 async function start() {
-  const own = browserZone();
-  controls.zone.append(...zoneNames().map(zone => new Option(zone === own ? `${zone} (this browser's)` : zone, zone)));
   listen();
+  foldControls();
+  let trouble = null;
   try {
-    stations = readStations(await ask('stations', {}));
+    const [list, notes] = await Promise.all([ask('stations', {}), readNotes()]);
+    stations = withNotes(readStations(list), notes);
+    if (Object.keys(notes).length > 0) document.querySelector('label[for=words]').textContent = 'Find a station by any part of its name, its country or its identifier';
     showFound();
   } catch (error) {
-    place('count').replaceChildren(noteOf(error));
+    trouble = noteOf(error);
   }
-  show();
+  await show();
+  // A fault that the question had too is shown once.
+  if (trouble && place('trouble').textContent !== trouble.textContent) place('count').replaceChildren(trouble);
 }
 
 start();

@@ -1,13 +1,15 @@
-const WORDS = [
-  [/^refused: no station$/, 'There is no station of this name here. Look for a part of it above.'],
-  [/^refused: no reference/, 'The station is known by its differences from another, which the file of constants lacks.'],
-  [/^refused: hydraulic$/, 'This is a hydraulic current, given as a difference of water levels, which is not predicted.'],
+/** The forms of refusals. In a text $1 is what the line names, and {key} the value of a key of the question. */
+const TEXTS = [
+  [/^refused: no station$/, 'There is no station “{station}” here. Look for a part of its name above.'],
+  [/^refused: no reference (.*)$/, '“{station}” is computed by differences from “$1”, which the file of constants lacks.'],
+  [/^refused: hydraulic$/, '“{station}” is a hydraulic current, computed from a difference of water levels, which is not predicted.'],
   [/^refused: out of years: file has (.*) to (.*)$/, 'The constants reach from $1 to $2. Choose a date between them.'],
-  [/^refused: mark not here$/, 'There is no sill here: this station is known by its high and low waters alone, not by the curve between.'],
-  [/^refused: level not here$/, 'There is no curve here: this station is known by its high and low waters alone, whose offsets differ.'],
-  [/^limit: /, 'The question is larger than what is answered.'],
-  [/^words: /, 'The question is not in order. A sill is a number such as 4 or -1.25, with at most six decimals.'],
+  [/^refused: mark not here$/, '“{station}” has no times above a level: only its turns are computed, not the curve between.'],
+  [/^refused: level not here$/, '“{station}” has no curve: only its turns are computed, with different offsets for highs and lows.'],
+  [/^refused: backward span$/, 'The question ends ({end}) before it begins ({begin}).'],
+  [/^limit: (.*)$/, 'The question is larger than what is computed: $1.'],
 ];
+const KEYS = { mark: 'sill or limit', station: 'station', begin: 'begin', end: 'end', step: 'step' };
 
 export class NoAnswer extends Error {
   constructor(kind, words, line = '') {
@@ -16,18 +18,28 @@ export class NoAnswer extends Error {
   }
 }
 
-function refusal(line) {
-  const [form, words] = WORDS.find(([form]) => form.test(line)) ?? [/.*/, 'The server has no answer to this question.'];
-  return new NoAnswer('refused', form.exec(line)[0].replace(form, words), line);
+/** The text for a pair of the question that is out of form. The pairs are numbered from 1. */
+function pairText(number, question) {
+  const [key, value] = Object.entries(question)[number - 1] ?? ['', ''];
+  const form = key === 'mark' ? ' a number such as 4 or -1.25, with at most six decimals' : ' of its form';
+  return key ? `The ${KEYS[key] ?? `value of ${key}`}, “${value}”, is not${form}.` : 'The question is not in order.';
 }
 
-/** The text of an answer; else why there is none. What isn't plain text comes from a server before the program. */
-export function answerOf(status, type, body) {
+function refusal(line, question) {
+  const pair = /^words: pair (\d+) /.exec(line);
+  const [form, text] = TEXTS.find(([form]) => form.test(line)) ?? [/.*/, 'The server has no answer to this question.'];
+  const whole = pair ? pairText(Number(pair[1]), question)
+    : text.replace(/\$(\d)|\{(\w+)\}/g, (all, group, key) => (group ? form.exec(line)[group] : question[key] ?? ''));
+  return new NoAnswer('refused', whole, line);
+}
+
+/** The text of an answer; otherwise it throws why there is none. What isn't plain text comes from a server in between. */
+export function answerOf(status, type, body, question = {}) {
   const isOurs = /^text\/(plain|csv)\b/.test(type ?? '');
   if (status === 200 && isOurs) return body;
   if ([429, 503, 504].includes(status)) throw new NoAnswer('busy', 'The server is busy. Try again in a moment.');
-  if (status >= 400 && status < 500 && isOurs) throw refusal(body.trimEnd());
-  throw new NoAnswer('unreachable', 'The predictor cannot be reached. It may be stopped, or on its way back.');
+  if (status >= 400 && status < 500 && isOurs) throw refusal(body.trimEnd(), question);
+  throw new NoAnswer('unreachable', 'The predictor cannot be reached. It has stopped or is starting again.');
 }
 
 export async function ask(path, question) {
@@ -37,7 +49,18 @@ export async function ask(path, question) {
     reply = await fetch(`tide/${path}?${query}`);
     body = await reply.text();
   } catch {
-    throw new NoAnswer('unreachable', 'The server cannot be reached. Is the network there?');
+    throw new NoAnswer('unreachable', 'The server cannot be reached. Check the network.');
   }
-  return answerOf(reply.status, reply.headers.get('Content-Type'), body);
+  return answerOf(reply.status, reply.headers.get('Content-Type'), body, question);
+}
+
+/** The notes on stations by their names; without the file, none. */
+export async function readNotes() {
+  try {
+    const reply = await fetch('stations.json');
+    const notes = reply.ok ? await reply.json() : null;
+    return typeof notes === 'object' && notes !== null ? notes : {};
+  } catch {
+    return {};
+  }
 }

@@ -17,12 +17,26 @@ export function readStations(text) {
   }));
 }
 
+/** The stations with their notes, by name, with names that begin with a digit last. Without notes a station has an empty object. */
+export function withNotes(stations, notes) {
+  const { compare: compareTexts } = new Intl.Collator('en', { numeric: true });
+  const compare = (one, other) => /^\d/.test(one) - /^\d/.test(other) || compareTexts(one, other);
+  return stations.map(station => ({ ...station, notes: (Object.hasOwn(notes, station.name) && notes[station.name]) || {} }))
+    .sort((one, other) => compare(one.name, other.name));
+}
+
 const folded = text => text.normalize('NFD').replace(/\p{M}/gu, '').toLowerCase();
 
-/** The stations whose names have each of the words, whatever their accents and capitals; those that begin with one come first. */
+/**
+ * The stations with each of the words in their name, country or identifier, whatever the accents and capitals; those
+ * whose name begins with a word come first.
+ */
 export function findStations(stations, words) {
   const parts = folded(words).split(/\s+/).filter(Boolean);
-  const found = stations.filter(({ name }) => parts.every(part => folded(name).includes(part)));
+  const found = stations.filter(({ name, notes }) => {
+    const text = folded([name, notes?.country ?? '', notes?.identifier ?? ''].join('\n'));
+    return parts.every(part => text.includes(part));
+  });
   const begins = ({ name }) => parts.some(part => folded(name).startsWith(part));
   return [...found.filter(begins), ...found.filter(station => !begins(station))];
 }

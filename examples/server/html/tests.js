@@ -1,8 +1,14 @@
+import { offsetsOf } from './answer.js';
+import { rangeOf } from './chart.js';
 import { readRecords, readRows } from './csv.js';
-import { hoursText, levelText, lineOf, readPoints, timesAbove } from './events.js';
+import { hoursText, isStrongest, levelText, lineOf, readPoints, timesAbove } from './events.js';
+import { bearingOf, distanceOf, distanceText, hasPlace, nearestTo, placeText } from './near.js';
 import { answerOf } from './replies.js';
-import { findStations, readStations } from './stations.js';
-import { clockAt, dateText, daysLater, isDate, isZone, momentText, monthsLater, startOfDay, zoneNames } from './zones.js';
+import { monthSheet, thresholdText, weekSheet } from './sheets.js';
+import { findStations, readStations, withNotes } from './stations.js';
+import {
+  clockAt, dateText, daysLater, differenceText, isDate, isZone, momentText, monthsLater, startOfDay, zoneNames,
+} from './zones.js';
 
 const results = [];
 
@@ -121,8 +127,89 @@ for (const [reply, kind] of [
   [[429, 'text/html', '<html>'], 'busy'], [[503, 'text/plain; charset=utf-8', 'no memory\n'], 'busy'], [[503, 'text/html', ''], 'busy'],
   [[504, 'text/html', ''], 'busy'], [[502, 'text/html', ''], 'unreachable'], [[404, 'text/html', ''], 'unreachable'], [[200, 'text/html', 'hotel'], 'unreachable'],
 ]) same(`status ${reply[0]} of ${reply[1]}`, noAnswer(...reply)[0], kind);
-same('years in words', noAnswer(422, 'text/plain', 'refused: out of years: file has 2020-01-01T00:00Z to 2030-12-31T23:59Z\n').slice(1),
-  ['The constants reach from 2020-01-01T00:00Z to 2030-12-31T23:59Z. Choose a date between them.', 'refused: out of years: file has 2020-01-01T00:00Z to 2030-12-31T23:59Z']);
+const ASKED = { station: 'Atlantis', begin: '2025-06-08T00:00Z', end: '2025-06-01T00:00Z', layout: 'csv', mark: 'deep' };
+for (const [line, text] of [
+  ['refused: no station', 'There is no station “Atlantis” here. Look for a part of its name above.'],
+  ['refused: no reference Boston', '“Atlantis” is computed by differences from “Boston”, which the file of constants lacks.'],
+  ['refused: backward span', 'The question ends (2025-06-01T00:00Z) before it begins (2025-06-08T00:00Z).'],
+  ['refused: out of years: file has 2020-01-01T00:00Z to 2030-12-31T23:59Z', 'The constants reach from 2020-01-01T00:00Z to 2030-12-31T23:59Z. Choose a date between them.'],
+  ['refused: mark not here', '“Atlantis” has no times above a level: only its turns are computed, not the curve between.'],
+  ['limit: span of 9999999 minutes', 'The question is larger than what is computed: span of 9999999 minutes.'],
+  ['words: pair 5 has a bad value', 'The sill or limit, “deep”, is not a number such as 4 or -1.25, with at most six decimals.'],
+  ['words: pair 2 has a bad value', 'The begin, “2025-06-08T00:00Z”, is not of its form.'],
+  ['words: pair 9 has a bad value', 'The question is not in order.'],
+  ['refused: for a new reason', 'The server has no answer to this question.'],
+]) same(`the text for ${line}`, noAnswer(422, 'text/plain', `${line}\n`, ASKED).slice(1), [text, line]);
+
+const NOTES = {
+  Olhão: { country: 'Portugal', identifier: 'IH 12' },
+  'Pier (old)': { latitude: 42, longitude: -71, country: 'USA', identifier: 'NOS 8443970' },
+  'Dock (east)': { latitude: 42, longitude: -70.9 },
+  '10 miles out': { latitude: 42.5, longitude: -71 },
+  '9 miles out': { latitude: 42.15, longitude: -71, zone: 'America/New_York' },
+};
+const NOTED = withNotes(['Olhão', '10 miles out', 'Pier (old)', '9 miles out', 'constructor', 'Dock (east)'].map(name => ({ name })), NOTES);
+const named = name => NOTED.find(station => station.name === name);
+same('by name, those with a digit last', NOTED.map(({ name }) => name), ['constructor', 'Dock (east)', 'Olhão', 'Pier (old)', '9 miles out', '10 miles out']);
+same('a station without notes', named('constructor').notes, {});
+same('a station with notes', named('9 miles out').notes.zone, 'America/New_York');
+const findNoted = words => findStations(NOTED, words).map(({ name }) => name);
+same('found by a country', findNoted('portugal'), ['Olhão']);
+same('found by an identifier', findNoted('8443970'), ['Pier (old)']);
+same('found by a name and a country', findNoted('pier usa'), ['Pier (old)']);
+same('not found by two stations\' notes', findNoted('portugal usa'), []);
+
+const spot = (latitude, longitude) => ({ latitude, longitude });
+const [BOSTON, BATTERY] = [spot(42.3539, -71.0503), spot(40.7006, -74.0142)];
+same('a distance', distanceOf(BOSTON, BATTERY).toFixed(1), '166.1');
+same('a degree of latitude', distanceOf(spot(0, 0), spot(1, 0)).toFixed(2), '60.04');
+same('no distance', distanceOf(BOSTON, BOSTON), 0);
+same('over the date line', distanceOf(spot(0, 179.5), spot(0, -179.5)).toFixed(2), '60.04');
+same('the other end of the world', distanceOf(spot(90, 0), spot(-90, 0)).toFixed(0), '10807');
+for (const [to, bearing] of [[spot(1, 0), 0], [spot(0, 1), 90], [spot(-1, 0), 180], [spot(0, -1), 270]]) {
+  same(`a bearing of ${bearing}`, bearingOf(spot(0, 0), to), bearing);
+}
+same('a bearing', bearingOf(BOSTON, BATTERY), 234);
+same('a bearing that rounds to north', bearingOf(spot(0, 0), spot(1, -0.001)), 0);
+same('distances in words', [[0.04, 0], [1, 69], [166.14, 234], [12.34, 359]].map(pair => distanceText(...pair)),
+  ['at the same place', '1.0 nautical mile ENE (069°)', '166 nautical miles SW (234°)', '12.3 nautical miles N (359°)']);
+same('coordinates', [BOSTON, spot(-14.28, 170)].map(placeText), ['42.3539° N, 71.0503° W', '14.2800° S, 170.0000° E']);
+same('with coordinates', [BOSTON, {}, undefined, { latitude: 1 }].map(hasPlace), [true, false, false, false]);
+const nearOf = (name, count) => nearestTo(named(name), NOTED, count).map(({ station }) => station.name);
+same('the nearest stations', nearOf('Pier (old)', 10), ['Dock (east)', '9 miles out', '10 miles out']);
+same('the nearest two', nearOf('Pier (old)', 2), ['Dock (east)', '9 miles out']);
+same('none without coordinates', [nearOf('Olhão', 10), nearestTo(undefined, NOTED, 10)], [[], []]);
+
+const [JUNE, DECEMBER] = ['2025-06-01T00:00Z', '2025-12-01T00:00Z'].map(at);
+same('a clock ahead', differenceText('Europe/Berlin', 'America/New_York', [JUNE, DECEMBER]), '6 h ahead');
+same('a clock behind', differenceText('America/St_Johns', 'UTC', [JUNE]), '2 h 30 min behind');
+same('a clock that differs in winter', differenceText('Europe/London', 'UTC', [JUNE, DECEMBER]), '1 h ahead or level');
+same('clocks that agree', differenceText('Europe/Paris', 'Europe/Berlin', [JUNE, DECEMBER]), '');
+
+same('the strongest events', ['High Tide', 'Low Tide', 'Max Flood', 'Max Ebb', 'Min Ebb', 'Slack Ebb Begins', 'Mark Rising'].map(event => isStrongest({ event })),
+  [true, false, true, true, false, false, false]);
+same('room for labels', rangeOf([0, 10], 74 * 2 + 20 + 100, false).map(Math.round), [-7, 17]);
+same('room for times of slack', rangeOf([0, 10], 74 * 2 + 40 + 20 + 100, true).map(Math.round), [-11, 17]);
+same('room around a level that stays', rangeOf([2, 2], 0, false).every(Number.isFinite), true);
+
+const event = (moment, name, zone) => ({ moment: at(moment), event: name, shown: '1.00', units: 'feet', clock: clockAt(at(moment), zone) });
+const NEW_YORK = 'America/New_York';
+const FALL = [event('2026-11-01T08:43Z', 'High Tide', NEW_YORK), event('2026-11-01T07:00Z', 'Mark Rising', NEW_YORK)];
+const midnight = startOfDay('2026-11-01', NEW_YORK);
+same('offsets of what is shown', offsetsOf(midnight, FALL, [], NEW_YORK), ['-05:00']);
+same('offsets of a time that the begin cuts', offsetsOf(midnight, FALL, [{ from: midnight, to: at('2026-11-01T09:00Z'), openFrom: true }], NEW_YORK), ['-05:00']);
+same('offsets of a time above', offsetsOf(midnight, FALL, [{ from: midnight, to: at('2026-11-01T05:30Z'), openFrom: true }], NEW_YORK), ['-04:00', '-05:00']);
+same('the offset of an empty sheet', offsetsOf(midnight, [], [], NEW_YORK), ['-04:00']);
+const sheet = {
+  events: FALL, above: [], dates: ['2026-11-01', '2026-11-02'], zone: NEW_YORK, sill: '4', units: 'feet', isCurrent: false, offsets: ['-05:00'],
+};
+const textOf = elements => elements.map(({ textContent }) => textContent).join('|');
+same('a week without marks', /Mark|07:00|02:00/.test(textOf(weekSheet(sheet))), false);
+same('a week names its sill', textOf(weekSheet(sheet)).startsWith('Above the sill at 4 feet|'), true);
+same('a month without a star', textOf(monthSheet(sheet)).includes('*'), false);
+same('a month with a star', textOf(monthSheet({ ...sheet, offsets: ['-04:00', '-05:00'], events: [event('2026-11-01T04:30Z', 'Low Tide', NEW_YORK), ...FALL, event('2026-11-01T20:30Z', 'Low Tide', NEW_YORK)] }))
+  .includes('times with * at -04:00, the others at -05:00'), true);
+same('a limit', thresholdText({ isCurrent: true, sill: '2', units: 'knots' }), 'limit of 2 knots');
 
 const failed = results.filter(({ passed }) => !passed).length;
 document.getElementById('result').textContent = `${results.length - failed} passed, ${failed} failed`;

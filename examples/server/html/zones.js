@@ -70,3 +70,14 @@ export function dateText(date, parts = { weekday: 'short', day: 'numeric', month
 
 /** A moment as the program's `begin` and `end` have it. */
 export const momentText = moment => `${new Date(moment).toISOString().slice(0, 16)}Z`;
+
+/** How far one zone's clock is ahead of another's at some moments: as `6 h ahead`, `3 h 30 min behind`, or '' if never. */
+export function differenceText(zone, other, moments) {
+  const minutes = [...new Set(moments.map(moment => (clockAt(moment, zone).ahead - clockAt(moment, other).ahead) / MINUTE))];
+  const text = difference => {
+    const size = Math.abs(difference), [hours, rest] = [Math.floor(size / 60), size % 60];
+    const parts = [hours > 0 ? `${hours} h` : '', rest > 0 ? `${rest} min` : ''].filter(Boolean);
+    return difference === 0 ? 'level' : `${parts.join(' ')} ${difference > 0 ? 'ahead' : 'behind'}`;
+  };
+  return minutes.every(difference => difference === 0) ? '' : minutes.map(text).join(' or ');
+}

@@ -1,0 +1,91 @@
+#!/usr/bin/env python3
+"""Extracts the notes on each station from XTide's files, as the page reads them (stations.json).
+
+stations_from_xtide.py file=CONSTANTS [xml=OFFSETS.XML] [only=CONSTANTS] > stations.json
+
+CONSTANTS is a text file of harmonic constants, whose comments before a station have its notes; OFFSETS.XML has the
+subordinate stations. `only` keeps the stations of another file of constants.
+
+The result is an object with a member for each station's name: an object of `zone`, `latitude` and `longitude` (degrees,
+north and east positive), `datum`, `country`, `source` and `identifier`. A note that isn't there, or is `Unknown`, has no
+member. Of two stations of one name the first has the notes. The counts are on standard error.
+"""
+
+import collections
+import json
+import re
+import sys
+
+from offsets_from_xtide import stations
+
+NOTES = ('zone', 'latitude', 'longitude', 'datum', 'country', 'source', 'identifier')
+COMMENT = re.compile(r'#\s*!?(\w+):\s*(.*)')
+DEGREES = {'latitude': 90, 'longitude': 180}
+
+
+def degrees(text, most):
+    """A number of degrees, or None if the text isn't one up to `most` in size."""
+    form = re.fullmatch(r'[+-]?\d{1,3}(\.\d*)?', text or '')
+    return float(text) if form and abs(float(text)) <= most else None
+
+
+def notes_of(values):
+    """The notes of a station, from XTide's names of them."""
+    found = {key: values.get(key, '').strip() for key in ('datum', 'country', 'source')}
+    found['zone'] = values.get('timezone', '').strip().removeprefix(':')
+    found['identifier'] = f'{values.get("station_id_context", "")} {values.get("station_id", "")}'.strip()
+    found.update({key: degrees(values.get(key), most) for key, most in DEGREES.items()})
+    if found['latitude'] is None or found['longitude'] is None:
+        found['latitude'] = found['longitude'] = None
+    return {key: found[key] for key in NOTES if found[key] not in ('', None, 'Unknown')}
+
+
+def reference_stations(path):
+    """The name of each station of a file of constants, and its notes by XTide's names."""
+    data, comments = [], {}
+    with open(path, encoding='latin-1', newline='\n') as file:
+        for line in file:
+            text = line.strip(' \t\r\n')
+            if line.startswith('#'):
+                comment = COMMENT.fullmatch(text)
+                if comment:
+                    comments[comment[1]] = comment[2]
+            elif text:
+                data.append((text, comments))
+                comments = {}
+    constituents = int(data[0][0])
+    first = [index for index, (text, _) in enumerate(data) if text == '*END*'][1] + 1
+    for index in range(first, len(data) - 1, 3 + constituents):
+        name, comments = data[index]
+        zone = re.search(r'\s:?(\S+)$', data[index + 1][0])
+        yield name, {'timezone': zone[1] if zone else '', **comments}
+
+
+def subordinate_stations(path):
+    with open(path, encoding='latin-1', newline='') as file:
+        for station, _ in stations(file.read()):
+            if station.get('name'):
+                yield station['name'], station
+
+
+def main(file, xml=None, only=None):
+    kept = None if only is None else {name for name, _ in reference_stations(only)}
+    found = {}
+    for name, values in [*reference_stations(file), *(subordinate_stations(xml) if xml else [])]:
+        if kept is None or name in kept:
+            found.setdefault(name, notes_of(values))
+    sys.stdout.reconfigure(encoding='utf-8', newline='')
+    members = (f'{json.dumps(name, ensure_ascii=False)}: {json.dumps(notes, ensure_ascii=False)}' for name, notes in found.items())
+    print('{', ',\n'.join(members), '}', sep='\n')
+    counts = collections.Counter(key for notes in found.values() for key in notes)
+    print(f'{len(found)} stations', *(f'{counts[key]} with {key}' for key in NOTES), sep=', ', file=sys.stderr)
+
+
+if __name__ == '__main__':
+    try:
+        words = dict(word.split('=', 1) for word in sys.argv[1:])
+        main(**words)
+    except OSError as fault:
+        sys.exit(f'stations_from_xtide: {fault}')
+    except (ValueError, TypeError, IndexError):
+        sys.exit(__doc__)
