@@ -1,5 +1,5 @@
 import { isMark, readPoints, timesAbove } from './events.js';
-import { ask, NoAnswer } from './replies.js';
+import { ask, NoAnswer, readNotes } from './replies.js';
 import { element } from './sheets.js';
 import { readStations } from './stations.js';
 import { browserZone, clockAt, isZone, momentText, zoneNames } from './zones.js';
@@ -16,16 +16,6 @@ async function beside(file) {
     return reply.ok ? await reply.text() : null;
   } catch {
     return null;
-  }
-}
-
-/** What stations.json has of a station, if it is there. */
-async function notesOf(name) {
-  try {
-    const notes = JSON.parse(await beside('stations.json'));
-    return (Object.hasOwn(notes, name) && notes[name]) || {};
-  } catch {
-    return {};
   }
 }
 
@@ -100,7 +90,9 @@ function listen({ name }) {
 }
 
 async function start() {
-  const notes = await notesOf(new URLSearchParams(location.search).get('station'));
+  const station = new URLSearchParams(location.search).get('station');
+  const all = await readNotes();
+  const notes = (Object.hasOwn(all, station) && all[station]) || {};
   const asking = question(notes);
   showControls(asking);
   listen(asking);

@@ -1,14 +1,14 @@
+import { isStrongest } from './events.js';
 import { element } from './sheets.js';
 import { dateOf, dayOf, daysIn, heightOf, MONTHS, SIGNS, sizeFor } from './year_days.js';
 
 const WEEKDAYS = ['Sun', 'Mon', 'Tue', 'Wed', 'Thu', 'Fri', 'Sat'];
-const isTop = ({ event }) => ['High Tide', 'Max Flood', 'Max Ebb'].includes(event);
 const weekdayOf = date => WEEKDAYS[new Date(`${date}T00:00Z`).getUTCDay()];
 const cell = (className, text) => element('td', { className }, text);
 
 function turnCells(turn) {
   if (!turn) return [cell('', ''), cell('', ''), cell('', '')];
-  const top = isTop(turn) ? ' top' : '';
+  const top = isStrongest(turn) ? ' top' : '';
   return [cell(`sign${top}`, SIGNS[turn.event]), cell(`time${top}`, turn.clock.time), cell(`level${top}`, turn.shown)];
 }
 
