@@ -69,8 +69,9 @@ def read_stations(words, usual_notes):
             raise Wrong(f'{name} has no zone: put one behind a tab in the list, or zone=UTC for all that have none')
         if '..' in zone or not (ZONES / zone).is_file():
             raise Wrong(f'{name}: there is no zone {zone} in {ZONES}')
-        stations.append({'name': name, 'zone': zone, 'sill': sill or None, 'datum': note.get('datum'), 'key': key_of(name),
-                         **known.get(name, {'units': '', 'reference': None})})
+        more = known.get(name, {'units': '', 'reference': None})
+        datum = note.get('datum') or notes.get(more['reference'], {}).get('datum')
+        stations.append({'name': name, 'zone': zone, 'sill': sill or None, 'datum': datum, 'key': key_of(name), **more})
     keys = [station['key'] for station in stations]
     for station in stations:
         if keys.count(station['key']) > 1:

@@ -19,6 +19,8 @@ async function beside(file) {
   }
 }
 
+const noted = (all, name) => (Object.hasOwn(all, name) && all[name]) || {};
+
 /** The files of constants with their SHA-256, from the lines of sha256sum. */
 async function constantsOf() {
   const lines = (await beside('constants.sha256') ?? '').split('\n').map(line => /^([0-9a-f]{64}) [ *](.*)$/.exec(line));
@@ -47,7 +49,7 @@ async function eventsOf(span, sill) {
   }
 }
 
-async function askYear(asking, notes) {
+async function askYear(asking, all) {
   const { name, year, zone } = asking;
   const [begin, end] = spanOf(year, zone);
   const span = { station: name, begin: momentText(begin), end: momentText(end), layout: 'csv' };
@@ -60,7 +62,8 @@ async function askYear(asking, notes) {
   const points = [...changes, ...events.filter(event => !isMark(event))].sort((one, other) => one.moment - other.moment);
   return {
     ...asking, sill, why, begin, events, points, changes, units, isCurrent: units.startsWith('knots'),
-    offset: clockAt(begin, zone).offset, reference: known?.reference ?? null, datum: notes.datum ?? null,
+    offset: clockAt(begin, zone).offset, reference: known?.reference ?? null,
+    datum: noted(all, name).datum ?? noted(all, known?.reference).datum ?? null,
     above: sill === null ? [] : timesAbove(events, begin, end, first[0].level > Number(sill)),
     constants: await constantsOf(),
   };
@@ -92,12 +95,11 @@ function listen({ name }) {
 async function start() {
   const station = new URLSearchParams(location.search).get('station');
   const all = await readNotes();
-  const notes = (Object.hasOwn(all, station) && all[station]) || {};
-  const asking = question(notes);
+  const asking = question(noted(all, station));
   showControls(asking);
   listen(asking);
   try {
-    const answer = await askYear(asking, notes);
+    const answer = await askYear(asking, all);
     if (answer.why) place('trouble').append(note(answer.why));
     place('sheets').replaceChildren(...yearSheets(answer));
   } catch (error) {
