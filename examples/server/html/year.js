@@ -98,6 +98,10 @@ async function start() {
   const asking = question(noted(all, station));
   showControls(asking);
   listen(asking);
+  if (station === null) {
+    place('trouble').append('Choose a station on the page of the week.');
+    return;
+  }
   try {
     const answer = await askYear(asking, all);
     if (answer.why) place('trouble').append(note(answer.why));
