@@ -11,6 +11,7 @@ import unicodedata
 from yearbook_sheets import ZONES
 
 SILL = re.compile(r'[+-]?(\d+\.?\d*|\.\d+)')
+ZONE = re.compile(r'[\w+-]+(/[\w+-]+)*')
 
 
 class Wrong(Exception):
@@ -67,7 +68,7 @@ def read_stations(words, usual_notes):
         zone = zone or note.get('zone') or words.get('zone')
         if not zone:
             raise Wrong(f'{name} has no zone: put one behind a tab in the list, or zone=UTC for all that have none')
-        if '..' in zone or not (ZONES / zone).is_file():
+        if not ZONE.fullmatch(zone) or not (ZONES / zone).is_file():
             raise Wrong(f'{name}: there is no zone {zone} in {ZONES}')
         more = known.get(name, {'units': '', 'reference': None})
         datum = note.get('datum') or notes.get(more['reference'], {}).get('datum')
