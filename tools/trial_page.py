@@ -13,51 +13,58 @@ BOSTON = 'Boston, Boston Harbor, Massachusetts'
 SEATTLE = 'Seattle, Puget Sound, Washington'
 STRANGE = 'Cais "d\'Água", Olhão & <b>Ria</b>'
 PAPERS = {'A4': (8.27, 11.69), 'Letter': (8.5, 11)}
+# The page has an answer, or says why there is none.
+SHOWN = 'document.querySelector("#answer[aria-busy=false]:not([hidden]), #trouble .note") !== null'
 # What the page has measured when its layout is the paper's: the right edges of the curve's canvas and of the text.
 MEASURE = """matchMedia('print').addEventListener('change', ({ matches }) => {
   if (matches) window.measured = ['#curve canvas', 'body'].map(it => document.querySelector(it).getBoundingClientRect().right);
 })"""
+
+# What a question is about, the question, and what its page has.
+OPENED = [
+    ('a week with a sill', {'station': BOSTON, 'date': '2025-06-01', 'sill': '4'}, ['High Tide', '10.48', 'Above the sill at 4 feet', 'canvas']),
+    ('the notes on a station', {'station': SEATTLE, 'date': '2025-06-01'},
+     ['clock of America/Los_Angeles (-07:00), the station\'s own', 'above Mean Lower Low Water', '47.6026° N, 122.3393° W', 'NOS 9447130',
+      'America/New_York, is 3 h ahead', '588 nautical miles S (181°)', 'canvas']),
+    ('another clock than the station\'s', {'station': SEATTLE, 'date': '2025-06-01', 'zone': 'Europe/London'},
+     ['clock of Europe/London (+01:00)', 'America/Los_Angeles, is 8 h behind']),
+    ('a week over spring forward', {'station': BOSTON, 'date': '2025-03-06', 'zone': 'America/New_York'}, ['-05:00', '-04:00', 'canvas']),
+    ('a week over fall back', {'station': BOSTON, 'date': '2025-10-30', 'zone': 'America/New_York'}, ['-05:00', '-04:00', 'canvas']),
+    ('a month', {'station': BOSTON, 'date': '2025-06-10', 'view': 'month'}, ['June 2025', 'Mon 30', 'H High Tide']),
+    ('a name with quotes, a comma, letters and a tag', {'station': STRANGE, 'date': '2025-06-01'}, [html.escape(STRANGE, False), 'Low Tide', 'canvas']),
+    ('a week past the file', {'station': BOSTON, 'date': '2199-01-01'}, ['The constants reach from', 'refused: out of years']),
+    ('a station that is not there', {'station': 'Atlantis'}, ['There is no station “Atlantis” here', 'refused: no station']),
+    ('a sill that is no number', {'station': BOSTON, 'sill': 'deep'}, ['The sill or limit, “deep”, is not a number', 'words: pair']),
+]
 
 
 class PageTrial:
     """The trials of the page, for a class with a site, the words of the command line, `say` and `program`."""
 
     def pages(self):
-        document, complaints = self.site.browse('tests.html')
+        with Tab(self.site, 1280, 900) as tab:
+            document = tab.open('tests.html', 'document.getElementById("result").textContent !== "running"')
         told = re.search(r'\d+ passed, \d+ failed', document)
-        self.say(bool(told) and told[0].endswith(' 0 failed') and not complaints, f'tests.html: {told[0] if told else "no result"}')
-        for complaint in complaints + re.findall('<li class="failed">(.*?)</li>', document):
+        self.say(bool(told) and told[0].endswith(' 0 failed') and not tab.complaints, f'tests.html: {told[0] if told else "no result"}')
+        for complaint in tab.complaints + re.findall('<li class="failed">(.*?)</li>', document):
             print(f'     {complaint}')
 
     def opened(self):
         """The page's texts for several questions."""
-        for about, query, wanted in [
-            ('a week with a sill', {'station': BOSTON, 'date': '2025-06-01', 'sill': '4'}, ['High Tide', '10.48', 'Above the sill at 4 feet', 'canvas']),
-            ('the notes on a station', {'station': SEATTLE, 'date': '2025-06-01'},
-             ['clock of America/Los_Angeles (-07:00), the station\'s own', 'above Mean Lower Low Water', '47.6026° N, 122.3393° W', 'NOS 9447130',
-              'America/New_York, is 3 h ahead', '588 nautical miles S (181°)', 'canvas']),
-            ('another clock than the station\'s', {'station': SEATTLE, 'date': '2025-06-01', 'zone': 'Europe/London'},
-             ['clock of Europe/London (+01:00)', 'America/Los_Angeles, is 8 h behind']),
-            ('a week over spring forward', {'station': BOSTON, 'date': '2025-03-06', 'zone': 'America/New_York'}, ['-05:00', '-04:00', 'canvas']),
-            ('a week over fall back', {'station': BOSTON, 'date': '2025-10-30', 'zone': 'America/New_York'}, ['-05:00', '-04:00', 'canvas']),
-            ('a month', {'station': BOSTON, 'date': '2025-06-10', 'view': 'month'}, ['June 2025', 'Mon 30', 'H High Tide']),
-            ('a name with quotes, a comma, letters and a tag', {'station': STRANGE, 'date': '2025-06-01'}, [html.escape(STRANGE, False), 'Low Tide', 'canvas']),
-            ('a week past the file', {'station': BOSTON, 'date': '2199-01-01'}, ['The constants reach from', 'refused: out of years']),
-            ('a station that is not there', {'station': 'Atlantis'}, ['There is no station “Atlantis” here', 'refused: no station']),
-            ('a sill that is no number', {'station': BOSTON, 'sill': 'deep'}, ['The sill or limit, “deep”, is not a number', 'words: pair']),
-        ]:
-            document, complaints = self.site.browse(f'?{urllib.parse.urlencode(query)}')
-            missing = [text for text in wanted if text not in document]
-            # A refusal's status is no fault of the page, but the browser tells it.
-            faults = [line for line in complaints if 'status of 4' not in line]
-            self.say(not missing and not faults, f'page: {about}{"".join(f"; lacks {text}" for text in missing)}{"".join(faults)}')
+        with Tab(self.site, 1280, 900) as tab:
+            for about, query, wanted in OPENED:
+                document = tab.open(f'?{urllib.parse.urlencode(query)}', SHOWN)
+                missing = [text for text in wanted if text not in document]
+                # A refusal's status is no fault of the page, but the browser reports it.
+                faults = [line for line in tab.complaints if 'status of 4' not in line]
+                self.say(not missing and not faults, f'page: {about}{"".join(f"; lacks {text}" for text in missing)}{"".join(faults)}')
 
     def pressed(self):
         """The page by keys alone, as wide as a telephone."""
         with Tab(self.site) as tab:
-            origin = f'http://127.0.0.1:{self.site.port}/'
-            tab.call('Page.navigate', url=origin)
+            tab.open('', 'true')
             seen = [tab.until('document.querySelectorAll("#found a").length > 1')]
+            tab.press('Tab', 9)
             tab.press('Tab', 9)
             seen.append(tab.value('document.activeElement.id') == 'words')
             tab.call('Input.insertText', text='harbor massa BOST')
@@ -80,7 +87,7 @@ class PageTrial:
             form = tab.value('document.getElementById("answer").getBoundingClientRect().top / innerHeight')
             tab.value('history.back()')
             seen.append(tab.until('document.querySelector("#sheet h3").textContent === "Events"'))
-            elsewhere = [url for url in tab.requests if not url.startswith((origin, 'data:'))]
+            elsewhere = [url for url in tab.requests if not url.startswith((tab.origin, 'data:'))]
         steps = f'{sum(map(bool, seen))} of {len(seen)} steps {"" if all(seen) else seen}'
         self.say(all(seen) and width <= 360, f'page by keys alone: {steps}, {width} of 360 points wide')
         self.say(form < 0.4, f'the form fills {form:.0%} of a telephone\'s first screen')
@@ -89,19 +96,18 @@ class PageTrial:
     def noted(self):
         """The start page by name, a station found by its identifier, and the page without notes."""
         with Tab(self.site, 1280, 900) as tab:
-            tab.call('Page.navigate', url=f'http://127.0.0.1:{self.site.port}/')
-            tab.until('document.querySelectorAll("#found a").length > 1')
+            tab.open('', 'document.querySelectorAll("#found a").length > 1')
             names = tab.value('[...document.querySelectorAll("#found a > span:nth-child(2)")].map(it => it.firstChild.textContent)')
             self.say(names == sorted(names), f'start page: {len(names)} stations by name, from {names[0]}')
             tab.value('document.getElementById("words").focus()')
             tab.call('Input.insertText', text='9447130')
             found = tab.until('document.querySelectorAll("#found a").length === 1') and tab.value('document.querySelector("#found a").textContent')
             self.say(bool(found) and SEATTLE in found, f'found by 9447130: {found}')
-        notes = self.site.folder / 'html' / 'stations.json'
-        text = notes.read_text()
-        notes.unlink()
-        document, _ = self.site.browse(f'?{urllib.parse.urlencode({"station": SEATTLE, "date": "2025-06-01"})}')
-        notes.write_text(text)
+            notes = self.site.folder / 'html' / 'stations.json'
+            text = notes.read_text()
+            notes.unlink()
+            document = tab.open(f'?{urllib.parse.urlencode({"station": SEATTLE, "date": "2025-06-01"})}', SHOWN)
+            notes.write_text(text)
         self.say('clock of America/New_York (-04:00)<' in document and 'canvas' in document and '47.6026' not in document,
                  'page: without the notes it has the browser\'s clock')
 
@@ -111,8 +117,7 @@ class PageTrial:
         for width in (1280, 1920, 360):
             with Tab(self.site) as tab:
                 tab.resize(width, 900, mobile=width == 360)
-                tab.call('Page.navigate', url=f'http://127.0.0.1:{self.site.port}/?{query}')
-                tab.until('document.querySelector("#curve canvas") !== null')
+                tab.open(f'?{query}', SHOWN)
                 tab.value(MEASURE)
                 before = tab.value('document.querySelector("#curve canvas").clientWidth')
                 for (paper, inches), landscape in itertools.product(PAPERS.items(), (False, True)):
@@ -134,22 +139,21 @@ class PageTrial:
 
     def sheets(self):
         """A month prints on one sheet, of two papers."""
-        for paper, query in itertools.product(('A4', 'Letter'), self.months()):
-            style = self.site.folder / 'html' / 'style.css'
-            usual = style.read_text()
-            style.write_text(f'{usual}\n@page {{ size: {paper}; }}\n')
-            sheet = self.site.folder / 'month.pdf'
-            self.site.browse(f'?{urllib.parse.urlencode({**query, "view": "month"})}', f'--print-to-pdf={sheet}', '--no-pdf-header-footer')
-            style.write_text(usual)
-            count = len(re.findall(rb'/Type\s*/Page\b', sheet.read_bytes()))
-            self.say(count == 1, f'month of {query["station"]}{" with a sill" if "sill" in query else ""} on {paper}: {count} page')
-            self.picture(sheet, f'month-{query["station"][:20]}-{query.get("sill", "")}-{paper}')
+        sheet = self.site.folder / 'month.pdf'
+        with Tab(self.site, 1280, 900) as tab:
+            for query, (paper, inches) in itertools.product(self.months(), PAPERS.items()):
+                tab.open(f'?{urllib.parse.urlencode({**query, "view": "month"})}', SHOWN)
+                tab.print_to(sheet, inches, landscape=False)
+                count = len(re.findall(rb'/Type\s*/Page\b', sheet.read_bytes()))
+                self.say(count == 1, f'month of {query["station"]}{" with a sill" if "sill" in query else ""} on {paper}: {count} page')
+                self.picture(sheet, f'month-{query["station"][:20]}-{query.get("sill", "")}-{paper}')
 
     def months(self):
         names = self.program('stations').splitlines()
         current = next((line.split(' ', 2)[2] for line in names if line.startswith('Ref knots ')), None)
         boston = {'station': BOSTON, 'date': '2025-10-01'}
-        return [boston, {**boston, 'sill': '4'}] + ([{'station': current, 'date': '2025-10-01'}] if current else [])
+        currents = [{'station': current, 'date': '2025-10-01'}, {'station': current, 'date': '2025-10-01', 'sill': '1'}] if current else []
+        return [boston, {**boston, 'sill': '4'}, *currents]
 
     def pictured(self):
         boston = {'station': BOSTON, 'date': '2025-06-01', 'sill': '4'}

@@ -141,7 +141,7 @@ class Site:
         command = [*BROWSER, '--enable-logging=stderr', f'--user-data-dir={self.folder / "browser"}',
                    '--virtual-time-budget=30000', *(flags or ['--dump-dom']), f'http://127.0.0.1:{self.port}/{page}']
         with subprocess.Popen(command, stdout=subprocess.PIPE, stderr=subprocess.PIPE, text=True, env=self.home(),
-                              start_new_session=True) as run:
+                              process_group=0) as run:
             try:
                 out, err = run.communicate(timeout=120)
             except subprocess.TimeoutExpired:
@@ -154,18 +154,21 @@ class Tab:
     """A tab of a browser as wide as a telephone, with keys to press. For a `with`."""
 
     def __init__(self, site, width=360, height=740):
-        self.asked, self.requests = 0, []
+        self.asked, self.requests, self.complaints = 0, [], []
+        self.origin = f'http://127.0.0.1:{site.port}/'
         (its_end, self.to), (self.back, other_end) = os.pipe(), os.pipe()
         command = [*BROWSER, '--remote-debugging-pipe', f'--user-data-dir={site.folder / "tab"}']
         self.run = subprocess.Popen(['bash', '-c', f'exec "$@" 3<&{its_end} 4>&{other_end}', 'tab', *command], env=site.home(),
-                                    pass_fds=(its_end, other_end), stderr=subprocess.DEVNULL, start_new_session=True)
+                                    pass_fds=(its_end, other_end), stderr=subprocess.DEVNULL, process_group=0)
         os.close(its_end)
         os.close(other_end)
         self.rest, self.session = b'', {}
         target = self.call('Target.createTarget', url='about:blank')['targetId']
         self.session = {'sessionId': self.call('Target.attachToTarget', targetId=target, flatten=True)['sessionId']}
         self.call('Network.enable')
-        self.resize(width, height, mobile=True)
+        self.call('Log.enable')
+        self.call('Runtime.enable')
+        self.resize(width, height, mobile=width < 500)
 
     def __enter__(self):
         return self
@@ -189,9 +192,24 @@ class Tab:
         self.asked += 1
         os.write(self.to, json.dumps({'id': self.asked, 'method': method, 'params': values, **self.session}).encode() + b'\0')
         while (said := self.message()).get('id') != self.asked:
-            if said.get('method') == 'Network.requestWillBeSent':
-                self.requests.append(said['params']['request']['url'])
+            self.note(said.get('method'), said.get('params'))
         return said.get('result', {})
+
+    def note(self, event, values):
+        """Keeps the requests of the page, and what the browser complains of."""
+        if event == 'Network.requestWillBeSent':
+            self.requests.append(values['request']['url'])
+        if event == 'Log.entryAdded' and values['entry']['level'] in ('warning', 'error'):
+            self.complaints.append(values['entry']['text'])
+        if event == 'Runtime.exceptionThrown':
+            self.complaints.append(values['exceptionDetails']['text'])
+
+    def open(self, page, shown, seconds=60):
+        """Opens a page and returns its document when an expression has come true, or after some seconds."""
+        self.complaints.clear()
+        self.call('Page.navigate', url=f'{self.origin}{page}')
+        self.until(f'document.readyState === "complete" && ({shown})', seconds)
+        return self.value('document.documentElement.outerHTML')
 
     def value(self, expression):
         return self.call('Runtime.evaluate', expression=expression, returnByValue=True)['result'].get('value')

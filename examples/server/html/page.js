@@ -22,6 +22,9 @@ function usualZone(name) {
   return isZone(zone) ? zone : browserZone();
 }
 
+/** A number as the program reads it, or null for none. */
+const decimalText = text => text?.trim().replace(',', '.') || null;
+
 /** The question in the address bar. */
 function question() {
   const query = new URLSearchParams(location.search);
@@ -30,7 +33,7 @@ function question() {
   const date = isDate(query.get('date')) ? query.get('date') : clockAt(Date.now(), zone).date;
   return {
     station, zone, date, view: query.get('view') === 'month' ? 'month' : 'week',
-    sill: query.get('sill')?.trim().replace(',', '.') || null,
+    sill: decimalText(query.get('sill')),
   };
 }
 
@@ -143,10 +146,12 @@ function showCurve(answer, isPaper = false) {
   graph = drawChart(place('curve'), { ...answer, sill, sillText: thresholdText(answer), report, isPaper });
 }
 
-/** Whether a table is wider than its frame, said above it. */
-function showHint() {
-  const frame = document.querySelector('.scroll');
-  if (frame) document.querySelector('.hint').hidden = frame.scrollWidth <= frame.clientWidth + 1;
+/** Shows the hint above each table or curve that is wider than its frame. */
+function showHints() {
+  for (const hint of document.querySelectorAll('.hint')) {
+    const frame = hint.nextElementSibling;
+    hint.hidden = frame.scrollWidth <= frame.clientWidth + 1;
+  }
 }
 
 function showAnswer(answer) {
@@ -158,8 +163,8 @@ function showAnswer(answer) {
   if (answer.events.length === 0) place('notes').append('There are no events in this time.');
   place('answer').hidden = false;
   place('sheet').replaceChildren(...(answer.view === 'week' ? weekSheet(answer) : monthSheet(answer)));
-  showHint();
   showCurve(answer);
+  showHints();
   showNear(answer.known);
 }
 
@@ -180,7 +185,6 @@ function showControls({ station, view, date, zone, sill }) {
   place('threshold').textContent = known?.isCurrent ? 'limit of' : 'sill at';
   place('units').textContent = known?.units ?? '';
   document.title = station ? `${station}: tides and currents` : 'Tides and currents';
-  for (const link of document.querySelectorAll('a[data-page]')) link.href = link.dataset.page + location.search;
 }
 
 async function show() {
@@ -204,7 +208,8 @@ function changeQuestion(event) {
   event.preventDefault();
   const { view, date, sill, zone } = controls;
   const changes = {
-    view: view.value, date: date.value, sill: sill.value, zone: zone.value === usualZone(question().station) ? null : zone.value,
+    view: view.value, date: date.value, sill: decimalText(sill.value),
+    zone: zone.value === usualZone(question().station) ? null : zone.value,
   };
   // The Enter key changes a field and then submits the form.
   if (event.type === 'change' || !isHere(changes) || place('trouble').hasChildNodes()) goTo(changes);
@@ -229,7 +234,7 @@ function listen() {
   controls.print.addEventListener('click', () => window.print());
   controls.year.addEventListener('click', () => location.assign(`year.html${location.search}`));
   window.addEventListener('popstate', () => { showFound(); show(); });
-  window.addEventListener('resize', showHint);
+  window.addEventListener('resize', showHints);
   setInterval(() => graph?.updateOptions({}), 60_000);
   followPaper(place('curve'), isPaper => { if (graph) showCurve(drawn, isPaper); });
 }

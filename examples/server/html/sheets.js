@@ -90,6 +90,6 @@ export function monthSheet(answer) {
   const legend = [signs.map(([word, sign]) => `${sign} ${word}`).join(', ')]
     .concat(sill !== null && isCurrent ? 'flood is positive, ebb negative' : [])
     .concat(others.length > 0 ? `times with * at ${others.join(', ')}, the others at ${usual}` : []);
-  return [element('p', { className: 'hint', hidden: true }, 'The table goes on to the right: move it sideways.'),
+  return [element('p', { className: 'hint', hidden: true }, 'More to the right'),
     element('div', { className: 'scroll', tabIndex: 0 }, table), element('p', { className: 'quiet' }, legend.join('; '))];
 }
