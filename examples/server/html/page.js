@@ -232,6 +232,7 @@ function listen() {
   controls.later.addEventListener('click', () => move(1));
   controls.today.addEventListener('click', () => goTo({ date: null }));
   controls.print.addEventListener('click', () => window.print());
+  controls.year.addEventListener('click', () => location.assign(`year.html${location.search}`));
   window.addEventListener('popstate', () => { showFound(); show(); });
   window.addEventListener('resize', showHints);
   setInterval(() => graph?.updateOptions({}), 60_000);

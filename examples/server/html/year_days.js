@@ -1,0 +1,77 @@
+import { clockAt, startOfDay } from './zones.js';
+
+const MINUTE = 60_000;
+const DAY = 1440 * MINUTE;
+/** The most lines of half a month for each size of type in year.css. */
+const SIZES = [64, 72, 80, 92, 104, 120, 144, 180, 240];
+
+export const SIGNS = {
+  'High Tide': 'H', 'Low Tide': 'L', 'Max Flood': 'F', 'Max Ebb': 'E', 'Min Flood': 'f', 'Min Ebb': 'e',
+  'Slack Flood Begins': 'SF', 'Slack Ebb Begins': 'SE',
+};
+export const MONTHS = ['January', 'February', 'March', 'April', 'May', 'June', 'July', 'August', 'September', 'October',
+  'November', 'December'];
+
+const two = number => String(number).padStart(2, '0');
+export const dateOf = (year, month, day) => `${String(year).padStart(4, '0')}-${two(month)}-${two(day)}`;
+export const spanOf = (year, zone) => [dateOf(year, 1, 1), dateOf(year + 1, 1, 1)].map(date => startOfDay(date, zone));
+/** The calendar repeats after 400 years. */
+export const daysIn = (year, month) => new Date(Date.UTC(2000 + (year % 400), month, 0)).getUTCDate();
+
+/** The first minute in (`from`, `to`] whose offset isn't that of `from`. */
+function firstOther(from, to, zone) {
+  const usual = clockAt(from, zone).ahead;
+  let [low, high] = [from, to];
+  while (high - low > MINUTE) {
+    const middle = low + Math.floor((high - low) / 2 / MINUTE) * MINUTE;
+    if (clockAt(middle, zone).ahead === usual) low = middle; else high = middle;
+  }
+  return high;
+}
+
+/** The changes of a zone's clock between two moments, at most one a day: the first minute of each new offset. */
+export function clockChanges(begin, end, zone) {
+  const changes = [];
+  for (let from = begin; from < end; from += DAY) {
+    const to = Math.min(from + DAY, end);
+    if (clockAt(from, zone).ahead !== clockAt(to, zone).ahead) {
+      const moment = firstOther(from, to, zone);
+      if (moment < end) changes.push({ moment, clock: clockAt(moment, zone), isChange: true });
+    }
+  }
+  return changes;
+}
+
+/** The lines of a day: a change of the clock, or a slack with the maximum after it, or one of both. */
+export function linesOf(points) {
+  const lines = [];
+  for (const point of points) {
+    if (point.isChange) lines.push({ change: point });
+    else if (point.event.startsWith('Slack ')) lines.push({ slack: point });
+    else if (lines.at(-1)?.slack && !lines.at(-1).turn) lines.at(-1).turn = point;
+    else lines.push({ turn: point });
+  }
+  return lines;
+}
+
+/** A time above the sill in the clock of a zone. `+N`: it ends N days later, where that isn't the same or the next day. */
+export function aboveText({ from, to, openFrom, openTo }, zone) {
+  const [first, last] = [clockAt(from, zone), clockAt(to, zone)];
+  const days = (Date.parse(last.date) - Date.parse(first.date)) / DAY;
+  return `${openFrom ? '..' : first.time}–${openTo ? '..' : last.time}${days > 1 ? ` +${days}` : ''}`;
+}
+
+/** A day's lines and its times above the sill, each under the date on which it begins. */
+export function dayOf(date, { points, above, zone }) {
+  return {
+    lines: linesOf(points.filter(({ clock }) => clock.date === date)),
+    above: above.filter(({ from }) => clockAt(from, zone).date === date).map(time => aboveText(time, zone)),
+  };
+}
+
+/** How many lines a day takes: its times above the sill have a column beside a tide, and lines below a current. */
+export const heightOf = ({ lines, above }, isCurrent) =>
+  Math.max(2, isCurrent ? lines.length + above.length : Math.max(lines.length, above.length));
+
+/** The class of year.css for half a month with so many lines. */
+export const sizeFor = most => `lines-${SIZES.find(size => most <= size) ?? SIZES.at(-1)}`;
