@@ -70,6 +70,8 @@ class Site:
         self.nginx = None
         shutil.copytree(SERVER / 'html', folder / 'html')
         text = (SERVER / 'nginx.conf').read_text().replace('/usr/share/tide/server/html', str(folder / 'html'))
+        # Nothing of a site that this machine has.
+        text = text.replace('/etc/tide', str(folder / 'settings')).replace('/var/lib/tide', str(folder / 'notes'))
         for usual, port in zip((8000, 8081, 8082, 8083, 8084), [self.port, *self.ports]):
             text = text.replace(f'127.0.0.1:{usual}', f'127.0.0.1:{port}')
         (folder / 'tide.conf').write_text(text)
