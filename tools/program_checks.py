@@ -36,8 +36,8 @@ class Report:
         with self.lock:
             print(text.encode('ascii', 'backslashreplace').decode(), flush=True)
 
-    def check(self, name, body):
-        """Makes a check, which returns what is wrong, or nothing."""
+    def check(self, name, body, again=None):
+        """Makes a check, which returns what is wrong, or nothing. One that fails is put on the list `again`, if there is one."""
         try:
             seen = body()
         except Skipped as why:
@@ -45,6 +45,9 @@ class Report:
             return
         except Exception as fault:  # a check that can't be made to its end has failed
             seen = f'{type(fault).__name__}: {fault}'
+        if seen and again is not None:
+            again.append((name, body))
+            return
         with self.lock:
             self.checks += 1
             self.failed += bool(seen)

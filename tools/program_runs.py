@@ -148,6 +148,19 @@ def left_in_between(place):
     return '' if seen == [b'Pier\n', 7, b'write fault\n'] else str(seen)
 
 
+def no_room(place):
+    """Standard output is a file that may not grow past some blocks: a front part is written, then the fault."""
+    words = ('heights', 'file=daily.txt', 'station=Pier', 'begin=2010-01-01T00:00Z', 'end=2010-01-08T00:00Z', 'step=1')
+    path = place.folder / 'short'
+    with open(path, 'wb') as file:
+        ended = place.run(*words, limit='trap "" XFSZ && ulimit -f 9', stdout=file)
+    if ended.returncode == 99:
+        raise Skipped('the shell can not limit the length of files')
+    came, whole = path.read_bytes(), place.run(*words).stdout
+    seen = ended.returncode, ended.stderr, 0 < len(came) < len(whole) and whole.startswith(came)
+    return '' if seen == (7, b'write fault\n', True) else f'{seen}, {len(came)} bytes'
+
+
 def slow_reader(place):
     """A long list through a pipe that is often full, by a reader that stops the program now and then."""
     words = ('heights', 'file=daily.txt', 'station=Pier', 'begin=2010-01-01T00:00Z', 'end=2010-02-01T00:00Z', 'step=1')
@@ -223,5 +236,5 @@ def checks(place):
         named.setdefault(f'status {run[1]}: {name}', []).append(run)
     for name, runs in named.items():
         yield name, lambda runs=runs: '; '.join(filter(None, (run_as_recorded(place, run) for run in runs)))
-    for body in (pages, not_utf_8, clock, full_device, closed_pipe, left_in_between, slow_reader, standard_input, fifo, too_long, no_memory):
+    for body in (pages, not_utf_8, clock, full_device, closed_pipe, left_in_between, no_room, slow_reader, standard_input, fifo, too_long, no_memory):
         yield body.__name__.replace('_', ' '), lambda body=body: body(place)
