@@ -10,6 +10,8 @@ import threading
 import time
 
 TOP = pathlib.Path(__file__).resolve().parent.parent
+# The status of a shell that can't set a limit.
+NO_LIMIT = 99
 # Generous limits, in seconds: no run of a program that works comes near them.
 LONGEST_RUN, LONGEST_START, LONGEST_REPLY = 240, 30, 240
 LONG_NAME = 'A pier whose name is long, so that a list of it fills what a connection holds'
@@ -89,7 +91,7 @@ class Place:
 
     def command(self, words, limit=''):
         """The command line, with a limit of the shell's, as `ulimit -n 5`."""
-        start = ['/bin/sh', '-c', f'{limit} || exit 99; exec "$0" "$@"'] if limit else []
+        start = ['/bin/sh', '-c', f'{limit} || exit {NO_LIMIT}; exec "$0" "$@"'] if limit else []
         return [*start, self.program, *words]
 
     def run(self, *words, limit='', **handles):
@@ -118,7 +120,10 @@ class Server:
                 break
             self.end()
         if self.notice != f'http://127.0.0.1:{self.port}/\n'.encode():
-            status = self.end()
+            status = self.ended(5)
+            self.end()
+            if status == NO_LIMIT:
+                raise Skipped(f'the shell can not {limit}')
             raise OSError(f'the server printed {texted(self.notice)} on standard error; status {status}')
 
     def first_line(self):
@@ -130,6 +135,13 @@ class Server:
                     break
                 line += piece
         return line
+
+    def ended(self, seconds):
+        """The status with which the server ends within some seconds, or None."""
+        try:
+            return self.process.wait(seconds)
+        except subprocess.TimeoutExpired:
+            return None
 
     def end(self):
         """Ends the server, and returns its status, or None if it still served."""

@@ -9,7 +9,7 @@ import subprocess
 import threading
 import time
 
-from program_checks import DAY, TOP, Skipped, difference
+from program_checks import DAY, NO_LIMIT, TOP, Skipped, difference
 
 RUNS = TOP / 'tools' / 'expected' / 'runs.txt'
 WORDS = ('predict', 'file=pier.txt', 'station=Pier', 'begin=2000-01-10T00:00Z', 'end=2000-01-11T00:00Z')
@@ -154,7 +154,7 @@ def no_room(place):
     path = place.folder / 'short'
     with open(path, 'wb') as file:
         ended = place.run(*words, limit='trap "" XFSZ && ulimit -f 9', stdout=file)
-    if ended.returncode == 99:
+    if ended.returncode == NO_LIMIT:
         raise Skipped('the shell can not limit the length of files')
     came, whole = path.read_bytes(), place.run(*words).stdout
     seen = ended.returncode, ended.stderr, 0 < len(came) < len(whole) and whole.startswith(came)

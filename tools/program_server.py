@@ -42,7 +42,10 @@ def sockets(process=None):
 def state_at_server(server, link):
     """The state of the server's end of a connection, or nothing once it is gone."""
     ends = f'0100007F:{server.port:04X}', f'0100007F:{link.getsockname()[1]:04X}'
-    return next((state for here, there, state in sockets() if (here, there) == ends), None)
+    states = {(here, there): state for here, there, state in sockets()}
+    if ends not in states and ends[::-1] not in states:
+        raise Skipped('/proc/net/tcp does not show connections')
+    return states.get(ends)
 
 
 def address(place):
@@ -147,15 +150,17 @@ def farewell(place):
         link.sendall(request('/nowhere'))
         if received(link) != response(b'not found\n', '404 Not Found'):
             return 'no whole reply'
-        begun = time.monotonic()
+        begun, sent = time.monotonic(), 0
         while time.monotonic() < begun + 20:
             try:
                 link.sendall(b'x')
             except OSError:
                 break
+            sent += 1
             time.sleep(0.1)
         seen = time.monotonic() - begun
-    return '' if 0.6 <= seen <= 12 else f'after {seen:.1f} s'
+    # Without a farewell the second or third byte can't be sent any more.
+    return '' if sent > 4 and seen <= 12 else f'after {sent} bytes and {seen:.1f} s'
 
 
 def no_descriptor(place):
