@@ -42,10 +42,7 @@ def sockets(process=None):
 def state_at_server(server, link):
     """The state of the server's end of a connection, or nothing once it is gone."""
     ends = f'0100007F:{server.port:04X}', f'0100007F:{link.getsockname()[1]:04X}'
-    states = {(here, there): state for here, there, state in sockets()}
-    if ends not in states and ends[::-1] not in states:
-        raise Skipped('/proc/net/tcp does not show connections')
-    return states.get(ends)
+    return next((state for here, there, state in sockets() if (here, there) == ends), None)
 
 
 def address(place):
@@ -258,6 +255,8 @@ def parted(step, asked=b'', waits=False):
         if waits and most_sent() > LONG_BYTES / 2:
             raise Skipped(f'a connection may hold {most_sent()} bytes')
         with Server(place, file='daily.txt') as server, server.connect(4096) as link:
+            if state_at_server(server, link) != OPEN:
+                raise Skipped('/proc/net/tcp does not show connections')
             link.sendall(asked[:9])
             if waits:
                 time.sleep(PAUSE)
