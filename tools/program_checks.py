@@ -14,7 +14,8 @@ TOP = pathlib.Path(__file__).resolve().parent.parent
 NO_LIMIT = 99
 # Generous limits, in seconds: no run of a program that works comes near them.
 LONGEST_RUN, LONGEST_START, LONGEST_REPLY = 240, 30, 240
-LONG_NAME = 'A pier whose name is long, so that a list of it fills what a connection holds'
+# So long that a list of it fills what a connection holds.
+LONG_NAME = 'A pier with a long name' + ' and so on' * 16
 # A tide of twelve hours exactly, for 400 years: the same at each day's same minute.
 YEARS = 400
 DAILY = ['# The same each day', '1', 'S2 30', '2000', str(YEARS), 'S2', *['0'] * YEARS, '*END*',

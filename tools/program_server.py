@@ -10,9 +10,9 @@ from program_checks import LONG_NAME, LONGEST_REPLY, LONGEST_START, Server, Skip
 from program_runs import PIER, clock_lines, now, recorded
 
 PIER_DAY = '/predict?station=Pier&begin=2000-01-10T00:00Z&end=2000-01-11T00:00Z'
-# A reply of 13 megabytes, more than sockets hold.
-LONG = (f'/heights?station={LONG_NAME.replace(" ", "+")}&begin=2010-01-01T00:00Z&end=2010-03-10T00:00Z&step=1&layout=csv')
-LONG_BYTES = 12_000_000
+# A reply of 8 megabytes, more than sockets hold.
+LONG = (f'/heights?station={LONG_NAME.replace(" ", "+")}&begin=2010-01-01T00:00Z&end=2010-01-26T00:00Z&step=1&layout=csv')
+LONG_BYTES = 8_000_000
 # When a server parts from a client, in seconds: its time, and what a busy machine adds.
 EARLIEST, LATEST, WATCHED = 57, 66, 80
 # How long a client pauses in its request, in seconds.
@@ -252,7 +252,7 @@ def parted(step, asked=b'', waits=False):
     """How long a server stays with a client that takes a step each second, if that is wrong: from the begin of its reply, which it
     asks for in two pieces with a pause between, if it waits for one, or else from the begin of the connection."""
     def seconds(place):
-        if waits and most_sent() > LONG_BYTES / 2:
+        if waits and most_sent() > 6_000_000:
             raise Skipped(f'a connection may hold {most_sent()} bytes')
         with Server(place, file='daily.txt') as server, server.connect(4096) as link:
             if state_at_server(server, link) != OPEN:
