@@ -13,7 +13,7 @@ TOP = pathlib.Path(__file__).resolve().parent.parent
 # The status of a shell that can't set a limit.
 NO_LIMIT = 99
 # Generous limits, in seconds: no run of a program that works comes near them.
-LONGEST_RUN, LONGEST_START, LONGEST_REPLY = 240, 30, 240
+LONGEST_RUN, LONGEST_START, LONGEST_REPLY = 240, 60, 240
 # So long that a list of it fills what a connection holds.
 LONG_NAME = 'A pier with a long name' + ' and so on' * 16
 # A tide of twelve hours exactly, for 400 years: the same at each day's same minute.
