@@ -1,0 +1,3 @@
+mod HeightLemmas
+mod LabelLemmas
+mod ListLemmas

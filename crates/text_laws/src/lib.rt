@@ -1,0 +1,12 @@
+//! What a reader of a listing relies on, as laws over what the listings are.
+//!
+//! Each printed text is proved equal to a definition of `listing` or `calendar_sheet`. The laws say
+//! what follows of these definitions: which events and levels a text contains, where they stand and
+//! which of them a reader finds again.
+#![tactic(auto)]
+
+mod heights;
+mod labels;
+
+pub use heights::{heights_are_levels, worked_heights};
+pub use labels::{minute_of_local, worked_labels, zones_only_label};
