@@ -1,3 +1,5 @@
 mod HeightLemmas
 mod LabelLemmas
 mod ListLemmas
+mod RecordLemmas
+mod RowLemmas

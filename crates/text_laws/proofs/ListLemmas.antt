@@ -9,3 +9,7 @@ flat_map-map f g (x ∷ xs) = ap (λ rest. f (g x) ++ rest) (flat_map-map f g xs
 pub AllZip-maps : {X A B : Type 0} (R : A → B → Type 0) (f : X → A) (g : X → B) → ((x : X) → R (f x) (g x)) → (xs : List X) → AllZip R (map f xs) (map g xs)
 AllZip-maps R f g each [] = tt
 AllZip-maps R f g each (x ∷ xs) = (each x, AllZip-maps R f g each xs)
+
+pub map-same : {X Y : Type 0} (f : X → X) (g : Y → X) → ((y : Y) → f (g y) ≡ g y) → (ys : List Y) → map f (map g ys) ≡ map g ys
+map-same f g each [] = refl
+map-same f g each (y ∷ ys) = cc (each y, map-same f g each ys)

@@ -1,3 +1,4 @@
 pub mod Heights
 pub mod Labels
 pub mod Lines
+pub mod Rows

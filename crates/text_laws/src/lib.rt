@@ -7,6 +7,8 @@
 
 mod heights;
 mod labels;
+mod rows;
 
 pub use heights::{heights_are_levels, worked_heights};
 pub use labels::{minute_of_local, worked_labels, zones_only_label};
+pub use rows::{csv_and_plain_show_one_list, records_read_back, worked_records};
