@@ -1,5 +1,7 @@
+mod DateLemmas
 mod HeightLemmas
 mod LabelLemmas
 mod ListLemmas
+mod PageLemmas
 mod RecordLemmas
 mod RowLemmas

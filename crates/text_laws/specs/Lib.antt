@@ -1,4 +1,5 @@
 pub mod Heights
 pub mod Labels
 pub mod Lines
+pub mod Pages
 pub mod Rows
