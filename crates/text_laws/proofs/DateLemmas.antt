@@ -1,5 +1,5 @@
 -- Events on their dates.
-use Rattle.std.proofs.Common.{◌≡◌, ◌≢◌, ℕ, zero, suc, ◌+◌, ◌<◌, ℤ, pos, ◌+ℤ◌, ◌≤ℤ◌, ◌<ℤ◌, true, false, List, [], ◌∷◌, ◌++◌, ◌⊎◌, inl, inr, unsigned_abs, ◌-ℤ◌, length, All, refl, sym, ap, ◌∙◌, arith}
+use Rattle.std.proofs.Common.{◌≡◌, ◌≢◌, ℕ, zero, suc, ◌+◌, ℤ, pos, ◌+ℤ◌, ◌≤ℤ◌, ◌<ℤ◌, true, false, List, [], ◌∷◌, ◌++◌, ◌⊎◌, inl, inr, unsigned_abs, ◌-ℤ◌, All, refl, ap, ◌∙◌, arith}
 use Rattle.std.specs.List.{flat_map, AllPairs}
 use Rattle.std.specs.List.Sorted.{IsPermutation}
 use Rattle.std.specs.Ordering.{int_eq}
@@ -12,6 +12,9 @@ use Rattle.calendar_sheet.specs.Calendars.{day_in, days_from, days_through, even
 use Rattle.curve_law.specs.declared.event.Event.{Event}
 use Rattle.text_laws.specs.Pages.{DatesAscend}
 use Rattle.zone_time.specs.declared.zone.Zone.{Zone}
+use Rattle.zone_time.specs.declared.zone.Zone.TheVariants.{Utc, Fixed}
+use Rattle.zone_time.specs.Moments.{day_of}
+use Rattle.zone_time.proofs.MomentLemmas.{day_and_minute}
 
 -- the events on days, day after day
 abbrev pub placed : Zone → List Event → List ℤ → List Event
@@ -114,7 +117,7 @@ one-more zone n keeps first (event ∷ events) ascend each =
           let tail : All After events = All-weaker From After (λ other from. omega (arith, ints, head, from)) events (ascend-head zone event events ascend) in
           let after : All After (event ∷ events) = All-cons After event events head tail in
           let both : All (IsIn zone (first +ℤ pos 1) n) (event ∷ events) = λ k d within.
-              let was = each k d within in let past = after k d within in (omega (arith, ints, past), omega (arith, ints, was.1)) in
+          let was = each k d within in let past = after k d within in (omega (arith, ints, past), omega (arith, ints, was.1)) in
           append_equal (none-on zone (event ∷ events) first after) (keeps (first +ℤ pos 1) (event ∷ events) ascend both)
     ]
 
@@ -141,3 +144,15 @@ pub two-days : (day : ℤ) → days_through day (day +ℤ pos 1) ≡ day ∷ (da
 unfolding days_from
 two-days day =
     let many : unsigned_abs ((day +ℤ pos 1) -ℤ day) + 1 ≡ 2 = omega (arith, ints) in rw many refl
+
+-- a later minute isn't on an earlier day
+day_of-after : (a b : ℤ) → a ≤ℤ b → day_of a ≤ℤ day_of b
+day_of-after a b forward =
+    let first = day_and_minute a in let second = day_and_minute b in
+    omega (arith, ints, first.0, first.1, second.0, second.1, forward)
+
+pub ascend-utc : (events : List Event) → AllPairs (λ (event later : Event). event.minute ≤ℤ later.minute) events → DatesAscend Utc events
+ascend-utc events ascend = λ i j d before within. day_of-after _ _ (ascend i j d before within)
+
+pub ascend-fixed : (ahead : ℤ) (events : List Event) → AllPairs (λ (event later : Event). event.minute ≤ℤ later.minute) events → DatesAscend (Fixed ahead) events
+ascend-fixed ahead events ascend = λ i j d before within. let forward = ascend i j d before within in day_of-after _ _ (omega (arith, ints, forward))

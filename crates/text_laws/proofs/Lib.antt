@@ -5,3 +5,4 @@ mod ListLemmas
 mod PageLemmas
 mod RecordLemmas
 mod RowLemmas
+mod StationLemmas

@@ -3,7 +3,7 @@ use Rattle.std.proofs.Common.{◌≡◌, ℕ, zero, suc, ◌+◌, ◌<◌, ◌�
 use Rattle.std.specs.List.{flat_map}
 use Rattle.csv.specs.Machine.{next_record}
 use Rattle.csv.specs.Reading.{records, records_from, default_config, strip_bom}
-use Rattle.csv.specs.Writing.{default_writer, row_text, row_body, is_blank, fields_text, read_back}
+use Rattle.csv.specs.Writing.{default_writer, row_body, is_blank, fields_text, read_back}
 use Rattle.csv.specs.declared.parser.State.TheVariants as st
 use Rattle.csv.proofs.RoundTrip.{read-write}
 use Rattle.curve_law.specs.declared.event.Event.{Event}

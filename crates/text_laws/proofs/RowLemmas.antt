@@ -1,5 +1,5 @@
 -- A record for each line.
-use Rattle.std.proofs.Common.{◌≡◌, ℕ, List, ◌++◌, map, refl, sym, ap}
+use Rattle.std.proofs.Common.{ℕ, List, ◌++◌, map, refl, sym, ap}
 use Rattle.std.specs.Prelude.{codes}
 use Rattle.curve_law.specs.declared.event.Event.{Event}
 use Rattle.event_text.specs.Lines.{height_line_of, event_line_of, event_line_in}

@@ -3,3 +3,5 @@ pub mod Labels
 pub mod Lines
 pub mod Pages
 pub mod Rows
+pub mod Stations
+pub mod Worked

@@ -9,8 +9,13 @@ mod heights;
 mod labels;
 mod pages;
 mod rows;
+mod stations;
 
 pub use heights::{heights_are_levels, worked_heights};
 pub use labels::{minute_of_local, worked_labels, zones_only_label};
-pub use pages::{calendar_shows_each_event_once, dates_that_go_back_change_the_order, worked_dates};
+pub use pages::{
+    calendar_shows_each_event_once, dates_that_go_back_change_the_order,
+    fixed_clocks_keep_the_order, worked_dates, worked_dates_that_go_back,
+};
 pub use rows::{csv_and_plain_show_one_list, records_read_back, worked_records};
+pub use stations::{stations_list_what_can_be_requested, worked_missing_reference};
