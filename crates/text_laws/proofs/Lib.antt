@@ -1,6 +1,7 @@
 mod DateLemmas
 mod HeightLemmas
 mod LabelLemmas
+mod LineLemmas
 mod ListLemmas
 mod PageLemmas
 mod RecordLemmas

@@ -1,6 +1,16 @@
 -- Lists of lines (this project).
-use Rattle.std.specs.Prelude.{◌≡◌, ℕ, List, ◌++◌, codes}
+use Rattle.std.specs.Prelude.{◌≡◌, ◌≤◌, ◌^◌, ℕ, ℤ, unsigned_abs, List, ◌++◌, All, codes}
 use Rattle.std.specs.List.{flat_map, AllZip}
+
+-- bytes that end no line, and then a LF
+pub record IsLine (line : List ℕ) : Type 0 where
+  pub told : List ℕ
+  pub ends : line ≡ told ++ codes "\n"
+  pub one : All (λ byte. 32 ≤ byte) told
+
+-- a level that fits 64 bits
+abbrev pub IsLevel : ℤ → Type 0
+IsLevel level = unsigned_abs level ≤ 2 ^ 63
 
 -- a station's name on a line, and lines that end with their LF
 abbrev pub listing_of : List ℕ → List (List ℕ) → List ℕ

@@ -7,12 +7,14 @@
 
 mod heights;
 mod labels;
+mod lines;
 mod pages;
 mod rows;
 mod stations;
 
 pub use heights::{heights_are_levels, worked_heights};
 pub use labels::{minute_of_local, worked_labels, zones_only_label};
+pub use lines::lines_end_once;
 pub use pages::{
     calendar_shows_each_event_once, dates_that_go_back_change_the_order,
     fixed_clocks_keep_the_order, worked_dates, worked_dates_that_go_back,
