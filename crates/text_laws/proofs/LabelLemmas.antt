@@ -1,5 +1,5 @@
 -- Lines by the clocks of two zones.
-use Rattle.std.proofs.Common.{◌≡◌, ℕ, ℤ, List, ◌++◌, map, refl, sym, ap, append_assoc, arith}
+use Rattle.std.proofs.Common.{◌≡◌, ℕ, ℤ, List, ◌++◌, map, All, refl, sym, ap, append_assoc, arith}
 use Rattle.std.specs.Prelude.{codes}
 use Rattle.std.proofs.lemmas.Int.{ints}
 use Rattle.curve_law.specs.declared.event.Event.{Event}
@@ -9,7 +9,8 @@ use Rattle.harmonics_text.specs.declared.book.Units.{Units}
 use Rattle.listing.specs.declared.row.Row.{Row}
 use Rattle.listing.specs.Listings.{plain_events_of, plain_heights_of, row_line_in}
 use Rattle.text_laws.specs.Labels.{minute_of, DifferInLabel}
-use Rattle.text_laws.specs.Lines.{AreListings}
+use Rattle.text_laws.specs.Lines.{AreListings, IsLevel}
+use Rattle.text_laws.proofs.LineLemmas.{event-lines, row-lines}
 use Rattle.text_laws.proofs.ListLemmas.{flat_map-map, AllZip-maps}
 use Rattle.zone_time.specs.declared.local.Local.{Local}
 use Rattle.zone_time.specs.declared.zone.Zone.{Zone}
@@ -44,14 +45,16 @@ row_line-rest : (local : Local) (units : Units) (row : Row) → height_line_of l
 unfolding height_line_of
 row_line-rest local units row = simp append_assoc refl
 
-pub events-labels : (name : List ℕ) (units : Units) (events : List Event) (zone other : Zone)
+pub events-labels : (name : List ℕ) (units : Units) (events : List Event) (zone other : Zone) → All (λ event. IsLevel event.level) events
     → AreListings name (DifferInLabel zone other) (plain_events_of name units events zone) (plain_events_of name units events other)
 unfolding plain_events_of
-events-labels name units events zone other = record {
+events-labels name units events zone other small = record {
   lines = map (event_line_in zone units) events;
   others = map (event_line_in other units) events;
   text_is = ap (λ (rest : List ℕ). name ++ codes "\n" ++ rest) (sym (flat_map-map (λ line. line) (event_line_in zone units) events));
   other_is = ap (λ (rest : List ℕ). name ++ codes "\n" ++ rest) (sym (flat_map-map (λ line. line) (event_line_in other units) events));
+  single = event-lines zone units events small;
+  single_there = event-lines other units events small;
   related = AllZip-maps (DifferInLabel zone other) (event_line_in zone units) (event_line_in other units) (λ event. record {
     minute = event.minute;
     rest = event_rest units event;
@@ -60,14 +63,16 @@ events-labels name units events zone other = record {
   }) events;
 }
 
-pub heights-labels : (name : List ℕ) (units : Units) (rows : List Row) (zone other : Zone)
+pub heights-labels : (name : List ℕ) (units : Units) (rows : List Row) (zone other : Zone) → All (λ row. IsLevel row.level) rows
     → AreListings name (DifferInLabel zone other) (plain_heights_of name units rows zone) (plain_heights_of name units rows other)
 unfolding plain_heights_of
-heights-labels name units rows zone other = record {
+heights-labels name units rows zone other small = record {
   lines = map (row_line_in zone units) rows;
   others = map (row_line_in other units) rows;
   text_is = ap (λ (rest : List ℕ). name ++ codes "\n" ++ rest) (sym (flat_map-map (λ line. line) (row_line_in zone units) rows));
   other_is = ap (λ (rest : List ℕ). name ++ codes "\n" ++ rest) (sym (flat_map-map (λ line. line) (row_line_in other units) rows));
+  single = row-lines zone units rows small;
+  single_there = row-lines other units rows small;
   related = AllZip-maps (DifferInLabel zone other) (row_line_in zone units) (row_line_in other units) (λ row. record {
     minute = row.minute;
     rest = level_rest units row.level ++ codes "\n";

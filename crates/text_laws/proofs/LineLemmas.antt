@@ -1,10 +1,10 @@
 -- Bytes that end no line.
-use Rattle.std.proofs.Common.{◌≡◌, ℕ, zero, suc, ◌+◌, ◌-◌, ◌*◌, ◌/◌, ◌%◌, ◌^◌, ◌<◌, ◌≤◌, ℤ, pos, negsuc, neg_ℤ, unsigned_abs, int_lt, Bool, true, false, if◌then◌else◌, List, [], ◌∷◌, ◌++◌, length, replicate, All, refl, arith}
+use Rattle.std.proofs.Common.{◌≡◌, ℕ, zero, suc, ◌+◌, ◌-◌, ◌*◌, ◌/◌, ◌%◌, ◌^◌, ◌<◌, ◌≤◌, ℤ, pos, negsuc, neg_ℤ, unsigned_abs, int_lt, Bool, true, false, if◌then◌else◌, List, [], ◌∷◌, ◌++◌, length, replicate, map, All, refl, arith}
 use Rattle.std.specs.Prelude.{codes, decimal, nat_le, ◌&&◌}
 use Rattle.std.specs.List.{flat_map, list_all}
 use Rattle.std.proofs.Math.Nat.{div-le_self}
 use Rattle.std.proofs.lemmas.Fmt.{decimal_by_steps_wide}
-use Rattle.std.proofs.lemmas.List.Elements.{All-nil, All-cons, All-append, All-replicate, All-head, All-tail}
+use Rattle.std.proofs.lemmas.List.Elements.{All-nil, All-cons, All-append, All-map, All-weaker, All-replicate, All-head, All-tail}
 use Rattle.calendar_sheet.specs.Calendars.{entry_in}
 use Rattle.curve_law.specs.declared.event.Event.{Event}
 use Rattle.decimal_text.specs.Rounding.{half_up, rounded_of}
@@ -223,3 +223,19 @@ page-line zone units page small = record {
   ends = refl;
   one = both (date_text page.day) (flat_map (entry_in zone units) page.events) (date-clean page.day) (entries-clean zone units page.events small);
 }
+
+pub event-lines : (zone : Zone) (units : Units) (events : List Event) → All (λ event. IsLevel event.level) events → All IsLine (map (event_line_in zone units) events)
+event-lines zone units events small =
+    All-map IsLine (event_line_in zone units) events
+    (All-weaker (λ event. IsLevel event.level) (λ event. IsLine (event_line_in zone units event)) (event-line zone units) events small)
+
+pub row-lines : (zone : Zone) (units : Units) (rows : List Row) → All (λ row. IsLevel row.level) rows → All IsLine (map (row_line_in zone units) rows)
+row-lines zone units rows small =
+    All-map IsLine (row_line_in zone units) rows
+    (All-weaker (λ row. IsLevel row.level) (λ row. IsLine (row_line_in zone units row)) (row-line zone units) rows small)
+
+pub page-lines : (zone : Zone) (units : Units) (pages : List Page) → All (λ page. All (λ event. IsLevel event.level) page.events) pages
+    → All IsLine (map (line_of zone units) pages)
+page-lines zone units pages small =
+    All-map IsLine (line_of zone units) pages
+    (All-weaker (λ (page : Page). All (λ event. IsLevel event.level) page.events) (λ page. IsLine (line_of zone units page)) (page-line zone units) pages small)

@@ -1,17 +1,19 @@
 -- Calendars by their pages.
-use Rattle.std.proofs.Common.{◌≡◌, ◌⊎◌, inl, inr, ℕ, zero, suc, ◌+◌, ◌<◌, ◌≤◌, ℤ, pos, ◌+ℤ◌, ◌-ℤ◌, ◌≤ℤ◌, ◌<ℤ◌, unsigned_abs, int_le, int_lt, true, false, List, [], ◌∷◌, ◌++◌, map, Some, None, All, refl, sym, ap, ◌∙◌, arith}
+use Rattle.std.proofs.Common.{◌≡◌, ◌⊎◌, inl, inr, ℕ, zero, suc, ◌+◌, ◌<◌, ◌≤◌, ℤ, pos, ◌+ℤ◌, ◌-ℤ◌, ◌≤ℤ◌, ◌<ℤ◌, unsigned_abs, int_le, int_lt, true, false, List, [], ◌∷◌, ◌++◌, map, get_or, Some, None, All, refl, sym, ap, ◌∙◌, arith}
 use Rattle.std.specs.Prelude.{codes}
 use Rattle.std.specs.List.{flat_map, slice_get, Contains, fold}
 use Rattle.std.specs.Int.{int_min, int_max}
+use Rattle.std.specs.Ordering.{int_eq}
 use Rattle.std.proofs.lemmas.Bool.{cases_lt}
 use Rattle.std.proofs.lemmas.Int.{ints, fold-int_max_bounds, fold-int_max_reached, fold-int_min_bounds, fold-int_min_reached}
-use Rattle.std.proofs.lemmas.List.Elements.{All-cons, All-head, All-tail, All-map, Contains-append_right}
+use Rattle.std.proofs.lemmas.List.Elements.{All-cons, All-head, All-tail, All-map, All-filter, Contains-append_right}
 use Rattle.calendar_sheet.specs.Calendars.{calendar_text_of, day_in, day_line, days_from, days_shown, days_through, event_days, events_on, first_day, last_day}
 use Rattle.curve_law.specs.declared.event.Event.{Event}
 use Rattle.harmonics_text.specs.declared.book.Units.{Units}
-use Rattle.text_laws.specs.Lines.{listing_of}
+use Rattle.text_laws.specs.Lines.{listing_of, IsLevel}
 use Rattle.text_laws.specs.Pages.{Page, IsCalendar, IsLeast, IsGreatest, RunThrough, dates_of, day_until, line_of}
 use Rattle.text_laws.proofs.DateLemmas.{IsIn, placed-once, placed-ordered}
+use Rattle.text_laws.proofs.LineLemmas.{page-lines}
 use Rattle.text_laws.proofs.ListLemmas.{flat_map-map}
 use Rattle.zone_time.specs.declared.zone.Zone.{Zone}
 
@@ -115,10 +117,16 @@ shown_in zone events begin end =
     (All-tail (λ other. first ≤ℤ other) z (event_days zone events) low.1)
     (All-tail (λ other. other ≤ℤ last) z (event_days zone events) high.1)
 
-pub shown : (name : List ℕ) (units : Units) (events : List Event) (zone : Zone) (begin end : ℤ) → begin <ℤ end
+small-pages : (zone : Zone) (events : List Event) (days : List ℤ) → All (λ event. IsLevel event.level) events
+    → All (λ (page : Page). All (λ event. IsLevel event.level) page.events) (map (page_of zone events) days)
+small-pages zone events days small =
+    All-map (λ (page : Page). All (λ event. IsLevel event.level) page.events) (page_of zone events) days
+    (λ k d within. All-filter (λ event. int_eq (day_in zone event.minute) (get_or days k d)) (λ event. IsLevel event.level) events small)
+
+pub shown : (name : List ℕ) (units : Units) (events : List Event) (zone : Zone) (begin end : ℤ) → begin <ℤ end → All (λ event. IsLevel event.level) events
     → IsCalendar name units zone events begin end (calendar_text_of name units events zone begin end)
 unfolding calendar_text_of
-shown name units events zone begin end some =
+shown name units events zone begin end some small =
     let test : int_lt begin end ≡ true = grind (arith, ints, some) in
     let days : List ℤ = shown_days zone events begin end in
     let first : ℤ = first_day zone events begin end in
@@ -129,6 +137,7 @@ shown name units events zone begin end some =
     record {
       pages = map (page_of zone events) days;
       text_is = ap (λ (ds : List ℤ). name ++ codes "\n" ++ flat_map (day_line zone units events) ds) are ∙ text_of_pages name units zone events days;
+      single = page-lines zone units (map (page_of zone events) days) (small-pages zone events days small);
       dates = rw (days_of_pages zone events days) (run_through zone events begin end);
       dated = All-map (λ (page : Page). page.events ≡ events_on zone events page.day) (page_of zone events) days (λ k d inside. refl);
       once = rw all (placed-once zone events first n within);

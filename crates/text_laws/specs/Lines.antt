@@ -22,4 +22,6 @@ pub record AreListings (name : List ℕ) (Related : List ℕ → List ℕ → Ty
   pub others : List (List ℕ)
   pub text_is : text ≡ listing_of name lines
   pub other_is : other ≡ listing_of name others
+  pub single : All IsLine lines
+  pub single_there : All IsLine others
   pub related : AllZip Related lines others

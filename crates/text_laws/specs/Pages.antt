@@ -5,7 +5,7 @@ use Rattle.std.specs.List.Sorted.{IsPermutation}
 use Rattle.calendar_sheet.specs.Calendars.{day_in, entry_in, event_days, events_on}
 use Rattle.curve_law.specs.declared.event.Event.{Event}
 use Rattle.harmonics_text.specs.declared.book.Units.{Units}
-use Rattle.text_laws.specs.Lines.{listing_of}
+use Rattle.text_laws.specs.Lines.{listing_of, IsLine}
 use Rattle.zone_time.specs.declared.zone.Zone.{Zone}
 use Rattle.zone_time.specs.Dates.{date_text}
 
@@ -53,6 +53,7 @@ DatesAscend zone events = AllPairs (λ event later. day_in zone event.minute ≤
 pub record IsCalendar (name : List ℕ) (units : Units) (zone : Zone) (events : List Event) (begin end : ℤ) (text : List ℕ) : Type 0 where
   pub pages : List Page
   pub text_is : text ≡ listing_of name (map (line_of zone units) pages)
+  pub single : All IsLine (map (line_of zone units) pages)
   pub dates : RunThrough (dates_of zone events begin end) (map (λ page. page.day) pages)
   pub dated : All (λ page. page.events ≡ events_on zone events page.day) pages
   pub once : IsPermutation (all_events pages) events

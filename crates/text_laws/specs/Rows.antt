@@ -1,12 +1,12 @@
 -- Comma-separated values and the lines of the same events and levels (RFC 4180's records, as `csv` reads them; this project).
-use Rattle.std.specs.Prelude.{◌≡◌, ℕ, ℤ, List, ◌∷◌, ◌++◌, codes}
+use Rattle.std.specs.Prelude.{◌≡◌, ℕ, ℤ, List, ◌∷◌, ◌++◌, All, codes}
 use Rattle.std.specs.List.{AllZip}
 use Rattle.csv.specs.Reading.{records, default_config, strip_bom}
 use Rattle.decimal_text.specs.Rounding.{rounded_of}
 use Rattle.decimal_text.specs.Writing.{write_of}
 use Rattle.event_text.specs.Lines.{padded}
 use Rattle.station_table.specs.Table.{field_of}
-use Rattle.text_laws.specs.Lines.{listing_of}
+use Rattle.text_laws.specs.Lines.{listing_of, IsLine}
 use Rattle.zone_time.specs.declared.zone.Zone.{Zone}
 use Rattle.zone_time.specs.Locals.{label_text}
 use Rattle.zone_time.specs.Moments.{moment_text}
@@ -48,4 +48,5 @@ pub record AreOneList (header : List (List ℕ)) (name : List ℕ) (Related : Li
   pub lines : List (List ℕ)
   pub read : records_in csv ≡ header ∷ rows
   pub listed : plain ≡ listing_of name lines
+  pub single : All IsLine lines
   pub related : AllZip Related rows lines

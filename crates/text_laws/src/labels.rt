@@ -1,13 +1,13 @@
 //! What the zone of a listing changes.
 
-ghost use Rattle.std.specs.Prelude.{◌≡◌, ℕ, ℤ, pos, negsuc, List, slice_set};
+ghost use Rattle.std.specs.Prelude.{◌≡◌, ℕ, ℤ, pos, negsuc, All, List, slice_set};
 ghost use Rattle.curve_law.specs.declared.event.Event.{Event};
 ghost use Rattle.harmonics_text.specs.declared.book.Units.{Units};
 ghost use Rattle.listing.specs.declared.row.Row.{Row};
 ghost use Rattle.listing.specs.Listings.{plain_events_of, plain_heights_of};
 ghost use Rattle.listing.specs.Records.{event_fields, row_fields, time_in};
 ghost use Rattle.text_laws.specs.Labels.{minute_of, DifferInLabel};
-ghost use Rattle.text_laws.specs.Lines.{AreListings};
+ghost use Rattle.text_laws.specs.Lines.{AreListings, IsLevel};
 ghost use Rattle.zone_time.specs.declared.local.Label.{Label};
 ghost use Rattle.zone_time.specs.declared.zone.Zone.{Zone};
 ghost use Rattle.zone_time.specs.Locals.{IsLocal};
@@ -20,9 +20,9 @@ use zone_time::{Label, Local};
 /// differs only in its third field.
 pub fn zones_only_label()
     ensures minute { (zone : Zone) (minute : ℤ) → minute_of (local_in zone minute) ≡ minute }
-    ensures events { (name : List ℕ) (units : Units) (events : List Event) (zone other : Zone) →
+    ensures events { (name : List ℕ) (units : Units) (events : List Event) (zone other : Zone) → All (λ event. IsLevel event.level) events →
         AreListings name (DifferInLabel zone other) (plain_events_of name units events zone) (plain_events_of name units events other) }
-    ensures heights { (name : List ℕ) (units : Units) (rows : List Row) (zone other : Zone) →
+    ensures heights { (name : List ℕ) (units : Units) (rows : List Row) (zone other : Zone) → All (λ row. IsLevel row.level) rows →
         AreListings name (DifferInLabel zone other) (plain_heights_of name units rows zone) (plain_heights_of name units rows other) }
     ensures event_record { (name : List ℕ) (units : Units) (event : Event) (zone other : Zone) →
         event_fields name units other event ≡ slice_set (event_fields name units zone event) 2 (time_in other event.minute) }

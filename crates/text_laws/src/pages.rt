@@ -1,12 +1,12 @@
 //! What follows of calendars.
 
-ghost use Rattle.std.specs.Prelude.{◌≡◌, ℕ, ℤ, pos, negsuc, ◌+ℤ◌, ◌≤ℤ◌, ◌<ℤ◌, List, [], ◌∷◌};
+ghost use Rattle.std.specs.Prelude.{◌≡◌, ℕ, ℤ, pos, negsuc, ◌+ℤ◌, ◌≤ℤ◌, ◌<ℤ◌, All, List, [], ◌∷◌};
 ghost use Rattle.std.specs.List.{flat_map, AllPairs};
 ghost use Rattle.calendar_sheet.specs.Calendars.{calendar_text_of, day_in, days_through, events_on};
 ghost use Rattle.curve_law.specs.declared.event.Event.{Event};
 ghost use Rattle.event_text.specs.Worked.{high_tide, low_tide};
 ghost use Rattle.harmonics_text.specs.declared.book.Units.{Units};
-ghost use Rattle.text_laws.specs.Lines.{listing_of};
+ghost use Rattle.text_laws.specs.Lines.{listing_of, IsLevel};
 ghost use Rattle.text_laws.specs.Pages.{DatesAscend, IsCalendar};
 ghost use Rattle.text_laws.specs.Worked.{goes_back};
 ghost use Rattle.zone_time.specs.declared.zone.Zone.{Zone};
@@ -17,7 +17,7 @@ ghost use Rattle.zone_time.specs.declared.zone.Zone.{Zone};
 /// their order unless the clock goes back from one date to the one before. The calendar of no minute
 /// has no line.
 pub fn calendar_shows_each_event_once()
-    ensures shown { (name : List ℕ) (units : Units) (events : List Event) (zone : Zone) (begin end : ℤ) → begin <ℤ end →
+    ensures shown { (name : List ℕ) (units : Units) (events : List Event) (zone : Zone) (begin end : ℤ) → begin <ℤ end → All (λ event. IsLevel event.level) events →
         IsCalendar name units zone events begin end (calendar_text_of name units events zone begin end) }
     ensures no_minute { (name : List ℕ) (units : Units) (events : List Event) (zone : Zone) (begin end : ℤ) → end ≤ℤ begin →
         calendar_text_of name units events zone begin end ≡ listing_of name [] }

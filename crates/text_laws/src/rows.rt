@@ -1,11 +1,12 @@
 //! What comma-separated values have in common with the plain listing.
 
-ghost use Rattle.std.specs.Prelude.{◌≡◌, ℕ, List, [], ◌∷◌, map, codes};
+ghost use Rattle.std.specs.Prelude.{◌≡◌, ℕ, List, [], ◌∷◌, All, map, codes};
 ghost use Rattle.curve_law.specs.declared.event.Event.{Event};
 ghost use Rattle.harmonics_text.specs.declared.book.Units.{Units};
 ghost use Rattle.listing.specs.declared.row.Row.{Row};
 ghost use Rattle.listing.specs.Listings.{plain_events_of, plain_heights_of};
 ghost use Rattle.listing.specs.Records.{csv_events_of, csv_heights_of, event_fields, event_header, row_fields, row_header};
+ghost use Rattle.text_laws.specs.Lines.{IsLevel};
 ghost use Rattle.text_laws.specs.Rows.{records_in, AreOneList, ShowOneEvent, ShowOneLevel};
 ghost use Rattle.zone_time.specs.declared.zone.Zone.{Zone};
 
@@ -22,9 +23,9 @@ pub fn records_read_back()
 /// for each line and in their order. Both have the same minute, local time, name and unit, and the
 /// level of the line is that of the record, rounded to hundredths.
 pub fn csv_and_plain_show_one_list()
-    ensures events { (name : List ℕ) (units : Units) (events : List Event) (zone : Zone) →
+    ensures events { (name : List ℕ) (units : Units) (events : List Event) (zone : Zone) → All (λ event. IsLevel event.level) events →
         AreOneList event_header name (ShowOneEvent name zone) (csv_events_of name units events zone) (plain_events_of name units events zone) }
-    ensures heights { (name : List ℕ) (units : Units) (rows : List Row) (zone : Zone) →
+    ensures heights { (name : List ℕ) (units : Units) (rows : List Row) (zone : Zone) → All (λ row. IsLevel row.level) rows →
         AreOneList row_header name (ShowOneLevel name zone) (csv_heights_of name units rows zone) (plain_heights_of name units rows zone) }
 {}
 
