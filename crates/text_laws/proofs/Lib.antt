@@ -1,0 +1,9 @@
+mod DateLemmas
+mod HeightLemmas
+mod LabelLemmas
+mod LineLemmas
+mod ListLemmas
+mod PageLemmas
+mod RecordLemmas
+mod RowLemmas
+mod StationLemmas

@@ -1,0 +1,24 @@
+-- Local times and the minutes that they stand for (this project).
+use Rattle.std.specs.Prelude.{◌≡◌, ℕ, ℤ, pos, ◌-ℤ◌, List, ◌++◌}
+use Rattle.zone_time.specs.declared.local.Label.{Label}
+use Rattle.zone_time.specs.declared.local.Label.TheVariants.{Utc, Minutes}
+use Rattle.zone_time.specs.declared.local.Local.{Local}
+use Rattle.zone_time.specs.declared.zone.Zone.{Zone}
+use Rattle.zone_time.specs.Locals.{local_text}
+use Rattle.zone_time.specs.Zones.{local_in}
+
+-- the minutes by which a clock with this label is ahead of universal time
+abbrev pub ahead_of : Label → ℤ
+ahead_of Utc = pos 0
+ahead_of (Minutes ahead) = ahead
+
+-- the minute of universal time that a local time stands for
+abbrev pub minute_of : Local → ℤ
+minute_of local = local.minute -ℤ ahead_of local.label
+
+-- two lines of one minute, by the clocks of two zones, which say the same after the local time
+pub record DifferInLabel (zone other : Zone) (line line_there : List ℕ) : Type 0 where
+  pub minute : ℤ
+  pub rest : List ℕ
+  pub here : line ≡ local_text (local_in zone minute) ++ rest
+  pub there : line_there ≡ local_text (local_in other minute) ++ rest

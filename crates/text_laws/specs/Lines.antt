@@ -1,0 +1,27 @@
+-- Lists of lines (this project).
+use Rattle.std.specs.Prelude.{◌≡◌, ◌≤◌, ◌^◌, ℕ, ℤ, unsigned_abs, List, ◌++◌, All, codes}
+use Rattle.std.specs.List.{flat_map, AllZip}
+
+-- bytes that end no line, and then a LF
+pub record IsLine (line : List ℕ) : Type 0 where
+  pub told : List ℕ
+  pub ends : line ≡ told ++ codes "\n"
+  pub one : All (λ byte. 32 ≤ byte) told
+
+-- a level that fits 64 bits
+abbrev pub IsLevel : ℤ → Type 0
+IsLevel level = unsigned_abs level ≤ 2 ^ 63
+
+-- a station's name on a line, and lines that end with their LF
+abbrev pub listing_of : List ℕ → List (List ℕ) → List ℕ
+listing_of name lines = name ++ codes "\n" ++ flat_map (λ line. line) lines
+
+-- two listings below one name: line for line, in order, the lines are so related
+pub record AreListings (name : List ℕ) (Related : List ℕ → List ℕ → Type 0) (text other : List ℕ) : Type 0 where
+  pub lines : List (List ℕ)
+  pub others : List (List ℕ)
+  pub text_is : text ≡ listing_of name lines
+  pub other_is : other ≡ listing_of name others
+  pub single : All IsLine lines
+  pub single_there : All IsLine others
+  pub related : AllZip Related lines others

@@ -1,0 +1,60 @@
+-- Calendars: the dates and the events of their lines (this project).
+use Rattle.std.specs.Prelude.{◌≡◌, ℕ, ℤ, pos, ◌+ℤ◌, ◌-ℤ◌, ◌≤ℤ◌, int_le, if◌then◌else◌, List, ◌∷◌, ◌++◌, codes, map, All, Option, Some, None, slice_get}
+use Rattle.std.specs.List.{flat_map, AllPairs, Contains}
+use Rattle.std.specs.List.Sorted.{IsPermutation}
+use Rattle.calendar_sheet.specs.Calendars.{day_in, entry_in, event_days, events_on}
+use Rattle.curve_law.specs.declared.event.Event.{Event}
+use Rattle.harmonics_text.specs.declared.book.Units.{Units}
+use Rattle.text_laws.specs.Lines.{listing_of, IsLine}
+use Rattle.zone_time.specs.declared.zone.Zone.{Zone}
+use Rattle.zone_time.specs.Dates.{date_text}
+
+-- a local date, by its day number, and the events of its line
+pub record Page : Type 0 where
+  pub day : ℤ
+  pub events : List Event
+
+abbrev pub line_of : Zone → Units → Page → List ℕ
+line_of zone units page = date_text page.day ++ flat_map (entry_in zone units) page.events ++ codes "\n"
+
+-- the events of the lines, line after line
+abbrev pub all_events : List Page → List Event
+all_events pages = flat_map (λ page. page.events) pages
+
+-- the local dates of the first and the last minute of a span and of events
+abbrev pub dates_of : Zone → List Event → ℤ → ℤ → List ℤ
+dates_of zone events begin end = day_in zone begin ∷ day_in zone (end -ℤ pos 1) ∷ event_days zone events
+
+pub record IsLeast (days : List ℤ) (day : ℤ) : Type 0 where
+  pub among : Contains days day
+  pub least : All (λ other. day ≤ℤ other) days
+
+pub record IsGreatest (days : List ℤ) (day : ℤ) : Type 0 where
+  pub among : Contains days day
+  pub greatest : All (λ other. other ≤ℤ day) days
+
+-- the day of a place, counted from 0, where it comes no later than the last one
+abbrev pub day_until : ℤ → ℤ → ℕ → Option ℤ
+day_until first last place = if int_le (first +ℤ pos place) last then Some (first +ℤ pos place) else None
+
+-- one day after the other, from the least of some dates to the greatest
+pub record RunThrough (dates days : List ℤ) : Type 0 where
+  pub first : ℤ
+  pub last : ℤ
+  pub least : IsLeast dates first
+  pub greatest : IsGreatest dates last
+  pub each : (place : ℕ) → slice_get days place ≡ day_until first last place
+
+-- no event has an earlier local date than one before it
+abbrev pub DatesAscend : Zone → List Event → Type 0
+DatesAscend zone events = AllPairs (λ event later. day_in zone event.minute ≤ℤ day_in zone later.minute) events
+
+-- a text that shows each event once, on the line of its local date
+pub record IsCalendar (name : List ℕ) (units : Units) (zone : Zone) (events : List Event) (begin end : ℤ) (text : List ℕ) : Type 0 where
+  pub pages : List Page
+  pub text_is : text ≡ listing_of name (map (line_of zone units) pages)
+  pub single : All IsLine (map (line_of zone units) pages)
+  pub dates : RunThrough (dates_of zone events begin end) (map (λ page. page.day) pages)
+  pub dated : All (λ page. page.events ≡ events_on zone events page.day) pages
+  pub once : IsPermutation (all_events pages) events
+  pub in_order : DatesAscend zone events → all_events pages ≡ events

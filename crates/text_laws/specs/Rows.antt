@@ -1,0 +1,52 @@
+-- Comma-separated values and the lines of the same events and levels (RFC 4180's records, as `csv` reads them; this project).
+use Rattle.std.specs.Prelude.{◌≡◌, ℕ, ℤ, List, ◌∷◌, ◌++◌, All, codes}
+use Rattle.std.specs.List.{AllZip}
+use Rattle.csv.specs.Reading.{records, default_config, strip_bom}
+use Rattle.decimal_text.specs.Rounding.{rounded_of}
+use Rattle.decimal_text.specs.Writing.{write_of}
+use Rattle.event_text.specs.Lines.{padded}
+use Rattle.station_table.specs.Table.{field_of}
+use Rattle.text_laws.specs.Lines.{listing_of, IsLine}
+use Rattle.zone_time.specs.declared.zone.Zone.{Zone}
+use Rattle.zone_time.specs.Locals.{label_text}
+use Rattle.zone_time.specs.Moments.{moment_text}
+use Rattle.zone_time.specs.Zones.{local_in}
+
+-- the records that a reader finds in a text
+abbrev pub records_in : List ℕ → List (List (List ℕ))
+records_in text = records default_config (strip_bom text)
+
+-- a line of a minute and a level, by its local time without a label and its unit; the level is rounded to hundredths
+abbrev pub line_by : Zone → ℤ → ℤ → List ℕ → List ℕ → List ℕ
+line_by zone minute level local unit =
+    local ++ codes " " ++ label_text (local_in zone minute).label ++ codes "  "
+    ++ padded 9 (write_of (rounded_of level 10000) 2) ++ codes " " ++ unit
+
+-- a record and a line of one event: the minute and the level in millionths are the record's, and so are the local time, the unit
+-- and the name in the line
+pub record ShowOneEvent (name : List ℕ) (zone : Zone) (row : List (List ℕ)) (line : List ℕ) : Type 0 where
+  pub minute : ℤ
+  pub level : ℤ
+  pub station : field_of row 0 ≡ name
+  pub moment : field_of row 1 ≡ moment_text minute
+  pub millionths : field_of row 4 ≡ write_of level 6
+  pub line_is : line ≡ line_by zone minute level (field_of row 2) (field_of row 5) ++ codes "  " ++ field_of row 3 ++ codes "\n"
+
+-- a record and a line of one level
+pub record ShowOneLevel (name : List ℕ) (zone : Zone) (row : List (List ℕ)) (line : List ℕ) : Type 0 where
+  pub minute : ℤ
+  pub level : ℤ
+  pub station : field_of row 0 ≡ name
+  pub moment : field_of row 1 ≡ moment_text minute
+  pub millionths : field_of row 3 ≡ write_of level 6
+  pub line_is : line ≡ line_by zone minute level (field_of row 2) (field_of row 4) ++ codes "\n"
+
+-- the records of one text after its header, and the lines of the other after the name: record for line, in order, they are so
+-- related
+pub record AreOneList (header : List (List ℕ)) (name : List ℕ) (Related : List (List ℕ) → List ℕ → Type 0) (csv plain : List ℕ) : Type 0 where
+  pub rows : List (List (List ℕ))
+  pub lines : List (List ℕ)
+  pub read : records_in csv ≡ header ∷ rows
+  pub listed : plain ≡ listing_of name lines
+  pub single : All IsLine lines
+  pub related : AllZip Related rows lines

@@ -1,0 +1,47 @@
+-- The list of stations: its lines, and what the names in them find (this project).
+use Rattle.std.specs.Prelude.{◌≡◌, ℕ, List, ◌++◌, codes, map, Some, Result, Ok, Err, slice_get}
+use Rattle.event_text.specs.Lines.{text_of_unit}
+use Rattle.harmonics_text.specs.declared.book.Book.{Book}
+use Rattle.harmonics_text.specs.declared.book.Station.{Station}
+use Rattle.listing.specs.StationLists.{reference_line, subordinate_line, unit_in, unit_or_dash}
+use Rattle.station_table.specs.declared.basis.Basis.{Basis}
+use Rattle.station_table.specs.declared.finding.FindFault.{FindFault}
+use Rattle.station_table.specs.declared.finding.FindFault.TheVariants.{NoReference}
+use Rattle.station_table.specs.declared.offsets.Offsets.{Offsets}
+use Rattle.station_table.specs.Bases.{basis_of, basis_over, reference_basis}
+
+-- a line for each station of a book and then for each row of a table, in their order
+abbrev pub station_lines : Book → List Offsets → List (List ℕ)
+station_lines book table = map reference_line book.stations ++ map (subordinate_line book.stations) table
+
+-- a name finds a station of the book
+pub record FindsStation (book : Book) (table : List Offsets) (name : List ℕ) : Type 0 where
+  pub place : ℕ
+  pub station : Station
+  pub at : slice_get book.stations place ≡ Some station
+  pub named : station.name ≡ name
+  pub found : basis_of book table name ≡ Ok (reference_basis place)
+
+-- a name finds a row of the table, and what its reference is there
+pub record FindsRow (book : Book) (table : List Offsets) (name : List ℕ) : Type 0 where
+  pub place : ℕ
+  pub row : Offsets
+  pub at : slice_get table place ≡ Some row
+  pub named : row.name ≡ name
+  pub found : basis_of book table name ≡ basis_over book place row
+
+-- the unit that a row's line has
+abbrev pub unit_of_row : Book → Offsets → List ℕ
+unit_of_row book row = unit_or_dash (unit_in book.stations row.reference)
+
+-- a row's line has the unit of the station that the row is over
+pub record HasUnit (book : Book) (row : Offsets) (basis : Basis) : Type 0 where
+  pub station : Station
+  pub at : slice_get book.stations basis.station ≡ Some station
+  pub named : station.name ≡ row.reference
+  pub unit : unit_of_row book row ≡ text_of_unit station.units
+
+-- the unit of a row's line, by what its reference is
+abbrev pub SaysUnit : Book → ℕ → Offsets → Result Basis FindFault → Type 0
+SaysUnit book place row (Ok basis) = HasUnit book row basis
+SaysUnit book place row (Err fault) = (fault ≡ NoReference place) × (unit_of_row book row ≡ codes "-")

@@ -1,0 +1,21 @@
+-- A zone whose clock goes back an hour, from the begin of one date into the date before (this project).
+use Rattle.std.specs.Prelude.{pos, [], ◌∷◌, codes, None}
+use Rattle.jiff_tz.specs.declared.info.Dst.TheVariants.{No}
+use Rattle.jiff_tz.specs.TzifText.{TypeText}
+use Rattle.zone_time.specs.declared.zone.Zone.{Zone}
+use Rattle.zone_time.specs.declared.zone.Zone.TheVariants.{File}
+
+abbrev pub hour_ahead : TypeText
+hour_ahead = record { seconds = pos 3600; dst = No; name = codes "AHEAD" }
+
+abbrev pub universal : TypeText
+universal = record { seconds = pos 0; dst = No; name = codes "UTC" }
+
+-- at 1970-01-01T23:59Z its clock goes from 00:59 of the next date back to 23:59
+abbrev pub goes_back : Zone
+goes_back = File (record {
+  version = 50;
+  first = hour_ahead;
+  transitions = record { second = pos 86340; before = pos 3600; after = universal } ∷ [];
+  rule = None;
+})

@@ -1,0 +1,49 @@
+//! What the zone of a listing changes.
+
+ghost use Rattle.std.specs.Prelude.{◌≡◌, ℕ, ℤ, pos, negsuc, All, List, slice_set};
+ghost use Rattle.curve_law.specs.declared.event.Event.{Event};
+ghost use Rattle.harmonics_text.specs.declared.book.Units.{Units};
+ghost use Rattle.listing.specs.declared.row.Row.{Row};
+ghost use Rattle.listing.specs.Listings.{plain_events_of, plain_heights_of};
+ghost use Rattle.listing.specs.Records.{event_fields, row_fields, time_in};
+ghost use Rattle.text_laws.specs.Labels.{minute_of, DifferInLabel};
+ghost use Rattle.text_laws.specs.Lines.{AreListings, IsLevel};
+ghost use Rattle.zone_time.specs.declared.local.Label.{Label};
+ghost use Rattle.zone_time.specs.declared.zone.Zone.{Zone};
+ghost use Rattle.zone_time.specs.Locals.{IsLocal};
+ghost use Rattle.zone_time.specs.Zones.{local_in};
+
+use zone_time::{Label, Local};
+
+/// By the clocks of two zones a list has the same minutes in the same order. Its lines differ only
+/// in their local times, and the label of each local time says which minute it stands for. A record
+/// differs only in its third field.
+pub fn zones_only_label()
+    ensures minute { (zone : Zone) (minute : ℤ) → minute_of (local_in zone minute) ≡ minute }
+    ensures events { (name : List ℕ) (units : Units) (events : List Event) (zone other : Zone) → All (λ event. IsLevel event.level) events →
+        AreListings name (DifferInLabel zone other) (plain_events_of name units events zone) (plain_events_of name units events other) }
+    ensures heights { (name : List ℕ) (units : Units) (rows : List Row) (zone other : Zone) → All (λ row. IsLevel row.level) rows →
+        AreListings name (DifferInLabel zone other) (plain_heights_of name units rows zone) (plain_heights_of name units rows other) }
+    ensures event_record { (name : List ℕ) (units : Units) (event : Event) (zone other : Zone) →
+        event_fields name units other event ≡ slice_set (event_fields name units zone event) 2 (time_in other event.minute) }
+    ensures row_record { (name : List ℕ) (units : Units) (row : Row) (zone other : Zone) →
+        row_fields name units other row ≡ slice_set (row_fields name units zone row) 2 (time_in other row.minute) }
+{}
+
+/// The minute of universal time that a local time stands for, by its label.
+pub fn minute_of_local(local: Local) -> i64
+    requires { IsLocal local }
+    ensures { result ≡ minute_of local }
+{
+    match local.label {
+        Label::Utc => local.minute,
+        Label::Minutes(ahead) => local.minute - i64::from(ahead),
+    }
+}
+
+/// The same minute by universal time and by a clock five hours behind it.
+pub fn worked_labels()
+    ensures universal { minute_of (local_in Zone.Utc (pos 15791759)) ≡ pos 15791759 }
+    ensures behind { local_in (Zone.Fixed (negsuc 299)) (pos 15791759) ≡ record { minute = pos 15791459; label = Label.Minutes (negsuc 299) } }
+    ensures same { minute_of (local_in (Zone.Fixed (negsuc 299)) (pos 15791759)) ≡ pos 15791759 }
+{}

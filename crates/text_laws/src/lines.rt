@@ -1,0 +1,19 @@
+//! What a line of a listing is.
+
+ghost use Rattle.std.specs.Prelude.{All};
+ghost use Rattle.curve_law.specs.declared.event.Event.{Event};
+ghost use Rattle.event_text.specs.Lines.{event_line_in};
+ghost use Rattle.harmonics_text.specs.declared.book.Units.{Units};
+ghost use Rattle.listing.specs.declared.row.Row.{Row};
+ghost use Rattle.listing.specs.Listings.{row_line_in};
+ghost use Rattle.text_laws.specs.Lines.{IsLevel, IsLine};
+ghost use Rattle.text_laws.specs.Pages.{line_of, Page};
+ghost use Rattle.zone_time.specs.declared.zone.Zone.{Zone};
+
+/// The lines of events, of levels and of dates end with their only LF, and have no other byte below
+/// 32. So each is one line of its text.
+pub fn lines_end_once()
+    ensures events { (zone : Zone) (units : Units) (event : Event) → IsLevel event.level → IsLine (event_line_in zone units event) }
+    ensures heights { (zone : Zone) (units : Units) (row : Row) → IsLevel row.level → IsLine (row_line_in zone units row) }
+    ensures dates { (zone : Zone) (units : Units) (page : Page) → All (λ event. IsLevel event.level) page.events → IsLine (line_of zone units page) }
+{}

@@ -1,0 +1,35 @@
+//! What follows of the list of stations.
+
+ghost use Rattle.std.specs.Prelude.{◌≡◌, ◌≢◌, ◌⊎◌, ℕ, List, [], ◌∷◌, ◌++◌, All, codes, Err};
+ghost use Rattle.std.specs.List.{flat_map};
+ghost use Rattle.event_text.specs.Lines.{text_of_unit};
+ghost use Rattle.harmonics_text.specs.declared.book.Book.{Book};
+ghost use Rattle.harmonics_text.specs.declared.book.Units.{Units};
+ghost use Rattle.harmonics_text.specs.Worked.{pier_book};
+ghost use Rattle.listing.specs.StationLists.{stations_text_of};
+ghost use Rattle.station_table.specs.declared.finding.FindFault.{FindFault};
+ghost use Rattle.station_table.specs.declared.offsets.Offsets.{Offsets};
+ghost use Rattle.station_table.specs.Bases.{basis_of, basis_over};
+ghost use Rattle.station_table.specs.Worked.{dock_rows};
+ghost use Rattle.text_laws.specs.Stations.{station_lines, FindsRow, FindsStation, SaysUnit};
+
+/// The list has one line for each station of the book and then one for each row of the table. The
+/// name of each line finds something: that of a station a station of this name, and that of a row a
+/// row of this name if the book has no such station. The unit of a row's line is that of the station
+/// that the row is over, and `-`, which is no unit, exactly if the book lacks its reference.
+pub fn stations_list_what_can_be_requested()
+    ensures lines { (book : Book) (table : List Offsets) →
+        stations_text_of book table ≡ flat_map (λ line. line) (station_lines book table) }
+    ensures references { (book : Book) (table : List Offsets) →
+        All (λ station. FindsStation book table station.name) book.stations }
+    ensures rows { (book : Book) (table : List Offsets) →
+        All (λ row. FindsStation book table row.name ⊎ FindsRow book table row.name) table }
+    ensures units { (book : Book) (place : ℕ) (row : Offsets) → SaysUnit book place row (basis_over book place row) }
+    ensures dash { (units : Units) → text_of_unit units ≢ codes "-" }
+{}
+
+/// A row whose reference the book lacks: its name finds it, and its line has `-`.
+#[tactic(auto, unfolding(station_table::specs::Bases::basis_of, station_table::specs::Bases::basis_in, station_table::specs::Bases::basis_over))]
+pub fn worked_missing_reference()
+    ensures { basis_of pier_book dock_rows (codes "Lost") ≡ Err (FindFault.NoReference 2) }
+{}
