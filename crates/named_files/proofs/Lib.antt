@@ -1,3 +1,3 @@
-mod OpenedLemmas
+pub mod OpenedLemmas
 pub mod ReadingLemmas
 pub mod TellingLemmas

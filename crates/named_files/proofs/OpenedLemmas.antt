@@ -204,7 +204,7 @@ last_names slot name expected before after result o =
 
 -- ---- The names up to a fault
 
-up_to : (name : List ℕ) (question : Question) (slot : Slot) → (more : List (List ℕ)) × (names_of name question ≡ names_to name question (Some slot) ++ more)
+pub up_to : (name : List ℕ) (question : Question) (slot : Slot) → (more : List (List ℕ)) × (names_of name question ≡ names_to name question (Some slot) ++ more)
 up_to name question File = (listed question.offsets ++ (listed (zone_file question.zone) ++ listed question.certificate), refl)
 up_to name question Offsets = (listed (zone_file question.zone) ++ listed question.certificate, refl)
 up_to name question Zone =
