@@ -8,7 +8,6 @@ use Rattle.tide_edge.specs.Clocks.{ClockState, next_minute}
 use Rattle.tide_edge.specs.Doors.{Connection, Connections, DoorState, Traffic, append_to_last}
 use Rattle.tide_edge.specs.Faults.{faults_after}
 use Rattle.tide_server.specs.declared.stock.Stock.{Stock}
-use Rattle.tide_server.specs.Conversations.{IsLeft, IsServed}
 use Rattle.tide_server.specs.Heads.{head_end}
 use Rattle.tide_server.specs.Rows.{Row, IsRow, is_settled}
 use Rattle.tide_server.specs.Serving.{Answers, IsEnough, exchange, has_byte}

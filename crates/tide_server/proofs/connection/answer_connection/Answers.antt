@@ -104,12 +104,12 @@ loop-count-preserved g c =
           goes_on (g.D.Door.state c.args.door.now) (g.D.Door.state c.loop-count.door) (g.D.Door.state c.read_more.new.door)
           c.loop-count.request c.read_more.new.self (is_settled row) c.in-Ok.count c.loop-count.invariant.read
           (record {
-      room = c.in-Ok.ensures.after.0;
-      door = c.in-Ok.ensures.after.1;
-      came = c.in-Ok.ensures.after.2;
-      longer = c.in-Ok.ensures.longer;
-      within = c.in-Ok.ensures.within;
-      bytes = c.in-Ok.ensures.next_bytes;
-    })
+            room = c.in-Ok.ensures.after.0;
+            door = c.in-Ok.ensures.after.1;
+            came = c.in-Ok.ensures.after.2;
+            longer = c.in-Ok.ensures.longer;
+            within = c.in-Ok.ensures.within;
+            bytes = c.in-Ok.ensures.next_bytes;
+          })
           (sym c.ends_reading.ensures ∙ c.if-ends_reading.false);
     }
