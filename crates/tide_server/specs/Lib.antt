@@ -1,3 +1,4 @@
+pub mod Conversations
 pub mod Heads
 pub mod Laws
 pub mod Openings
