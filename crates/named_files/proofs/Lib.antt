@@ -1,3 +1,4 @@
 pub mod OpenedLemmas
 pub mod ReadingLemmas
+pub mod SettledLemmas
 pub mod TellingLemmas

@@ -1,24 +1,18 @@
 -- How a run ends by what it opened.
 use Rattle.std.proofs.Common.{◌≡◌, ◌∙◌, ap, ℕ, false, List, [], ◌++◌, map, append-nil, append_assoc, Option, Some, None, Result, Ok, Err, inl, inr, refl, sym}
 use Rattle.decimal_text.specs.Expected.{Excused}
-use Rattle.harmonics_text.specs.declared.fault.BookFault.TheVariants as form
 use Rattle.named_files.specs.declared.no_answer.NoAnswer.{NoAnswer}
-use Rattle.named_files.specs.declared.no_answer.NoAnswer.TheVariants.{Unread, Told}
-use Rattle.named_files.specs.declared.no_answer.NoAnswer.TheVariants as none_of
-use Rattle.named_files.specs.NoAnswers.{status_of, wants_memory}
+use Rattle.named_files.specs.NoAnswers.{wants_memory}
 use Rattle.named_files.specs.Opened.{IsResultOf, failing_file}
 use Rattle.named_files.specs.Telling.{Tells}
 use Rattle.named_files.proofs.OpenedLemmas.{up_to}
-use Rattle.question.specs.declared.fault.AskFault.TheVariants as ask
+use Rattle.named_files.proofs.SettledLemmas.{told_settles}
 use Rattle.question.specs.declared.question.Question.{Question}
 use Rattle.report_sheets.specs.Sheets.{SheetMeaning}
-use Rattle.station_table.specs.declared.fault.OffsetFault.TheVariants as table
 use Rattle.tide_answer.specs.declared.text.Answer.{Answer}
 use Rattle.tide_edge.specs.FileStates.{Opening}
 use Rattle.tide_edge.specs.SinkStates.{SinkState, Wrote}
 use Rattle.tide_fault.specs.declared.fault.Fault.{Fault}
-use Rattle.tide_fault.specs.declared.fault.Fault.TheVariants.{Ask, NoSheet, TooLong, Book, Offsets, BadZone, Refused}
-use Rattle.tide_fault.specs.declared.refusal.Refusal.TheVariants as refusals
 use Rattle.tide_fault.specs.declared.slot.Slot.{Slot}
 use Rattle.tide_fault.specs.declared.status.Status.{Status}
 use Rattle.tide_fault.specs.declared.status.Status.TheVariants.{NoMemory}
@@ -38,33 +32,6 @@ wider_by question (Some name) (Some slot) = up_to name question slot
 wider : (asked : Result Question Fault) (why : Option Slot) → (more : List (List ℕ)) × (names_wanted asked None ≡ names_wanted asked why ++ more)
 wider (Ok question) why = wider_by question question.file why
 wider (Err fault) why = ([], refl)
-
--- ---- A fault whose status isn't that of no memory is the expected one
-
-settles : (expected : Result Answer NoAnswer) (none : NoAnswer) → Excused (wants_memory none) expected none → ¬ (status_of none ≡ NoMemory)
-    → expected ≡ Err none
-settles expected Unread gives other = gives
-settles expected (Told (Ask ask.NoMemory)) gives other = absurd (other refl)
-settles expected (Told (Ask _)) gives other = gives
-settles expected (Told (NoSheet word)) gives other = gives
-settles expected (Told (TooLong slot)) gives other = gives
-settles expected (Told (Book form.NoMemory)) gives other = absurd (other refl)
-settles expected (Told (Book (form.At line why))) gives other = gives
-settles expected (Told (Offsets table.NoMemory)) gives other = absurd (other refl)
-settles expected (Told (Offsets (table.At row why))) gives other = gives
-settles expected (Told BadZone) gives other = gives
-settles expected (Told (Refused refusals.NoMemory)) gives other = absurd (other refl)
-settles expected (Told (Refused _)) gives other = gives
-settles expected (none_of.Refused refusals.NoMemory rows) gives other = absurd (other refl)
-settles expected (none_of.Refused _ rows) gives other = gives
-
-told_settles : (expected : Result Answer NoAnswer) (none : NoAnswer) (status : Status) (before after : SinkState) → Excused (wants_memory none) expected none
-    → Tells none status before after → ¬ (status ≡ NoMemory) → expected ≡ Err none
-told_settles expected none status before after gives told other =
-    elim told [
-      | inl t ↦ settles expected none gives (λ is. other (t.0 ∙ is))
-      | inr t ↦ absurd (other t.0)
-    ]
 
 -- ---- How it ends
 
@@ -97,6 +64,6 @@ shown_refused sheets words before after none status unwritten written shown quie
       all = shown.all;
       unopened = shown.unopened ++ to.0;
       names = to.1 ∙ ap (λ n. n ++ to.0) shown.names ∙ append_assoc (map (λ o. o.name) shown.openings) shown.unopened to.0;
-      last = λ other. (shown.unopened, rw (told_settles expected none status unwritten.err written.err gives told other) shown.names);
+      last = λ other. (shown.unopened, rw (told_settles expected none status unwritten.err written.err shown.answer told other) shown.names);
       ends = ends_told expected none status unwritten written gives quiet told;
     }

@@ -3,9 +3,11 @@ pub mod Heads
 pub mod Laws
 pub mod Openings
 pub mod Paths
+pub mod Promises
 pub mod Queries
 pub mod Replies
 pub mod Responses
 pub mod Rows
 pub mod Serving
+pub mod Shown
 pub mod Workings
