@@ -1,6 +1,6 @@
 -- A fault whose status isn't that of no memory is the expected one.
-use Rattle.std.proofs.Common.{◌≡◌, ◌∙◌, Bool, true, false, cond, Result, Err, inl, inr, refl}
-use Rattle.decimal_text.specs.Expected.{Excuses, memory, given}
+use Rattle.std.proofs.Common.{◌≡◌, ◌∙◌, Result, Err, inl, inr, refl}
+use Rattle.decimal_text.specs.Expected.{Excuses}
 use Rattle.harmonics_text.specs.declared.fault.BookFault.TheVariants as form
 use Rattle.question.specs.declared.fault.AskFault.TheVariants as ask
 use Rattle.station_table.specs.declared.fault.OffsetFault.TheVariants as table

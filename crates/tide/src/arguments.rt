@@ -1,11 +1,11 @@
 //! The program's words.
 
-ghost use Rattle.std.specs.Prelude.{◌≡◌, Bool, Err, IsOk, IfOk, IfErr, map, drop, string_bytes};
+ghost use Rattle.std.specs.Prelude.{◌≡◌, ◌↔◌, Bool, IsOk, IfOk, IfErr, map, drop, string_bytes};
 ghost use Rattle.std.specs.IoError.{error_kind};
 ghost use Rattle.std.specs.Result.{IsOkAnd};
 ghost use Rattle.std.specs.Vec.Iter.{into_iter_items};
 ghost use Rattle.tide_edge.specs.SinkStates.{Wrote};
-ghost use Rattle.tide.specs.NoWords.{line_of, status_of, why_of};
+ghost use Rattle.tide.specs.NoWords.{line_of, status_of};
 
 use decimal_text::{Text, Words};
 use named_files::refuse;
@@ -32,7 +32,7 @@ pub fn read_words(rt: &HostRuntime) -> Result<Words, NoWords> {
 /// The words behind the program's name, by the arguments that the system gave, or why there are none.
 pub fn words_from(alloc: Global, arguments: io::Result<Args>) -> Result<Words, NoWords>
     ensures words { IfOk result (λ words. IsOkAnd arguments (λ all. words ≡ map string_bytes (drop 1 (into_iter_items all)))) }
-    ensures refused { IfErr arguments (λ fault. result ≡ Err (why_of (error_kind fault))) }
+    ensures refused { IfErr arguments (λ fault. IfErr result (λ why. (why ≡ NoWords.NoMemory) ↔ (error_kind fault ≡ ErrorKind.OutOfMemory))) }
     ensures memory { IsOk arguments → IfErr result (λ why. why ≡ NoWords.NoMemory) }
 {
     match arguments {
@@ -43,7 +43,7 @@ pub fn words_from(alloc: Global, arguments: io::Result<Args>) -> Result<Words, N
 
 // Why the system gave no arguments.
 fn why_of(kind: ErrorKind) -> NoWords
-    ensures { result ≡ why_of kind }
+    ensures { (result ≡ NoWords.NoMemory) ↔ (kind ≡ ErrorKind.OutOfMemory) }
 {
     match kind {
         ErrorKind::OutOfMemory => NoWords::NoMemory,

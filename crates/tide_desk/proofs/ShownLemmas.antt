@@ -1,5 +1,5 @@
 -- How a run ends by what it opened.
-use Rattle.std.proofs.Common.{◌≡◌, ◌∙◌, ap, ℕ, false, List, [], ◌++◌, map, append-nil, append_assoc, Option, Some, None, Result, Ok, Err, inl, inr, refl, sym}
+use Rattle.std.proofs.Common.{◌≡◌, ◌∙◌, ap, ℕ, false, List, [], ◌++◌, map, append-nil, append_assoc, Option, Some, None, Result, Ok, Err, inl, refl, sym}
 use Rattle.decimal_text.specs.Expected.{Excused}
 use Rattle.named_files.specs.declared.no_answer.NoAnswer.{NoAnswer}
 use Rattle.named_files.specs.NoAnswers.{wants_memory}
@@ -11,11 +11,10 @@ use Rattle.question.specs.declared.question.Question.{Question}
 use Rattle.report_sheets.specs.Sheets.{SheetMeaning}
 use Rattle.tide_answer.specs.declared.text.Answer.{Answer}
 use Rattle.tide_edge.specs.FileStates.{Opening}
-use Rattle.tide_edge.specs.SinkStates.{SinkState, Wrote}
+use Rattle.tide_edge.specs.SinkStates.{Wrote}
 use Rattle.tide_fault.specs.declared.fault.Fault.{Fault}
 use Rattle.tide_fault.specs.declared.slot.Slot.{Slot}
 use Rattle.tide_fault.specs.declared.status.Status.{Status}
-use Rattle.tide_fault.specs.declared.status.Status.TheVariants.{NoMemory}
 use Rattle.tide_desk.specs.Answers.{asked_of}
 use Rattle.tide_desk.specs.Outcomes.{EndsAs, Outputs, Sources}
 use Rattle.tide_desk.specs.Shown.{EndsAsShown, answer_by, names_by, names_wanted}
