@@ -1,3 +1,4 @@
-mod OpenedLemmas
+pub mod OpenedLemmas
 pub mod ReadingLemmas
+pub mod SettledLemmas
 pub mod TellingLemmas

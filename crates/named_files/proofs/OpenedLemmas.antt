@@ -159,7 +159,7 @@ opened_book name before after result once =
 -- ---- One file after the other
 
 -- what was opened goes on behind what was opened before
-go_on : (before between after : Openings) (first second : List Opening) → openings_of between ≡ openings_of before ++ first
+pub go_on : (before between after : Openings) (first second : List Opening) → openings_of between ≡ openings_of before ++ first
     → openings_of after ≡ openings_of between ++ second → openings_of after ≡ openings_of before ++ (first ++ second)
 go_on before between after first second is then =
     then ∙ ap (λ o. o ++ second) is ∙ append_assoc (openings_of before) first second
@@ -169,7 +169,7 @@ map-append [] second = refl
 map-append (o ∷ first) second = ap (λ names. o.name ∷ names) (map-append first second)
 
 -- and so do the names
-names_on : (first second : List Opening) (names more left : List (List ℕ)) → names ≡ map (λ o. o.name) first
+pub names_on : (first second : List Opening) (names more left : List (List ℕ)) → names ≡ map (λ o. o.name) first
     → more ≡ map (λ o. o.name) second ++ left → names ++ more ≡ map (λ o. o.name) (first ++ second) ++ left
 names_on first second names more left is then =
     ap (λ n. n ++ more) is
@@ -178,7 +178,7 @@ names_on first second names more left is then =
     ∙ ap (λ n. n ++ left) (sym (map-append first second))
 
 -- a file that was read was opened, if it is named
-all_named : {T : Type 0} (slot : Slot) (name : Option (List ℕ)) (expected : Option (List ℕ) → Result T NoAnswer) (before after : Openings)
+pub all_named : {T : Type 0} (slot : Slot) (name : Option (List ℕ)) (expected : Option (List ℕ) → Result T NoAnswer) (before after : Openings)
     (value : T) (o : Opened slot name expected before after (Ok value)) → listed name ≡ map (λ it. it.name) o.openings
 all_named slot name expected before after value o =
     o.names ∙ ap (λ left. map (λ it. it.name) o.openings ++ left) o.whole ∙ append-nil (map (λ it. it.name) o.openings)
@@ -187,16 +187,16 @@ length-names : (openings : List Opening) → length (map (λ o. o.name) openings
 length-names [] = refl
 length-names (o ∷ openings) = ap suc (length-names openings)
 
-as_many : {T : Type 0} (slot : Slot) (name : Option (List ℕ)) (expected : Option (List ℕ) → Result T NoAnswer) (before after : Openings)
+pub as_many : {T : Type 0} (slot : Slot) (name : Option (List ℕ)) (expected : Option (List ℕ) → Result T NoAnswer) (before after : Openings)
     (value : T) (o : Opened slot name expected before after (Ok value)) → length (listed name) ≡ length o.openings
 as_many slot name expected before after value o = ap length (all_named slot name expected before after value o) ∙ length-names o.openings
 
 -- the last of the files that were opened
-last_all : {T : Type 0} (slot : Slot) (name : Option (List ℕ)) (expected : Option (List ℕ) → Result T NoAnswer) (before after : Openings)
+pub last_all : {T : Type 0} (slot : Slot) (name : Option (List ℕ)) (expected : Option (List ℕ) → Result T NoAnswer) (before after : Openings)
     (result : Result T NoAnswer) (o : Opened slot name expected before after result) → openings_of after ≡ openings_of before ++ (o.openings ++ [])
 last_all slot name expected before after result o = o.all ∙ ap (λ it. openings_of before ++ it) (sym (append-nil o.openings))
 
-last_names : {T : Type 0} (slot : Slot) (name : Option (List ℕ)) (expected : Option (List ℕ) → Result T NoAnswer) (before after : Openings)
+pub last_names : {T : Type 0} (slot : Slot) (name : Option (List ℕ)) (expected : Option (List ℕ) → Result T NoAnswer) (before after : Openings)
     (result : Result T NoAnswer) (o : Opened slot name expected before after result)
     → listed name ≡ map (λ it. it.name) (o.openings ++ []) ++ o.unopened
 last_names slot name expected before after result o =
@@ -204,7 +204,7 @@ last_names slot name expected before after result o =
 
 -- ---- The names up to a fault
 
-up_to : (name : List ℕ) (question : Question) (slot : Slot) → (more : List (List ℕ)) × (names_of name question ≡ names_to name question (Some slot) ++ more)
+pub up_to : (name : List ℕ) (question : Question) (slot : Slot) → (more : List (List ℕ)) × (names_of name question ≡ names_to name question (Some slot) ++ more)
 up_to name question File = (listed question.offsets ++ (listed (zone_file question.zone) ++ listed question.certificate), refl)
 up_to name question Offsets = (listed (zone_file question.zone) ++ listed question.certificate, refl)
 up_to name question Zone =
@@ -238,7 +238,7 @@ stopped question name slot before after none openings left of_slot all names ans
 
 -- ---- What the openings show of each file
 
-shown_second : (p q more : List Opening) → 1 ≡ length p → IsShown Offsets q (shown Offsets (slice_get (p ++ (q ++ more)) 1))
+pub shown_second : (p q more : List Opening) → 1 ≡ length p → IsShown Offsets q (shown Offsets (slice_get (p ++ (q ++ more)) 1))
 shown_second p q more one = shown_at Offsets p q more 1 one
 
 shown_third : (p q r more : List Opening) (count : ℕ) → 1 ≡ length p → count ≡ length q
@@ -257,10 +257,10 @@ shown_fourth p q r s count also one counted too =
 -- ---- The files of a question
 
 -- each is read by its own name, from the file that its openings show
-abbrev book_shown : List ℕ → Option (List ℕ) → Result TheBook NoAnswer
+abbrev pub book_shown : List ℕ → Option (List ℕ) → Result TheBook NoAnswer
 book_shown name file = book_named (λ _. file) name
 
-abbrev table_shown : Option (List ℕ) → Option (List ℕ) → Result (List Row) NoAnswer
+abbrev pub table_shown : Option (List ℕ) → Option (List ℕ) → Result (List Row) NoAnswer
 table_shown name file = table_named (λ _. file) name
 
 abbrev zone_shown : ZoneWord → Option (List ℕ) → Result TheZone NoAnswer

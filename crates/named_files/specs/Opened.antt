@@ -63,6 +63,16 @@ pub record Opened {T : Type 0} (slot : Slot) (name : Option (List ℕ)) (expecte
   pub whole : OnOk result (unopened ≡ [])
   pub answer : (file : Option (List ℕ)) → IsShown slot openings file → Meets source_of (Unit {0}) (expected file) result
 
+-- Files were opened in the order of these names, each once and none behind the one that is why there is no value; and the result is
+-- what is expected by what came of them.
+pub record IsResultOf {T : Type 0} (wanted : Option Slot → List (List ℕ)) (expected : List Opening → Result T NoAnswer) (before after : Openings)
+    (result : Result T NoAnswer) : Type 0 where
+  pub openings : List Opening
+  pub unopened : List (List ℕ)
+  pub all : openings_of after ≡ openings_of before ++ openings
+  pub names : wanted (failing_file result) ≡ map (λ o. o.name) openings ++ unopened
+  pub answer : Meets source_of (Unit {0}) (expected openings) result
+
 -- The files of a question were opened in their order, each once, none behind the one that is why there is no answer, and all if there is
 -- one; and the result is that of the files as these openings show them.
 pub record AreOpened (question : Question) (name : List ℕ) (before after : Openings) (result : Result Materials NoAnswer) : Type 0 where

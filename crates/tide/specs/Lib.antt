@@ -1,2 +1,3 @@
 pub mod NoWords
 pub mod Pages
+pub mod Promises

@@ -1,6 +1,8 @@
 //! The program's words.
 
-ghost use Rattle.std.specs.Prelude.{◌≡◌, Bool, IfOk, map, drop, string_bytes};
+ghost use Rattle.std.specs.Prelude.{◌≡◌, ◌↔◌, Bool, IsOk, IfOk, IfErr, map, drop, string_bytes};
+ghost use Rattle.std.specs.IoError.{error_kind};
+ghost use Rattle.std.specs.Result.{IsOkAnd};
 ghost use Rattle.std.specs.Vec.Iter.{into_iter_items};
 ghost use Rattle.tide_edge.specs.SinkStates.{Wrote};
 ghost use Rattle.tide.specs.NoWords.{line_of, status_of};
@@ -10,7 +12,7 @@ use named_files::refuse;
 use std::alloc::{AllocError, Global};
 use std::env;
 use std::env::Args;
-use std::io::ErrorKind;
+use std::io::{self, ErrorKind};
 use tide_edge::Sink;
 use tide_fault::Status;
 
@@ -24,12 +26,28 @@ pub enum NoWords {
 
 /// The words behind the program's name.
 pub fn read_words(rt: &HostRuntime) -> Result<Words, NoWords> {
-    match env::args(rt) {
-        Ok(arguments) => words_of(rt.alloc(), arguments).map_err(|_| NoWords::NoMemory),
-        Err(fault) => match fault.kind() {
-            ErrorKind::OutOfMemory => Err(NoWords::NoMemory),
-            _ => Err(NoWords::NotText),
-        },
+    words_from(rt.alloc(), env::args(rt))
+}
+
+/// The words behind the program's name, by the arguments that the system gave, or why there are none.
+pub fn words_from(alloc: Global, arguments: io::Result<Args>) -> Result<Words, NoWords>
+    ensures words { IfOk result (λ words. IsOkAnd arguments (λ all. words ≡ map string_bytes (drop 1 (into_iter_items all)))) }
+    ensures refused { IfErr arguments (λ fault. IfErr result (λ why. (why ≡ NoWords.NoMemory) ↔ (error_kind fault ≡ ErrorKind.OutOfMemory))) }
+    ensures memory { IsOk arguments → IfErr result (λ why. why ≡ NoWords.NoMemory) }
+{
+    match arguments {
+        Ok(arguments) => words_of(alloc, arguments).map_err(|_| NoWords::NoMemory),
+        Err(fault) => Err(why_of(fault.kind())),
+    }
+}
+
+// Why the system gave no arguments.
+fn why_of(kind: ErrorKind) -> NoWords
+    ensures { (result ≡ NoWords.NoMemory) ↔ (kind ≡ ErrorKind.OutOfMemory) }
+{
+    match kind {
+        ErrorKind::OutOfMemory => NoWords::NoMemory,
+        _ => NoWords::NotText,
     }
 }
 
@@ -45,7 +63,7 @@ pub fn words_of(alloc: Global, mut arguments: Args) -> Result<Words, AllocError>
     Ok(Words::from_vec(words))
 }
 
-/// Tells why there are no words, and answers the status that goes with it.
+/// Writes why there are no words, and returns the status that goes with it.
 pub fn tell_no_words<E: Sink>(why: NoWords, err: &mut E) -> Status
     ensures status { result ≡ status_of why }
     ensures line { (failed : Bool) × Wrote (E.state err.old) (E.state err.new) failed (line_of why) }

@@ -1,29 +1,34 @@
 -- How an answer over files follows from its steps.
-use Rattle.std.proofs.Common.{◌≡◌, ℕ, ℤ, Bool, true, false, cond, if◌then◌else◌, List, [], ◌∷◌, Option, Some, None, Result, Ok, refl, sym, subst, le_refl}
+use Rattle.std.proofs.Common.{◌≡◌, ◌∙◌, ap, ℕ, ℤ, Bool, true, false, if◌then◌else◌, List, [], ◌∷◌, ◌++◌, map, append-nil, Option, Some, None, Result, Ok, Err, refl, sym, subst, le_refl}
 use Rattle.std.specs.Bool.{IsTrue}
 use Rattle.std.specs.Prelude.{IsOk, IsSome, count_by, pos}
 use Rattle.std.specs.Option.{IsSomeAnd, option_map_or}
 use Rattle.std.specs.Result.{IsErrAnd}
-use Rattle.decimal_text.specs.Expected.{Excused, Gives, Meets}
-use Rattle.question.specs.declared.command.Command.{Command}
+use Rattle.decimal_text.specs.Expected.{◌>>=◌, Excused, Gives, Meets}
 use Rattle.question.specs.declared.question.Question.{Question}
 use Rattle.report_sheets.specs.Sheets.{SheetMeaning}
 use Rattle.tide_answer.specs.declared.text.Answer.{Answer}
 use Rattle.tide_answer.specs.Answers.{answered_alone}
 use Rattle.tide_edge.specs.Clocks.{ClockState, clock_after}
 use Rattle.tide_edge.specs.Faults.{Rose, counted}
-use Rattle.tide_edge.specs.FileStates.{FilesState}
+use Rattle.tide_edge.specs.Calls.{answer}
+use Rattle.tide_edge.specs.declared.failed.Failed.{Failed}
+use Rattle.tide_edge.specs.FileStates.{FilesState, Opening, Openings, openings_of}
 use Rattle.tide_edge.specs.Whole.{Allowance, ReadWithin, no_file}
 use Rattle.tide_edge.proofs.ReadingLemmas.{read_none}
 use Rattle.tide_fault.specs.declared.fault.Fault.{Fault}
 use Rattle.tide_fault.specs.Faults.{wants_memory as fault_wants_memory}
 use Rattle.named_files.specs.declared.no_answer.NoAnswer.{NoAnswer}
 use Rattle.named_files.specs.declared.no_answer.NoAnswer.TheVariants.{Told}
-use Rattle.named_files.specs.NoAnswers.{source_of, told, wants_memory}
+use Rattle.named_files.specs.declared.materials.Materials.{Materials}
+use Rattle.named_files.specs.NoAnswers.{file_of, refused_over, source_of, told, wants_memory}
+use Rattle.named_files.specs.Opened.{AreOpened, IsResultOf, failing_file, folders_shown, names_to}
+use Rattle.tide_fault.specs.declared.slot.Slot.{Slot}
 use Rattle.named_files.specs.Readings.{Folders, files_allowed, files_in}
 use Rattle.named_files.proofs.ReadingLemmas.{meets_at, meets_inside, told_excuses}
-use Rattle.tide_desk.specs.Answers.{AsksClock, HasFiles, NamesFile, allowed_by, answer_from, answered_by, answered_over, asked_of, asks_clock, minute_for, refused_from}
+use Rattle.tide_desk.specs.Answers.{AsksClock, HasFiles, NamesFile, allowed_by, answer_from, answered_by, answered_over, answered_with, asked_of, asks_clock, given_with, is_report, refused_from}
 use Rattle.tide_desk.specs.Outcomes.{Sources, WentOn, sources}
+use Rattle.tide_desk.specs.Shown.{answer_shown, folders_by, minute_read, names_by, names_wanted, shown_by, shown_over}
 
 -- ---- What was read, and what was asked of the clock
 
@@ -42,6 +47,7 @@ went_reading asks allowed failed before after clock read = record {
   files = failed;
   clock = false;
   is_asked = false;
+  minute = pos 0;
   one = one_failed failed;
   read = read;
   time = refl;
@@ -56,14 +62,15 @@ pub went_nowhere : (asks : Type 0) (allowed : Allowance) (files : FilesState) (c
 went_nowhere asks allowed files clock = went_reading asks allowed false files files clock (read_none allowed files)
 
 -- the files were read, and then the clock was asked, where it is to be
-pub went_asking : (asks failed : Bool) (allowed : Allowance) (before after : FilesState) (clock later : ClockState)
+pub went_asking : (asks failed : Bool) (minute : ℤ) (allowed : Allowance) (before after : FilesState) (clock later : ClockState)
     → (IsTrue failed → IsTrue asks) → ReadWithin allowed false before after
-    → later ≡ (if asks then clock_after failed clock else clock)
+    → later ≡ (if asks then clock_after (answer failed minute) clock else clock)
     → WentOn failed (IsTrue asks) allowed (sources before clock) (sources after later)
-went_asking asks failed allowed before after clock later asked read time = record {
+went_asking asks failed minute allowed before after clock later asked read time = record {
   files = false;
   clock = failed;
   is_asked = asks;
+  minute = minute;
   one = other_failed failed;
   read = read;
   time = time;
@@ -73,10 +80,10 @@ went_asking asks failed allowed before after clock later asked read time = recor
 }
 
 -- a clock that was asked and failed shows it
-pub clock_rose : (asks : Bool) (clock later : ClockState) → IsTrue asks → later ≡ (if asks then clock_after true clock else clock)
+pub clock_rose : (asks : Bool) (failed : Failed) (clock later : ClockState) → IsTrue asks → later ≡ (if asks then clock_after (Err failed) clock else clock)
     → Rose clock.faults later.faults
-clock_rose true clock later asked time = rw time (le_refl (counted clock.faults))
-clock_rose false clock later asked time = let untrue : false ≡ true = asked in cc
+clock_rose true failed clock later asked time = rw time (le_refl (counted clock.faults))
+clock_rose false failed clock later asked time = let untrue : false ≡ true = asked in cc
 
 -- what a question asks, the words that ask it do
 pub went_by_words : (failed : Bool) (asked : Result Question Fault) (question : Question) (name : List ℕ) (before after : Sources)
@@ -86,14 +93,88 @@ went_by_words failed asked question name before after is named went =
     let P : Option (List ℕ) → Type 0 = λ file. WentOn failed (IsTrue (asks_clock question.command)) (option_map_or (λ name. files_allowed question) file no_file) before after in
     rw is (subst P (sym named) went)
 
--- ---- The clock
+-- ---- By what was opened
 
-at_zero : (asks : Bool) → pos 0 ≡ cond asks (pos 0) (pos 0)
-at_zero true = refl
-at_zero false = refl
+pub failing_at : {A : Type 0} (result : Result A NoAnswer) (none : NoAnswer) → IsErrAnd result (λ e. e ≡ none) → failing_file result ≡ file_of none
+failing_at (Ok value) none is = absurd is
+failing_at (Err e) none is = ap file_of is
 
-pub minute_unasked : (command : Command) → pos 0 ≡ minute_for command (pos 0)
-minute_unasked command = at_zero (asks_clock command)
+-- nothing was opened
+pub shown_unopened : {A : Type 0} (names : Option Slot → List (List ℕ)) (expected : List Opening → Result A NoAnswer) (before after : Openings)
+    (result : Result A NoAnswer) → after ≡ before → Meets source_of (Unit {0}) (expected []) result
+    → IsResultOf names expected before after result
+shown_unopened names expected before after result same meets = record {
+  openings = [];
+  unopened = names (failing_file result);
+  all = ap openings_of same ∙ sym (append-nil (openings_of before));
+  names = refl;
+  answer = meets;
+}
+
+-- the files couldn't be read
+pub shown_unread : (sheets : List SheetMeaning) (given : Option ℤ) (question : Question) (name : List ℕ) (before after : Openings) (none : NoAnswer)
+    (result : Result Answer NoAnswer) → IsErrAnd result (λ e. e ≡ none)
+    → AreOpened question name before after (Err none)
+    → IsResultOf (names_to name question) (λ openings. shown_over sheets (folders_shown question openings) given question name) before after result
+unfolding shown_over
+shown_unread sheets given question name before after none result is read = record {
+  openings = read.openings;
+  unopened = read.unopened;
+  all = read.all;
+  names = rw (failing_at result none is) read.names;
+  answer = meets_at (Unit {0}) (files_in (folders_shown question read.openings) question name) _ result none is read.answer;
+}
+
+-- they were, and the rest gave the result
+pub shown_read : (sheets : List SheetMeaning) (given : Option ℤ) (question : Question) (name : List ℕ) (before after : Openings) (read : Materials)
+    (result : Result Answer NoAnswer) → failing_file result ≡ None
+    → Meets source_of (Unit {0}) (minute_read question.command given >>= λ now.
+    refused_over read.table (answered_with (is_report question.command) sheets read.book read.table question (given_with read now))) result
+    → AreOpened question name before after (Ok read)
+    → IsResultOf (names_to name question) (λ openings. shown_over sheets (folders_shown question openings) given question name) before after result
+unfolding shown_over
+shown_read sheets given question name before after read result of_none meets opened = record {
+  openings = opened.openings;
+  unopened = opened.unopened;
+  all = opened.all;
+  names = rw of_none opened.names;
+  answer = rw opened.answer meets;
+}
+
+-- what a question is answered, the words that ask it are
+pub shown_named : (sheets : List SheetMeaning) (given : Option ℤ) (words : List (List ℕ)) (question : Question) (name : List ℕ) (before after : Openings)
+    (result : Result Answer NoAnswer) → asked_of sheets words ≡ Ok question → question.file ≡ Some name
+    → IsResultOf (names_to name question) (λ openings. shown_over sheets (folders_shown question openings) given question name) before after result
+    → IsResultOf (names_wanted (asked_of sheets words)) (λ openings. answer_shown sheets (folders_by (asked_of sheets words) openings) given words) before after result
+unfolding answer_shown
+shown_named sheets given words question name before after result is named shown =
+    let N : Option (List ℕ) → Type 0 = λ file. names_by question file (failing_file result) ≡ map (λ o. o.name) shown.openings ++ shown.unopened in
+    let M : Option (List ℕ) → Type 0 = λ file. Meets source_of (Unit {0}) (shown_by sheets (folders_shown question shown.openings) given question file) result in
+    record {
+      openings = shown.openings;
+      unopened = shown.unopened;
+      all = shown.all;
+      names = rw is (subst N (sym named) shown.names);
+      answer = rw is (subst M (sym named) shown.answer);
+    }
+
+-- words that ask nothing
+pub shown_unasked : (sheets : List SheetMeaning) (given : Option ℤ) (words : List (List ℕ)) (fault : Fault) (result : Result Answer NoAnswer)
+    (openings : List Opening) → IsErrAnd result (λ none. none ≡ Told fault) → Excused (fault_wants_memory fault) (asked_of sheets words) fault
+    → Meets source_of (Unit {0}) (answer_shown sheets (folders_by (asked_of sheets words) openings) given words) result
+unfolding answer_shown
+shown_unasked sheets given words fault result openings is excused =
+    meets_at (Unit {0}) (told (asked_of sheets words)) _ result (Told fault) is (told_excuses (Unit {0}) (asked_of sheets words) fault excused)
+
+-- words that name no file
+pub shown_alone : (sheets : List SheetMeaning) (given : Option ℤ) (words : List (List ℕ)) (question : Question) (result : Result Answer NoAnswer)
+    (openings : List Opening) → asked_of sheets words ≡ Ok question → question.file ≡ None
+    → Gives wants_memory (told (refused_from (answered_alone question))) result
+    → Meets source_of (Unit {0}) (answer_shown sheets (folders_by (asked_of sheets words) openings) given words) result
+unfolding answer_shown
+shown_alone sheets given words question result openings is none gives =
+    let M : Option (List ℕ) → Type 0 = λ file. Meets source_of (Unit {0}) (shown_by sheets (folders_shown question openings) given question file) result in
+    rw is (subst M (sym none) (meets_inside (Unit {0}) (told (refused_from (answered_alone question))) result gives))
 
 -- ---- Words that ask nothing, that name a file, or that name none
 

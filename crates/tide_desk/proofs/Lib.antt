@@ -10,3 +10,4 @@ pub mod ReplyLemmas
 pub mod SettledLemmas
 pub mod SheetLemmas
 pub mod TableLemmas
+mod ShownLemmas

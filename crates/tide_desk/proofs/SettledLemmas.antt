@@ -1,9 +1,9 @@
 -- What is told where reading has failed or memory is wanting, and what isn't.
-use Rattle.std.proofs.Common.{◌≡◌, ◌⊎◌, ◌∙◌, Bool, true, false, cond, Option, List, ℕ, None, Result, Ok, Err, inl, inr, refl, sym, subst}
+use Rattle.std.proofs.Common.{◌≡◌, Bool, true, false, cond, Option, List, ℕ, None, Result, Ok, Err, inl, inr, refl, subst}
 use Rattle.std.specs.Bool.{IsTrue}
 use Rattle.std.specs.Prelude.{IsOk}
 use Rattle.std.specs.Option.{IsSomeAnd}
-use Rattle.decimal_text.specs.Expected.{Excuses, Excused, Source, memory, given}
+use Rattle.decimal_text.specs.Expected.{Excuses, Excused, memory, given}
 use Rattle.question.specs.declared.fault.AskFault.TheVariants as ask
 use Rattle.question.specs.declared.question.Question.{Question}
 use Rattle.harmonics_text.specs.declared.fault.BookFault.TheVariants as form

@@ -1,9 +1,10 @@
 -- How a run ends, and what it leaves where it wrote, by the answer that is expected (this project).
-use Rattle.std.specs.Prelude.{◌≡◌, ℕ, Bool, true, false, if◌then◌else◌, IsTrue, List, [], ◌∷◌, count_by, codes, Result, Ok, Err, IsErrAnd}
+use Rattle.std.specs.Prelude.{◌≡◌, ℕ, ℤ, Bool, true, false, if◌then◌else◌, IsTrue, List, [], ◌∷◌, count_by, codes, Result, Ok, Err, IsErrAnd}
 use Rattle.std.specs.Result.{IsOkAnd}
 use Rattle.tide_fault.specs.declared.status.Status.{Status}
 use Rattle.tide_fault.specs.declared.status.Status.TheVariants.{Done, Rejected, ReadFault, WriteFault, NoMemory}
 use Rattle.tide_answer.specs.declared.text.Answer.{Answer}
+use Rattle.tide_edge.specs.Calls.{answer}
 use Rattle.tide_edge.specs.Clocks.{ClockState, clock_after}
 use Rattle.tide_edge.specs.Faults.{Rose}
 use Rattle.tide_edge.specs.FileStates.{FilesState}
@@ -96,9 +97,10 @@ pub record WentOn (has_failed : Bool) (asks : Type 0) (allowed : Allowance) (bef
   pub files : Bool
   pub clock : Bool
   pub is_asked : Bool
+  pub minute : ℤ
   pub one : count_by (λ failed. failed) (files ∷ clock ∷ []) ≡ (if has_failed then 1 else 0)
   pub read : ReadWithin allowed files before.files after.files
-  pub time : after.clock ≡ (if is_asked then clock_after clock before.clock else before.clock)
+  pub time : after.clock ≡ (if is_asked then clock_after (answer clock minute) before.clock else before.clock)
   pub asked : IsTrue is_asked → asks
   pub failed : IsTrue clock → IsTrue is_asked
   pub last : IsTrue files → is_asked ≡ false

@@ -1,14 +1,16 @@
 //! The answer to the words, or the first fault on the way to it.
 
-ghost use Rattle.std.specs.Prelude.{◌≡◌, ℤ, Bool, false, IsTrue, Option, IsOk, IfOk, IfErr, OnErr, if◌then◌else◌, is_err, map};
+ghost use Rattle.std.specs.Prelude.{◌≡◌, ℤ, Bool, false, IsTrue, None, Ok, IsOk, IfOk, IfErr, OnErr, if◌then◌else◌, map};
 ghost use Rattle.decimal_text.specs.Expected.{Gives};
 ghost use Rattle.named_files.specs.NoAnswers.{IsTold, reading_failed, refused_over, source_of, told, wants_memory};
-ghost use Rattle.named_files.specs.Readings.{Folders, files_allowed, files_in};
+ghost use Rattle.named_files.specs.Opened.{IsResultOf, failing_file, folders_shown, names_to};
+ghost use Rattle.named_files.specs.Readings.{files_allowed, files_in};
 ghost use Rattle.named_files.specs.Workings.Materials.{AreMaterials};
 ghost use Rattle.tide_answer.specs.Answers.{answered_alone};
-ghost use Rattle.tide_desk.specs.Answers.{AsksClock, HasFiles, NamesFile, allowed_by, answer_from, answer_of, answered_over, answered_with, asked_of, asks_clock, given_with, is_report, minute_for, refused_from};
+ghost use Rattle.tide_desk.specs.Answers.{AsksClock, HasFiles, NamesFile, allowed_by, answer_of, answered_over, answered_with, asked_of, asks_clock, given_with, is_report, minute_for, refused_from};
 ghost use Rattle.tide_desk.specs.Outcomes.{IsFirm, WentOn, sources};
-ghost use Rattle.tide_desk.specs.Workings.Settled.{IsSettled};
+ghost use Rattle.tide_desk.specs.Shown.{answer_by, given_between, minute_read, names_wanted, shown_over};
+ghost use Rattle.tide_desk.specs.Workings.Settled.{IsSettled, reading_of};
 ghost use Rattle.tide_edge.specs.Clocks.{IsClockMinute, clock_after, next_minute};
 ghost use Rattle.decimal_text.specs.Expected.{Meets};
 
@@ -38,7 +40,9 @@ pub fn answer_words<F: Files, K: Clock>(
         IsTrue (F.state files.old).store.is_observable → (AsksClock asked → IsTrue (K.state clock.old).is_observable)
         → Meets source_of (IsFirm (AsksClock asked) (sources (F.state files.old) (K.state clock.old)) (sources (F.state files.new) (K.state clock.new)))
         (answer_of meanings (F.state files.old).store.folder (next_minute (K.state clock.old)) words.now) result }
-    ensures some { (folders : Folders) × (minute : ℤ) × Meets source_of (Unit {0}) (answer_from (map meaning sheets.items) folders minute words.now) result }
+    ensures shown { let meanings = map meaning sheets.items in
+        IsResultOf (names_wanted (asked_of meanings words.now)) (λ openings. answer_by meanings words.now openings (K.state clock.old) (K.state clock.new))
+        (F.state files.old).openings (F.state files.new).openings result }
     ensures told { IfErr result IsTold }
     ensures reads { let asked = asked_of (map meaning sheets.items) words.now in
         WentOn (reading_failed result) (AsksClock asked) (allowed_by asked)
@@ -49,7 +53,7 @@ pub fn answer_words<F: Files, K: Clock>(
         → ¬ (HasFiles (λ slot. (F.state files.old).store.folder) (asked_of (map meaning sheets.items) words.now)) → clock.new ≡ clock.old }
     ensures asked_once { let asked = asked_of (map meaning sheets.items) words.now in
         IsTrue (F.state files.old).store.is_observable → AsksClock asked → HasFiles (λ slot. (F.state files.old).store.folder) asked
-        → IfErr result IsSettled → K.state clock.new ≡ clock_after false (K.state clock.old) }
+        → IfErr result IsSettled → (minute : ℤ) × (K.state clock.new ≡ clock_after (Ok minute) (K.state clock.old)) }
 {
     let question = read_words(alloc, words, &sheets)?;
     let sound = SoundQuestion::new(&question);
@@ -83,7 +87,9 @@ fn answer_over<F: Files, K: Clock>(
     ensures own { IsTrue (F.state files.old).store.is_observable → (IsTrue (asks_clock question.now.command) → IsTrue (K.state clock.old).is_observable)
         → Meets source_of (IsFirm (IsTrue (asks_clock question.now.command)) (sources (F.state files.old) (K.state clock.old)) (sources (F.state files.new) (K.state clock.new)))
         (answered_over (map meaning sheets.items) (λ slot. (F.state files.old).store.folder) (next_minute (K.state clock.old)) question.now name.now) result }
-    ensures some { (folders : Folders) × (minute : ℤ) × Meets source_of (Unit {0}) (answered_over (map meaning sheets.items) folders minute question.now name.now) result }
+    ensures shown { IsResultOf (names_to name.now question.now)
+        (λ openings. shown_over (map meaning sheets.items) (folders_shown question.now openings) (given_between (K.state clock.old) (K.state clock.new)) question.now name.now)
+        (F.state files.old).openings (F.state files.new).openings result }
     ensures told { IfErr result IsTold }
     ensures reads { WentOn (reading_failed result) (IsTrue (asks_clock question.now.command)) (files_allowed question.now)
         (sources (F.state files.old) (K.state clock.old)) (sources (F.state files.new) (K.state clock.new)) }
@@ -92,7 +98,7 @@ fn answer_over<F: Files, K: Clock>(
         → ¬ (IsOk (files_in (λ slot. (F.state files.old).store.folder) question.now name.now)) → clock.new ≡ clock.old }
     ensures asked_once { IsTrue (F.state files.old).store.is_observable → IsTrue (asks_clock question.now.command)
         → IsOk (files_in (λ slot. (F.state files.old).store.folder) question.now name.now)
-        → IfErr result IsSettled → K.state clock.new ≡ clock_after false (K.state clock.old) }
+        → IfErr result IsSettled → (minute : ℤ) × (K.state clock.new ≡ clock_after (Ok minute) (K.state clock.old)) }
 {
     let read = read_files(alloc, files, question, name)?;
     let now = read_minute(clock, question)?;
@@ -103,11 +109,11 @@ fn answer_over<F: Files, K: Clock>(
 fn read_minute<K: Clock>(clock: &mut K, question: &SoundQuestion<'_>) -> Result<i64, NoAnswer>
     ensures own { (IsTrue (asks_clock question.now.command) → IsTrue (K.state clock.old).is_observable)
         → IfOk result (λ now. now ≡ minute_for question.now.command (next_minute (K.state clock.old))) }
-    ensures some { IfOk result (λ now. (minute : ℤ) × (now ≡ minute_for question.now.command minute)) }
+    ensures given { Gives (λ none. false) (minute_read question.now.command (given_between (K.state clock.old) (K.state clock.new))) result }
     ensures in_range { IfOk result IsClockMinute }
     ensures unread { IfErr result (λ none. none ≡ NoAnswer.Unread) }
     ensures asked { OnErr result (IsTrue (asks_clock question.now.command)) }
-    ensures time { K.state clock.new ≡ (if asks_clock question.now.command then clock_after (is_err result) (K.state clock.old) else K.state clock.old) }
+    ensures time { K.state clock.new ≡ (if asks_clock question.now.command then clock_after (reading_of result) (K.state clock.old) else K.state clock.old) }
     ensures unasked { ¬ (IsTrue (asks_clock question.now.command)) → clock.new ≡ clock.old }
 {
     if !asks_clock(question.get().command) {
@@ -138,6 +144,7 @@ fn answer_with(
     ensures exact { Gives wants_memory (refused_over read.table (answered_with (is_report question.now.command) (map meaning sheets.items) read.book read.table question.now (given_with read now))) result }
     ensures told { IfErr result IsTold }
     ensures read { reading_failed result ≡ false }
+    ensures of_no_file { failing_file result ≡ None }
 {
     let Materials {
         book,

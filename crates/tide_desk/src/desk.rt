@@ -1,10 +1,11 @@
 //! One run, from the words to the status.
 
-ghost use Rattle.std.specs.Prelude.{◌≡◌, ◌⊎◌, ℤ, Bool, false, IsTrue, if◌then◌else◌, map};
+ghost use Rattle.std.specs.Prelude.{◌≡◌, ◌⊎◌, ℤ, Bool, Ok, IsTrue, if◌then◌else◌, map};
 ghost use Rattle.named_files.specs.NoAnswers.{is_read_fault};
-ghost use Rattle.named_files.specs.Readings.{Folders};
-ghost use Rattle.tide_desk.specs.Answers.{AsksClock, HasFiles, NamesFile, allowed_by, answer_from, answer_of, asked_of};
+ghost use Rattle.tide_desk.specs.Answers.{AsksClock, HasFiles, NamesFile, allowed_by, answer_of, asked_of};
 ghost use Rattle.tide_desk.specs.Outcomes.{EndsAs, IsFirm, IsSilent, IsUntouched, WentOn, is_settled, outputs, sources};
+ghost use Rattle.tide_desk.specs.Promises.{AnswersAs, objects, states};
+ghost use Rattle.tide_desk.specs.Shown.{EndsAsShown};
 ghost use Rattle.tide_edge.specs.Clocks.{clock_after, next_minute};
 ghost use Rattle.tide_fault.specs.declared.status.Status.{Status};
 
@@ -18,13 +19,29 @@ use tide_fault::Status;
 
 /// Answers the words from the files: writes the whole answer to `out`, or one line that says why
 /// there is none to `err`. A failure to write to `err` changes nothing of the status. Nothing is
-/// tried again after a failure. No more files are opened than the words name, no more ends are found,
-/// and together no more bytes are read than their limits and a piece of 65,536 bytes for each.
-/// The clock is asked once, for the commands `clock` and `report` alone, after all files were read.
+/// tried again after a failure. The files that the words name are opened in their order, each once and none
+/// behind one that is why there is no answer, and together no more bytes are read than their limits and a piece
+/// of 65,536 bytes for each. The clock is read once, for the commands `clock` and `report` alone, after all files.
 ///
 /// A report has the pages of those of the sheets whose words are wanted, in the order in which they
-/// are handed in. A wanted word that no sheet has is refused before any file is opened.
+/// are passed. A wanted word that no sheet has is refused before any file is opened.
 pub fn run<F: Files, O: Sink, E: Sink, K: Clock>(
+    alloc: Global,
+    words: &Words,
+    files: &mut F,
+    out: &mut O,
+    err: &mut E,
+    clock: &mut K,
+    sheets: Vec<Box<dyn Sheet>>,
+) -> Status
+    ensures { AnswersAs (states F.state O.state E.state K.state) (map meaning sheets.items) words.now result
+        (objects files.old out.old err.old clock.old) (objects files.new out.new err.new clock.new) }
+{
+    write_answer(alloc, words, files, out, err, clock, sheets)
+}
+
+// The same, promise by promise.
+fn write_answer<F: Files, O: Sink, E: Sink, K: Clock>(
     alloc: Global,
     words: &Words,
     files: &mut F,
@@ -39,7 +56,8 @@ pub fn run<F: Files, O: Sink, E: Sink, K: Clock>(
         ⊎ (¬ (result ≡ Status.ReadFault))
         → EndsAs (answer_of meanings (F.state files.old).store.folder (next_minute (K.state clock.old)) words.now) result
         (outputs (O.state out.old) (E.state err.old)) (outputs (O.state out.new) (E.state err.new)) }
-    ensures some_files { (folders : Folders) × (minute : ℤ) × EndsAs (answer_from (map meaning sheets.items) folders minute words.now) result
+    ensures as_shown { EndsAsShown (map meaning sheets.items) words.now
+        (sources (F.state files.old) (K.state clock.old)) (sources (F.state files.new) (K.state clock.new)) result
         (outputs (O.state out.old) (E.state err.old)) (outputs (O.state out.new) (E.state err.new)) }
     ensures reads { let asked = asked_of (map meaning sheets.items) words.now in
         WentOn (is_read_fault result) (AsksClock asked) (allowed_by asked)
@@ -52,7 +70,7 @@ pub fn run<F: Files, O: Sink, E: Sink, K: Clock>(
         → ¬ (HasFiles (λ slot. (F.state files.old).store.folder) (asked_of (map meaning sheets.items) words.now)) → clock.new ≡ clock.old }
     ensures asked_once { let asked = asked_of (map meaning sheets.items) words.now in
         IsTrue (F.state files.old).store.is_observable → AsksClock asked → HasFiles (λ slot. (F.state files.old).store.folder) asked
-        → IsTrue (is_settled result) → K.state clock.new ≡ clock_after false (K.state clock.old) }
+        → IsTrue (is_settled result) → (minute : ℤ) × (K.state clock.new ≡ clock_after (Ok minute) (K.state clock.old)) }
 {
     match answer_words(alloc, words, files, clock, sheets) {
         Ok(reply) => match reply.write(out) {

@@ -1,16 +1,17 @@
 -- What answers a connection.
-use Rattle.std.proofs.Common.{◌≡◌, ◌⊎◌, ◌≢◌, ℕ, Bool, false, true, List, [], ◌∷◌, ◌++◌, take, append-nil, Some, inl, inr, ap, sym, ◌∙◌, subst, refl}
+use Rattle.std.proofs.Common.{◌≡◌, ◌⊎◌, ◌≢◌, ℕ, ◌<◌, Bool, false, true, List, [], ◌∷◌, ◌++◌, length, take, drop, append-nil, length-drop, arith, Option, Some, None, inl, inr, ap, sym, ◌∙◌, subst, refl}
 use Rattle.std.specs.Bool.{IsTrue}
 use Rattle.std.specs.List.{concat}
 use Rattle.std.specs.Prelude.{ℤ, if◌then◌else◌}
+use Rattle.std.proofs.lemmas.List.{take-append-drop}
 use Rattle.tide_edge.specs.Clocks.{ClockState, next_minute}
-use Rattle.tide_edge.specs.Doors.{DoorState, Traffic, append_to_last}
+use Rattle.tide_edge.specs.Doors.{Connection, Connections, DoorState, Traffic, append_to_last}
 use Rattle.tide_edge.specs.Faults.{faults_after}
 use Rattle.tide_server.specs.declared.stock.Stock.{Stock}
 use Rattle.tide_server.specs.Heads.{head_end}
 use Rattle.tide_server.specs.Rows.{Row, IsRow, is_settled}
 use Rattle.tide_server.specs.Serving.{Answers, IsEnough, exchange, has_byte}
-use Rattle.tide_server.specs.Workings.Connections.{HasRead, IsRead, IsReadAs, Replies, RowSent, Stopped, Talk, Went, WentBy, read_to, sent, talked}
+use Rattle.tide_server.specs.Workings.Connections.{HasRead, IsRead, IsReadAs, Replies, RowSent, Stopped, Talk, Went, WentBy, read_as, read_to, sending, sent, talked, with_latest}
 use Rattle.tide_server.proofs.ConnectionLemmas.{append_none, not_enough}
 use Rattle.tide_server.proofs.RowLemmas.{one_row_at, settled_stays}
 
@@ -61,8 +62,8 @@ talk_traffic left text t = record { waiting = t.waiting; rest = left; replies = 
 read_traffic : List (List ℕ) → Traffic → Traffic
 read_traffic left t = record { waiting = t.waiting; rest = left; replies = t.replies }
 
-with_lines : DoorState → ℕ → Traffic → DoorState
-with_lines d lines traffic = record d { traffic = traffic; line_faults = lines }
+with_lines : DoorState → Connections → ℕ → Traffic → DoorState
+with_lines d connections lines traffic = record d { connections = connections; traffic = traffic; line_faults = lines }
 
 sent_behind : (tells : Bool) (left : List (List ℕ)) (text : List ℕ) (t : Traffic)
     → (if tells then record {
@@ -81,21 +82,26 @@ unfolding talk_traffic read_traffic
 unsent true left t = ap (λ rs. record { waiting = t.waiting; rest = left; replies = rs }) (sym (append_none t.replies))
 unsent false left t = refl
 
-abbrev pub talk_of : List (List ℕ) → List ℕ → Bool → Bool → Talk
-talk_of left reply is_cut is_asked = record { left = left; reply = reply; is_cut = is_cut; is_asked = is_asked }
+abbrev pub talk_of : List (List ℕ) → List ℕ → Bool → Option ℤ → Connection → Talk
+talk_of left reply is_cut minute connection =
+    record { left = left; reply = reply; is_cut = is_cut; minute = minute; connection = connection }
 
-sent_talk : (first now after : DoorState) (left : List (List ℕ)) (text : List ℕ) (failed is_asked : Bool) → now ≡ read_to left false first
-    → after ≡ sent text failed now → after ≡ talked (talk_of left text failed is_asked) first
+sent_talk : (first now after : DoorState) (left : List (List ℕ)) (c : Connection) (text : List ℕ) (failed : Bool) (minute : Option ℤ)
+    → now ≡ read_to left c false first → after ≡ sent text failed now
+    → after ≡ talked (talk_of left text failed minute (sending text failed c)) first
 unfolding talk_traffic read_traffic with_lines
-sent_talk first now after left text failed is_asked reads sends =
+sent_talk first now after left c text failed minute reads sends =
     sends ∙ ap (sent text failed) reads
-    ∙ ap (with_lines first (faults_after failed first.line_faults)) (sent_behind first.is_observable left text first.traffic)
+    ∙ ap (with_lines first (with_latest (sending text failed c) first.connections) (faults_after failed first.line_faults))
+    (sent_behind first.is_observable left text first.traffic)
 
-pub unsent_talk : (first now : DoorState) (left : List (List ℕ)) (failed is_asked : Bool) → now ≡ read_to left failed first
-    → now ≡ talked (talk_of left [] failed is_asked) first
+pub unsent_talk : (first now : DoorState) (left : List (List ℕ)) (c : Connection) (failed : Bool) (minute : Option ℤ)
+    → now ≡ read_to left c failed first → now ≡ talked (talk_of left [] failed minute c) first
 unfolding talk_traffic read_traffic with_lines
-unsent_talk first now left failed is_asked reads =
-    reads ∙ ap (with_lines first (faults_after failed first.line_faults)) (unsent first.is_observable left first.traffic)
+unsent_talk first now left c failed minute reads =
+    reads
+    ∙ ap (with_lines first (with_latest c first.connections) (faults_after failed first.line_faults))
+    (unsent first.is_observable left first.traffic)
 
 made_answers : (stock : Stock) (minute : ℤ) (request reply : List ℕ) (row : Row) → request ≢ [] → IsRow request row
     → Replies stock minute row reply → Answers stock minute request reply
@@ -121,64 +127,111 @@ has_bytes (b ∷ bytes) is = λ none. absurd (cc)
 
 -- ---- What came of the open connection
 
-pub went_row : (stock : Stock) (row : Row) (first now after : DoorState) (clock clock_now : ClockState) → HasRead false first now
-    → (IsTrue first.is_observable → IsReadAs (concat first.traffic.rest) (Some row)) → RowSent false stock row (exchange now clock) (exchange after clock_now)
-    → Went stock (exchange first clock) (exchange after clock_now)
-went_row stock row first now after clock clock_now read found (text, false, made, sends, asked) = record {
-  talk = talk_of read.left text false true;
-  door = sent_talk first now after read.left text false true read.door sends;
+parts : (count : ℕ) (text : List ℕ) → text ≡ take count text ++ drop count text
+parts count text = sym (take-append-drop count text)
+
+some_left : (count : ℕ) (text : List ℕ) → count < length text → ¬ (drop count text ≡ [])
+some_left count text some none =
+    let long : length (drop count text) ≡ length {A = ℕ} [] = ap length none in
+    let left = rw (length-drop count text) at long in absurd (omega (arith, left, some))
+
+pub went_row : (stock : Stock) (row : Row) (request : List ℕ) (first now after : DoorState) (clock clock_now : ClockState)
+    → HasRead false request first now → request ≢ [] → IsRow request row
+    → (IsTrue first.is_observable → IsReadAs (concat first.traffic.rest) (Some row))
+    → RowSent false stock row (exchange now clock) (exchange after clock_now) → Went stock (exchange first clock) (exchange after clock_now)
+went_row stock row request first now after clock clock_now read some is found (text, false, minute, next, made, sends, asked) = record {
+  talk = talk_of read.left text false (Some minute) (sending text false (read_as false request read.is_ended));
+  door = sent_talk first now after read.left (read_as false request read.is_ended) text false (Some minute) read.door sends;
   clock = asked;
-  answered = λ t k. row_answers stock (next_minute clock) (concat first.traffic.rest) text row (found t) (made k);
+  minute = next;
+  served = record {
+    read = record { before = read.enough.before; waits = read.enough.waits; one = read.enough.one; until = read.enough.until };
+    asked = some_byte request some;
+    answered = made_answers stock minute request text row some is made;
+  };
+  answered = λ t k.
+      subst (λ (m : ℤ). Answers stock m (concat first.traffic.rest) text) (next k)
+      (row_answers stock minute (concat first.traffic.rest) text row (found t) made);
   asked = λ t. row_asks (concat first.traffic.rest) row (found t);
   needed = read.needed;
 }
-went_row stock row first now after clock clock_now read found (text, true, made, sends, asked) = record {
-  talk = talk_of read.left (take sends.0 text) true true;
-  door = sent_talk first now after read.left (take sends.0 text) true true read.door sends.1;
+went_row stock row request first now after clock clock_now read some is found (text, true, minute, next, made, sends, asked) = record {
+  talk = talk_of read.left (take sends.0 text) true (Some minute) (sending (take sends.0 text) true (read_as false request read.is_ended));
+  door =
+      sent_talk first now after read.left (read_as false request read.is_ended) (take sends.0 text) true (Some minute) read.door sends.2;
   clock = asked;
-  answered = λ t k. inr (text, row_answers stock (next_minute clock) (concat first.traffic.rest) text row (found t) (made k), sends.0, refl);
+  minute = next;
+  served = record {
+    read = record { before = read.enough.before; waits = read.enough.waits; one = read.enough.one; until = read.enough.until };
+    asked = some_byte request some;
+    answered = (
+      drop sends.0 text,
+      some_left sends.0 text sends.1,
+      subst (λ (whole : List ℕ). Answers stock minute request whole) (parts sends.0 text)
+          (made_answers stock minute request text row some is made),
+    );
+  };
+  answered = λ t k. inr (
+    text,
+    subst (λ (m : ℤ). Answers stock m (concat first.traffic.rest) text) (next k)
+        (row_answers stock minute (concat first.traffic.rest) text row (found t) made),
+    sends.0,
+    refl,
+  );
   asked = λ t. tt;
   needed = read.needed;
 }
 
-pub stopped_row : (stock : Stock) (row : Row) (first now after : DoorState) (clock clock_now : ClockState) → HasRead false first now
-    → (IsTrue first.is_observable → IsReadAs (concat first.traffic.rest) (Some row)) → RowSent true stock row (exchange now clock) (exchange after clock_now)
-    → Stopped (exchange first clock) (exchange after clock_now)
-stopped_row stock row first now after clock clock_now read found sends = record {
+pub stopped_row : (stock : Stock) (row : Row) (request : List ℕ) (first now after : DoorState) (clock clock_now : ClockState)
+    → HasRead false request first now → request ≢ []
+    → (IsTrue first.is_observable → IsReadAs (concat first.traffic.rest) (Some row))
+    → RowSent true stock row (exchange now clock) (exchange after clock_now) → Stopped (exchange first clock) (exchange after clock_now)
+stopped_row stock row request first now after clock clock_now read some found sends = record {
   left = read.left;
+  connection = read_as false request read.is_ended;
   door = sends.0 ∙ read.door;
   clock = sends.1;
+  unanswered = record {
+    read = read.enough;
+    asked = sym (some_byte request some);
+    unanswered = record { sent = refl; unfailed = refl };
+  };
   byte = λ t. has_bytes (concat first.traffic.rest) (row_asks (concat first.traffic.rest) row (found t));
   needed = read.needed;
 }
 
-pub went_by_row : (failed : Bool) (stock : Stock) (row : Row) (first now after : DoorState) (clock clock_now : ClockState)
-    → HasRead false first now → (IsTrue first.is_observable → IsReadAs (concat first.traffic.rest) (Some row))
+pub went_by_row : (failed : Bool) (stock : Stock) (row : Row) (request : List ℕ) (first now after : DoorState) (clock clock_now : ClockState)
+    → HasRead false request first now → request ≢ [] → IsRow request row
+    → (IsTrue first.is_observable → IsReadAs (concat first.traffic.rest) (Some row))
     → RowSent failed stock row (exchange now clock) (exchange after clock_now) → WentBy failed stock (exchange first clock) (exchange after clock_now)
-went_by_row false stock row first now after clock clock_now read found sends =
-    went_row stock row first now after clock clock_now read found sends
-went_by_row true stock row first now after clock clock_now read found sends =
-    stopped_row stock row first now after clock clock_now read found sends
+went_by_row false stock row request first now after clock clock_now read some is found sends =
+    went_row stock row request first now after clock clock_now read some is found sends
+went_by_row true stock row request first now after clock clock_now read some is found sends =
+    stopped_row stock row request first now after clock clock_now read some found sends
 
 -- no byte came
-pub went_silent : (stock : Stock) (first now : DoorState) (clock : ClockState) → HasRead false first now
+pub went_silent : (stock : Stock) (first now : DoorState) (clock : ClockState) → HasRead false [] first now
     → (IsTrue first.is_observable → concat first.traffic.rest ≡ []) → Went stock (exchange first clock) (exchange now clock)
 went_silent stock first now clock read none = record {
-  talk = talk_of read.left [] false false;
-  door = unsent_talk first now read.left false false read.door;
+  talk = talk_of read.left [] false None (read_as false [] read.is_ended);
+  door = unsent_talk first now read.left (read_as false [] read.is_ended) false None read.door;
   clock = refl;
+  minute = λ k. tt;
+  served = record { read = read.enough; asked = refl; answered = record { sent = refl; unfailed = refl } };
   answered = λ t k. subst (λ (bytes : List ℕ). Answers stock (next_minute clock) bytes []) (sym (none t)) refl;
   asked = λ t. ap has_byte (sym (none t));
   needed = read.needed;
 }
 
 -- a read has failed
-pub went_unread : (stock : Stock) (first now : DoorState) (clock : ClockState) → HasRead true first now
+pub went_unread : (stock : Stock) (request : List ℕ) (first now : DoorState) (clock : ClockState) → HasRead true request first now
     → Went stock (exchange first clock) (exchange now clock)
-went_unread stock first now clock read = record {
-  talk = talk_of read.left [] true false;
-  door = unsent_talk first now read.left true false read.door;
+went_unread stock request first now clock read = record {
+  talk = talk_of read.left [] true None (read_as true request read.is_ended);
+  door = unsent_talk first now read.left (read_as true request read.is_ended) true None read.door;
   clock = refl;
+  minute = λ k. tt;
+  served = record { read = read.enough; asked = refl; answered = record { sent = refl; unfailed = refl } };
   answered = λ t k. inl refl;
   asked = λ t. tt;
   needed = read.needed;

@@ -1,19 +1,23 @@
 -- What goes over a connection, piece by piece.
-use Rattle.std.proofs.Common.{◌≡◌, ℕ, ◌+◌, ◌<◌, ◌≤◌, Bool, false, true, List, [], ◌∷◌, ◌++◌, length, take, drop, append_assoc, append-nil, arith, ap, sym, ◌∙◌, subst, refl, Ok, Err, Some, inl, inr}
+use Rattle.std.proofs.Common.{◌≡◌, ◌⊎◌, ℕ, ◌+◌, ◌<◌, ◌≤◌, Bool, false, true, List, [], ◌∷◌, ◌++◌, length, take, drop, append_assoc, append-nil, arith, ap, sym, ◌∙◌, subst, refl, Ok, Err, Option, Some, None, inl, inr}
 use Rattle.std.specs.Bool.{IsTrue}
 use Rattle.std.specs.List.{concat}
+use Rattle.std.specs.Option.{option_map}
 use Rattle.std.specs.Prelude.{nat_le, ◌==◌, ◌||◌, ◌↔◌, if◌then◌else◌}
 use Rattle.std.proofs.lemmas.Bool.Decides.{nat_tests}
-use Rattle.std.proofs.lemmas.List.{take-append-drop}
+use Rattle.std.proofs.lemmas.Grind.{common_steps}
+use Rattle.std.proofs.lemmas.List.{take-append-drop, take-append-le}
 use Rattle.std.proofs.Math.Seq.{drop-nil, take-add}
 use Rattle.tide_edge.specs.declared.failed.Failed.{Failed}
-use Rattle.tide_edge.specs.Doors.{DoorState, Traffic, append_to_last, door_after_read, door_after_write, first_or_empty, left_after}
+use Rattle.tide_edge.specs.Doors.{Connection, Connections, DoorState, Traffic, append_to_last, connection_after_write, door_after_read, door_after_write, first_or_empty, just_taken, left_after}
 use Rattle.tide_edge.specs.Faults.{counted}
+use Rattle.tide_edge.specs.declared.piece.TheConstants.{PIECE}
+use Rattle.tide_server.specs.Conversations.{IsReadEnough}
 use Rattle.tide_server.specs.declared.limits.TheConstants.{LONGEST}
 use Rattle.tide_server.specs.Heads.{head_end, head_length}
 use Rattle.tide_server.specs.Rows.{Row, IsRow, is_settled}
 use Rattle.tide_server.specs.Serving.{IsEnough}
-use Rattle.tide_server.specs.Workings.Connections.{HasRead, IsRead, IsReadAs, read_to, sent}
+use Rattle.tide_server.specs.Workings.Connections.{HasRead, IsRead, IsReadAs, read_as, read_to, sending, sent, with_latest}
 use Rattle.tide_server.proofs.PieceLemmas.{all_left, bytes_left, left_on}
 use Rattle.tide_server.proofs.RowLemmas.{long_settled, one_row_at}
 
@@ -80,8 +84,11 @@ read_parts pieces request left read =
 
 -- ---- What a door makes of it
 
-with_traffic : DoorState → ℕ → Traffic → DoorState
-with_traffic d lines traffic = record d { traffic = traffic; line_faults = lines }
+with_traffic : DoorState → Connections → ℕ → Traffic → DoorState
+with_traffic d connections lines traffic = record d { connections = connections; traffic = traffic; line_faults = lines }
+
+with_open : Connections → Option Connection → Connections
+with_open all latest = record { earlier = all.earlier; latest = latest }
 
 rest_of : List (List ℕ) → Traffic → Traffic
 rest_of left t = record { waiting = t.waiting; rest = left; replies = t.replies }
@@ -110,66 +117,83 @@ unfolding rest_of
 rest_by true left t is = refl
 rest_by false left t is = absurd (cc)
 
--- so far bytes were read of the open connection, and no read has failed
-pub record ReadSoFar (first : DoorState) (request : List ℕ) (now : DoorState) : Type 0 where
+-- so far bytes were read of the open connection, whose end was found or wasn't, and no read has failed
+pub record ReadSoFar (first : DoorState) (request : List ℕ) (is_ended : Bool) (now : DoorState) : Type 0 where
   left : List (List ℕ)
-  door : now ≡ read_to left false first
+  door : now ≡ read_to left (read_as false request is_ended) false first
   read : IsTrue first.is_observable → IsReadTo first.traffic.rest request left
 
-pub read_none : (first : DoorState) → ReadSoFar first [] first
-unfolding with_traffic
-read_none first = record {
+pub read_none : (first : DoorState) → first.connections.latest ≡ Some just_taken → ReadSoFar first [] false first
+unfolding with_traffic with_open rest_of
+read_none first fresh = record {
   left = first.traffic.rest;
-  door = ap (with_traffic first first.line_faults) (same_rest first.is_observable first.traffic);
+  door =
+      ap (with_traffic first first.connections first.line_faults) (same_rest first.is_observable first.traffic)
+      ∙ ap (λ l. with_traffic first (with_open first.connections l) first.line_faults
+      (if first.is_observable then rest_of first.traffic.rest first.traffic else first.traffic)) fresh;
   read = λ t. none_read first.traffic.rest;
 }
 
-pub still_open : (first now : DoorState) (request : List ℕ) → ReadSoFar first request now → now.doorway ≡ first.doorway
-still_open first now request so_far = ap (λ d. d.doorway) so_far.door
+pub still_open : (first now : DoorState) (request : List ℕ) (is_ended : Bool) → ReadSoFar first request is_ended now
+    → now.doorway ≡ first.doorway
+still_open first now request is_ended so_far = ap (λ d. d.doorway) so_far.door
 
-still_tells : (first now : DoorState) (request : List ℕ) → ReadSoFar first request now → IsTrue first.is_observable → IsTrue now.is_observable
-still_tells first now request so_far t = subst (λ (b : Bool). IsTrue b) (sym (ap (λ d. d.is_observable) so_far.door)) t
+still_tells : (first now : DoorState) (request : List ℕ) (is_ended : Bool) → ReadSoFar first request is_ended now → IsTrue first.is_observable
+    → IsTrue now.is_observable
+still_tells first now request is_ended so_far t = subst (λ (b : Bool). IsTrue b) (sym (ap (λ d. d.is_observable) so_far.door)) t
 
-still_keeps : (first now : DoorState) (request : List ℕ) → ReadSoFar first request now → IsTrue first.keeps_pieces → IsTrue now.keeps_pieces
-still_keeps first now request so_far k = subst (λ (b : Bool). IsTrue b) (sym (ap (λ d. d.keeps_pieces) so_far.door)) k
+still_keeps : (first now : DoorState) (request : List ℕ) (is_ended : Bool) → ReadSoFar first request is_ended now → IsTrue first.keeps_pieces
+    → IsTrue now.keeps_pieces
+still_keeps first now request is_ended so_far k = subst (λ (b : Bool). IsTrue b) (sym (ap (λ d. d.keeps_pieces) so_far.door)) k
 
-rest_now : (first now : DoorState) (request : List ℕ) (so_far : ReadSoFar first request now) → IsTrue first.is_observable
-    → now.traffic.rest ≡ so_far.left
+rest_now : (first now : DoorState) (request : List ℕ) (is_ended : Bool) (so_far : ReadSoFar first request is_ended now)
+    → IsTrue first.is_observable → now.traffic.rest ≡ so_far.left
 unfolding rest_of
-rest_now first now request so_far t = ap (λ d. d.traffic.rest) so_far.door ∙ rest_by first.is_observable so_far.left first.traffic t
-
-one_more : (first now after : DoorState) (left : List (List ℕ)) (count : ℕ) → now ≡ read_to left false first
-    → after ≡ door_after_read (Ok count) now → after ≡ read_to (left_after count left) false first
-unfolding with_traffic rest_of
-one_more first now after left count door is =
-    is ∙ ap (door_after_read (Ok count)) door ∙ ap (with_traffic first first.line_faults) (read_again first.is_observable left count first.traffic)
-
-one_failed : (first now after : DoorState) (left : List (List ℕ)) (failed : Failed) → now ≡ read_to left false first
-    → after ≡ door_after_read (Err failed) now → after ≡ read_to left true first
-unfolding with_traffic rest_of
-one_failed first now after left failed door is =
-    is ∙ ap (door_after_read (Err failed)) door
-    ∙ ap (with_traffic first (counted first.line_faults)) (unread_again first.is_observable (if first.is_observable then rest_of left first.traffic else first.traffic))
+rest_now first now request is_ended so_far t =
+    ap (λ d. d.traffic.rest) so_far.door ∙ rest_by first.is_observable so_far.left first.traffic t
 
 -- what one read more gives
 pub record OneMore (now : DoorState) (request next : List ℕ) (count : ℕ) (after : DoorState) : Type 0 where
-  pub door : after ≡ door_after_read (Ok count) now
+  pub room : List ℕ
+  pub door : after ≡ door_after_read (Ok count) room now
+  pub came : next ≡ request ++ take count room
   pub longer : length next ≡ length request + count
+  pub within : count ≤ PIECE
   pub bytes : IsTrue now.is_observable → next ≡ request ++ take count (concat now.traffic.rest)
 
-pub read_on : (first now after : DoorState) (request next : List ℕ) (count : ℕ) → ReadSoFar first request now
-    → OneMore now request next count after → ReadSoFar first next after
-read_on first now after request next count so_far more = record {
+one_more : (first now after : DoorState) (left : List (List ℕ)) (request next : List ℕ) (is_ended : Bool) (count : ℕ)
+    → now ≡ read_to left (read_as false request is_ended) false first → OneMore now request next count after
+    → after ≡ read_to (left_after count left) (read_as false next ((count == 0) || is_ended)) false first
+unfolding with_traffic rest_of
+one_more first now after left request next is_ended count door more =
+    more.door
+    ∙ ap (door_after_read (Ok count) more.room) door
+    ∙ ap (with_traffic first (with_latest (read_as false (request ++ take count more.room) ((count == 0) || is_ended)) first.connections)
+    first.line_faults) (read_again first.is_observable left count first.traffic)
+    ∙ ap (λ bytes. read_to (left_after count left) (read_as false bytes ((count == 0) || is_ended)) false first) (sym more.came)
+
+one_failed : (first now after : DoorState) (left : List (List ℕ)) (request room : List ℕ) (is_ended : Bool) (failed : Failed)
+    → now ≡ read_to left (read_as false request is_ended) false first → after ≡ door_after_read (Err failed) room now
+    → after ≡ read_to left (read_as true request is_ended) true first
+unfolding with_traffic rest_of
+one_failed first now after left request room is_ended failed door is =
+    is ∙ ap (door_after_read (Err failed) room) door
+    ∙ ap (with_traffic first (with_latest (read_as true request is_ended) first.connections) (counted first.line_faults))
+    (unread_again first.is_observable (if first.is_observable then rest_of left first.traffic else first.traffic))
+
+pub read_on : (first now after : DoorState) (request next : List ℕ) (is_ended : Bool) (count : ℕ) → ReadSoFar first request is_ended now
+    → OneMore now request next count after → ReadSoFar first next ((count == 0) || is_ended) after
+read_on first now after request next is_ended count so_far more = record {
   left = left_after count so_far.left;
-  door = one_more first now after so_far.left count so_far.door more.door;
+  door = one_more first now after so_far.left request next is_ended count so_far.door more;
   read = λ t.
       let read = so_far.read t in
-      let rest = rest_now first now request so_far t in record {
+      let rest = rest_now first now request is_ended so_far t in record {
         rest =
             ap (left_after count) read.rest ∙ left_on (length request) count first.traffic.rest
             ∙ ap (λ n. left_after n first.traffic.rest) (sym more.longer);
         bytes =
-            more.bytes (still_tells first now request so_far t)
+            more.bytes (still_tells first now request is_ended so_far t)
             ∙ ap (λ xs. request ++ take count xs) (ap concat rest ∙ ap concat read.rest ∙ bytes_left (length request) first.traffic.rest)
             ∙ ap (λ xs. xs ++ take count (drop (length request) (concat first.traffic.rest))) read.bytes
             ∙ sym (take-add (length request) count (concat first.traffic.rest))
@@ -177,50 +201,61 @@ read_on first now after request next count so_far more = record {
       };
 }
 
+not_over : (ends settled : Bool) → (ends || settled) ≡ false → (ends || false) ≡ false
+not_over true settled is = absurd (cc)
+not_over false settled is = refl
+
+-- where reading goes on, the end wasn't found
+pub goes_on : (first now after : DoorState) (request next : List ℕ) (settled : Bool) (count : ℕ) → ReadSoFar first request false now
+    → OneMore now request next count after → (count == 0 || settled) ≡ false → ReadSoFar first next false after
+goes_on first now after request next settled count so_far more is =
+    subst (λ (e : Bool). ReadSoFar first next e after) (not_over (count == 0) settled is)
+    (read_on first now after request next false count so_far more)
+
 -- the bytes read, and those that are left
-pub parts_read : (first now : DoorState) (request : List ℕ) (so_far : ReadSoFar first request now) → IsTrue first.is_observable
-    → concat first.traffic.rest ≡ request ++ concat so_far.left
-parts_read first now request so_far t = read_parts first.traffic.rest request so_far.left (so_far.read t)
+pub parts_read : (first now : DoorState) (request : List ℕ) (is_ended : Bool) (so_far : ReadSoFar first request is_ended now)
+    → IsTrue first.is_observable → concat first.traffic.rest ≡ request ++ concat so_far.left
+parts_read first now request is_ended so_far t = read_parts first.traffic.rest request so_far.left (so_far.read t)
 
 -- where nothing was left before one read more, all were read
-pub all_read : (first now after : DoorState) (request next : List ℕ) (count : ℕ) → ReadSoFar first request now
+pub all_read : (first now after : DoorState) (request next : List ℕ) (count : ℕ) → ReadSoFar first request false now
     → OneMore now request next count after → IsTrue first.is_observable → (IsTrue now.is_observable → concat now.traffic.rest ≡ [])
     → IsRead (concat first.traffic.rest) next
 unfolding read_on
 all_read first now after request next count so_far more t none =
-    let now_read = read_on first now after request next count so_far more in
+    let now_read = read_on first now after request next false count so_far more in
     let ended : concat so_far.left ≡ [] =
-    sym (ap concat (rest_now first now request so_far t)) ∙ none (still_tells first now request so_far t) in
+    sym (ap concat (rest_now first now request false so_far t)) ∙ none (still_tells first now request false so_far t) in
     let left : concat now_read.left ≡ [] = bytes_left count so_far.left ∙ ap (drop count) ended ∙ drop-nil count in record {
       rest = concat now_read.left;
-      parts = parts_read first after next now_read t;
+      parts = parts_read first after next ((count == 0) || false) now_read t;
       enough = inl left;
     }
 
 -- where the bytes are enough, so many were read
-pub enough_read : (first now : DoorState) (request : List ℕ) → ReadSoFar first request now → IsTrue first.is_observable → IsEnough request
-    → IsRead (concat first.traffic.rest) request
-enough_read first now request so_far t enough =
-    record { rest = concat so_far.left; parts = parts_read first now request so_far t; enough = inr enough }
+pub enough_read : (first now : DoorState) (request : List ℕ) (is_ended : Bool) → ReadSoFar first request is_ended now
+    → IsTrue first.is_observable → IsEnough request → IsRead (concat first.traffic.rest) request
+enough_read first now request is_ended so_far t enough =
+    record { rest = concat so_far.left; parts = parts_read first now request is_ended so_far t; enough = inr enough }
 
 pub none_came : (bytes : List ℕ) → IsRead bytes [] → bytes ≡ []
 none_came bytes read = elim read.enough [ inl none ↦ read.parts ∙ none | inr e ↦ absurd (not_enough e) ]
 
 found_by : (ends settled : Bool) (first now after : DoorState) (request next : List ℕ) (count : ℕ) (row : Row)
-    → ReadSoFar first request now → OneMore now request next count after → (ends || settled) ≡ true
+    → ReadSoFar first request false now → OneMore now request next count after → (ends || settled) ≡ true
     → (ends ≡ true → IsTrue now.is_observable → concat now.traffic.rest ≡ []) → (settled ≡ true → IsTrue (is_settled row))
     → IsRow next row → IsTrue first.is_observable → IsRead (concat first.traffic.rest) next
 found_by true settled first now after request next count row so_far more is over enough row_is t =
     all_read first now after request next count so_far more t (λ u. over refl u)
 found_by false settled first now after request next count row so_far more is over enough row_is t =
-    enough_read first after next (read_on first now after request next count so_far more) t (row, row_is, enough is)
+    enough_read first after next ((count == 0) || false) (read_on first now after request next false count so_far more) t (row, row_is, enough is)
 
 is_none : (count : ℕ) → (count == 0) ≡ true → count ≡ 0
 is_none count is = grind (arith, nat_tests)
 
 -- the row of what was read, where reading has ended
 pub row_found : (first now after : DoorState) (request next : List ℕ) (count : ℕ) (row : Row)
-    → ReadSoFar first request now → OneMore now request next count after → (count == 0 || is_settled row) ≡ true
+    → ReadSoFar first request false now → OneMore now request next count after → (count == 0 || is_settled row) ≡ true
     → (IsTrue now.is_observable → (count ≡ 0) ↔ (concat now.traffic.rest ≡ [])) → ¬ (next ≡ []) → IsRow next row
     → IsTrue first.is_observable → IsReadAs (concat first.traffic.rest) (Some row)
 row_found first now after request next count row so_far more is over some row_is t = (
@@ -235,17 +270,64 @@ pub not_settled : (ends settled : Bool) → (ends || settled) ≡ false → sett
 not_settled true settled is = absurd (cc)
 not_settled false settled is = is
 
-pub still_open_after : (first now after : DoorState) (request next : List ℕ) (count : ℕ) → ReadSoFar first request now
+pub still_open_after : (first now after : DoorState) (request next : List ℕ) (count : ℕ) → ReadSoFar first request false now
     → OneMore now request next count after → after.doorway ≡ first.doorway
 still_open_after first now after request next count so_far more =
-    still_open first after next (read_on first now after request next count so_far more)
+    still_open first after next ((count == 0) || false) (read_on first now after request next false count so_far more)
+
+-- ---- Why nothing more was read
+
+abbrev pub HasEnded : Bool → List ℕ → Type 0
+HasEnded is_ended bytes = (is_ended ≡ true) ⊎ ((false ≡ true) ⊎ IsEnough bytes)
+
+over_by : (ends settled : Bool) (next : List ℕ) (row : Row) → (ends || settled) ≡ true → (settled ≡ true → IsTrue (is_settled row))
+    → IsRow next row → HasEnded (ends || false) next
+over_by true settled next row is enough row_is = inl refl
+over_by false settled next row is enough row_is = inr (inr (row, row_is, enough is))
+
+-- a row ended it
+pub over_row : (count : ℕ) (next : List ℕ) (row : Row) → (count == 0 || is_settled row) ≡ true → IsRow next row
+    → HasEnded ((count == 0) || false) next
+over_row count next row is row_is = over_by (count == 0) (is_settled row) next row is (λ s. s) row_is
+
+-- or the end
+pub over_none : (count : ℕ) (next : List ℕ) → count ≡ 0 → HasEnded ((count == 0) || false) next
+over_none count next none = rw none (inl refl)
+
+all_of : (bytes : List ℕ) → take (length bytes) bytes ≡ bytes
+all_of bytes = grind (arith, common_steps)
+
+front_of : (bytes more : List ℕ) → take (length bytes) (bytes ++ more) ≡ bytes
+front_of bytes more =
+    let fits : length bytes ≤ length bytes = omega arith in take-append-le (length bytes) bytes more fits ∙ all_of bytes
+
+failed_enough : (request : List ℕ) → ¬ (IsEnough request) → IsReadEnough (read_as true request false)
+failed_enough request waits = record {
+  before = length request;
+  waits = subst (λ (bs : List ℕ). ¬ (IsEnough bs)) (sym (all_of request)) waits;
+  one = omega arith;
+  until = inr (inl refl);
+}
+
+read_enough : (now after : DoorState) (request next : List ℕ) (count : ℕ) → ¬ (IsEnough request) → OneMore now request next count after
+    → HasEnded ((count == 0) || false) next → IsReadEnough (read_as false next ((count == 0) || false))
+read_enough now after request next count waits more over = record {
+  before = length request;
+  waits =
+      let same : take (length request) next ≡ request = ap (take (length request)) more.came ∙ front_of request (take count more.room) in
+      subst (λ (bs : List ℕ). ¬ (IsEnough bs)) (sym same) waits;
+  one = let few = more.within in omega (arith, more.longer, few);
+  until = over;
+}
 
 -- nothing more is read: the last read has failed
-pub has_failed : (first now after : DoorState) (request : List ℕ) (failed : Failed) → ReadSoFar first request now
-    → ¬ (IsEnough request) → after ≡ door_after_read (Err failed) now → HasRead true first after
-has_failed first now after request failed so_far waits is = record {
+pub has_failed : (first now after : DoorState) (request room : List ℕ) (failed : Failed) → ReadSoFar first request false now
+    → ¬ (IsEnough request) → after ≡ door_after_read (Err failed) room now → HasRead true request first after
+has_failed first now after request room failed so_far waits is = record {
   left = so_far.left;
-  door = one_failed first now after so_far.left failed so_far.door is;
+  is_ended = false;
+  door = one_failed first now after so_far.left request room false failed so_far.door is;
+  enough = failed_enough request waits;
   needed = λ t k. record {
     before = length request;
     all = length request;
@@ -256,16 +338,18 @@ has_failed first now after request failed so_far waits is = record {
 }
 
 -- or it was the last one needed, since the bytes before it weren't enough
-pub has_read : (first now after : DoorState) (request next : List ℕ) (count : ℕ) → ReadSoFar first request now
-    → ¬ (IsEnough request) → OneMore now request next count after
-    → (IsTrue now.is_observable → IsTrue now.keeps_pieces → count ≤ length (first_or_empty now.traffic.rest)) → HasRead false first after
-has_read first now after request next count so_far waits more one = record {
+pub has_read : (first now after : DoorState) (request next : List ℕ) (count : ℕ) → ReadSoFar first request false now
+    → ¬ (IsEnough request) → OneMore now request next count after → HasEnded ((count == 0) || false) next
+    → (IsTrue now.is_observable → IsTrue now.keeps_pieces → count ≤ length (first_or_empty now.traffic.rest)) → HasRead false next first after
+has_read first now after request next count so_far waits more over one = record {
   left = left_after count so_far.left;
-  door = one_more first now after so_far.left count so_far.door more.door;
+  is_ended = (count == 0) || false;
+  door = one_more first now after so_far.left request next false count so_far.door more;
+  enough = read_enough now after request next count waits more over;
   needed = λ t k.
       let few : count ≤ length (first_or_empty now.traffic.rest) =
-      one (still_tells first now request so_far t) (still_keeps first now request so_far k) in
-      let there : count ≤ length (first_or_empty so_far.left) = rw (rest_now first now request so_far t) at few in record {
+      one (still_tells first now request false so_far t) (still_keeps first now request false so_far k) in
+      let there : count ≤ length (first_or_empty so_far.left) = rw (rest_now first now request false so_far t) at few in record {
         before = length request;
         all = length request + count;
         rest = ap (left_after count) (so_far.read t).rest ∙ left_on (length request) count first.traffic.rest;
@@ -284,9 +368,31 @@ unfolding appended
 sent_nothing true t = ap (λ rs. record { waiting = t.waiting; rest = t.rest; replies = rs }) (sym (append_none t.replies))
 sent_nothing false t = refl
 
+with_sent : Connection → List ℕ → Connection
+with_sent c bytes = record c { sent = bytes }
+
+opened_none : (latest : Option Connection) → latest ≡ option_map (sending [] false) latest
+unfolding with_sent
+opened_none None = refl
+opened_none (Some c) = ap (λ bytes. Some (with_sent c bytes)) (sym (append-nil c.sent))
+
+opened_twice : (latest : Option Connection) (a b : List ℕ)
+    → option_map (sending b false) (option_map (sending a false) latest) ≡ option_map (sending (a ++ b) false) latest
+unfolding with_sent
+opened_twice None a b = refl
+opened_twice (Some c) a b = ap (λ bytes. Some (with_sent c bytes)) (append_assoc c.sent a b)
+
+opened_failed : (latest : Option Connection) (a : List ℕ) (piece : List ℕ) (failed : Failed)
+    → option_map (connection_after_write (Err failed) piece) (option_map (sending a false) latest) ≡ option_map (sending a true) latest
+opened_failed None a piece failed = refl
+opened_failed (Some c) a piece failed = refl
+
 pub sent_none : (d : DoorState) → d ≡ sent [] false d
-unfolding with_traffic appended
-sent_none d = ap (with_traffic d d.line_faults) (sent_nothing d.is_observable d.traffic)
+unfolding with_traffic with_open appended
+sent_none d =
+    ap (with_traffic d d.connections d.line_faults) (sent_nothing d.is_observable d.traffic)
+    ∙ ap (λ l. with_traffic d (with_open d.connections l) d.line_faults (if d.is_observable then appended [] d.traffic else d.traffic))
+    (opened_none d.connections.latest)
 
 sent_twice : (tells : Bool) (a b : List ℕ) (t : Traffic)
     → (if tells then appended b (if tells then appended a t else t) else (if tells then appended a t else t))
@@ -298,18 +404,28 @@ sent_twice false a b t = refl
 -- after one piece more
 pub sent_on : (first now after : DoorState) (text : List ℕ) (at count : ℕ) → now ≡ sent (take at text) false first
     → after ≡ door_after_write (Ok count) (drop at text) now → after ≡ sent (take (at + count) text) false first
-unfolding with_traffic appended
+unfolding with_traffic with_open appended
 sent_on first now after text at count so_far is =
+    let a = take at text in
+    let b = take count (drop at text) in
     is
     ∙ ap (door_after_write (Ok count) (drop at text)) so_far
-    ∙ ap (with_traffic first first.line_faults) (sent_twice first.is_observable (take at text) (take count (drop at text)) first.traffic)
+    ∙ ap (with_traffic first (with_open first.connections (option_map (sending b false) (option_map (sending a false) first.connections.latest)))
+    first.line_faults) (sent_twice first.is_observable a b first.traffic)
+    ∙ ap (λ l. with_traffic first (with_open first.connections l) first.line_faults
+    (if first.is_observable then appended (a ++ b) first.traffic else first.traffic)) (opened_twice first.connections.latest a b)
     ∙ ap (λ xs. sent xs false first) (sym (take-add at count text))
 
 pub sent_failed : (first now after : DoorState) (text : List ℕ) (at : ℕ) (failed : Failed) → now ≡ sent (take at text) false first
     → after ≡ door_after_write (Err failed) (drop at text) now → after ≡ sent (take at text) true first
-unfolding with_traffic appended
+unfolding with_traffic with_open appended
 sent_failed first now after text at failed so_far is =
+    let a = take at text in
     is
     ∙ ap (door_after_write (Err failed) (drop at text)) so_far
-    ∙ ap (with_traffic first (counted first.line_faults))
-    (unread_again first.is_observable (if first.is_observable then appended (take at text) first.traffic else first.traffic))
+    ∙ ap (with_traffic first (with_open first.connections
+    (option_map (connection_after_write (Err failed) (drop at text)) (option_map (sending a false) first.connections.latest)))
+    (counted first.line_faults))
+    (unread_again first.is_observable (if first.is_observable then appended a first.traffic else first.traffic))
+    ∙ ap (λ l. with_traffic first (with_open first.connections l) (counted first.line_faults)
+    (if first.is_observable then appended a first.traffic else first.traffic)) (opened_failed first.connections.latest a (drop at text) failed)

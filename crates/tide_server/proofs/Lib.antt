@@ -11,3 +11,4 @@ pub mod ReplyLemmas
 pub mod RowLemmas
 pub mod ServiceLemmas
 pub mod StepLemmas
+pub mod StockLemmas

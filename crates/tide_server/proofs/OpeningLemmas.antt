@@ -75,6 +75,7 @@ files_failed true before after files door clock = record {
   door_count = ap (λ d. d.faults) door;
   door_tells = ap (λ d. d.is_observable) door;
   door_pieces = ap (λ d. d.keeps_pieces) door;
+  given = before.clock.given;
   asked = before.clock.asked;
   clock_state = clock;
 }
@@ -87,6 +88,7 @@ files_failed false before after files door clock = record {
   door_count = ap (λ d. d.faults) door;
   door_tells = ap (λ d. d.is_observable) door;
   door_pieces = ap (λ d. d.keeps_pieces) door;
+  given = before.clock.given;
   asked = before.clock.asked;
   clock_state = clock;
 }
@@ -103,6 +105,7 @@ ended_behind failed before after files count same ended = record {
   door_count = ended.door_count;
   door_tells = ended.door_tells;
   door_pieces = ended.door_pieces;
+  given = ended.given;
   asked = ended.asked;
   clock_state = ended.clock_state;
 }

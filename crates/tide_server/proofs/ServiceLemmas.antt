@@ -12,12 +12,13 @@ use Rattle.tide_fault.specs.declared.status.Status.TheVariants.{Done, ReadFault}
 use Rattle.tide_server.specs.declared.outage.Outage.{Outage}
 use Rattle.tide_server.specs.declared.outage.Outage.TheVariants as outages
 use Rattle.tide_server.specs.declared.stock.Stock.{Stock}
+use Rattle.tide_server.specs.Conversations.{HasServed}
 use Rattle.tide_server.specs.Openings.{EndedBy, notice_of}
 use Rattle.tide_server.specs.Serving.{Exchange, IsOver, Served, exchange}
 use Rattle.tide_server.specs.Workings.Ends.{Ended, unread, with_files}
 use Rattle.tide_server.specs.Workings.Steps.{IsKept, is_clock, is_door}
 use Rattle.tide_server.proofs.OpeningLemmas.{wrote_first, wrote_one}
-use Rattle.tide_server.proofs.StepLemmas.{nobody}
+use Rattle.tide_server.proofs.StepLemmas.{all_passed, nobody, none_passed}
 
 -- ---- The door listens
 
@@ -26,6 +27,7 @@ pub record Serves (stock : Stock) (failed : Bool) (before after : Exchange) : Ty
   pub port : after.door.doorway.port ≡ Some stock.port
   pub listens : after.door.doorway.listens ≡ true
   pub closed : after.door.doorway.is_open ≡ false
+  pub passed : HasServed stock failed before after
   pub served : IsTrue before.door.is_observable → IsTrue before.clock.is_observable → Served stock failed before after
 
 pub served_done : (stock : Stock) (door door_after : DoorState) (err err_after : SinkState) (clock clock_after : ClockState) (failed : Bool)
@@ -36,6 +38,7 @@ served_done stock door door_after err err_after clock clock_after failed serves 
   listened = λ files left. record {
     asked = serves.port;
     ends = inl refl;
+    passed = serves.passed;
     served = serves.served;
     wrote = rw serves.listens (wrote_first err err_after failed (notice_of stock.port) wrote);
   };
@@ -50,6 +53,7 @@ served_done stock door door_after err err_after clock clock_after failed serves 
     door_count = kept.faults;
     door_tells = kept.is_observable;
     door_pieces = kept.pieces;
+    given = kept.given;
     asked = kept.asked;
     clock_state = kept.clock;
   };
@@ -69,6 +73,7 @@ by_outage outages.Door door door_after err err_after clock clock_after files lef
   door_count = kept.faults;
   door_tells = kept.is_observable;
   door_pieces = kept.pieces;
+  given = kept.given;
   asked = kept.asked;
   clock_state = kept.clock;
 }
@@ -81,6 +86,7 @@ by_outage outages.Clock door door_after err err_after clock clock_after files le
   door_count = kept.faults;
   door_tells = kept.is_observable;
   door_pieces = kept.pieces;
+  given = kept.given;
   asked = kept.asked;
   clock_state = kept.clock;
 }
@@ -95,6 +101,7 @@ served_failed stock outage door door_after err between err_after clock clock_aft
   listened = λ files left. record {
     asked = serves.port;
     ends = inr refl;
+    passed = serves.passed;
     served = serves.served;
     wrote = rw serves.listens (between, failed, also_failed, first, second);
   };
@@ -121,6 +128,20 @@ same_served value stock failed port door clock after s = record {
   bytes = s.bytes;
 }
 
+same_passed : {T : Type 0} (value : T) (stock : Stock) (failed : Bool) (port : ℕ) (door : DoorState) (clock : ClockState) (after : Exchange)
+    → HasServed stock failed (exchange (door_after_listen (Ok value) port door) clock) after → HasServed stock failed (exchange door clock) after
+same_passed value stock failed port door clock after s = record {
+  over = s.over;
+  left = s.left;
+  minutes = s.minutes;
+  connections = s.connections;
+  given = s.given;
+  clock_faults = s.clock_faults;
+  served = s.served;
+  last = s.last;
+  ends = s.ends;
+}
+
 pub ended_listening : {T : Type 0} (value : T) (stock : Stock) (status : Status) (door opened door_after : DoorState) (err err_after : SinkState)
     (clock clock_after : ClockState) → opened ≡ door_after_listen (Ok value) stock.port door
     → Ended stock status (unread opened err clock) (unread door_after err_after clock_after)
@@ -131,6 +152,7 @@ ended_listening value stock status door opened door_after err err_after clock cl
       listened = λ files left. record {
         asked = (e.listened files left).asked;
         ends = (e.listened files left).ends;
+        passed = same_passed value stock _ stock.port door clock (exchange door_after clock_after) (e.listened files left).passed;
         served = λ t k.
             same_served value stock _ stock.port door clock (exchange door_after clock_after) ((e.listened files left).served t k);
         wrote = (e.listened files left).wrote;
@@ -147,6 +169,7 @@ ended_listening value stock status door opened door_after err err_after clock cl
             door_count = by.door_count;
             door_tells = by.door_tells;
             door_pieces = by.door_pieces;
+            given = by.given;
             asked = by.asked;
             clock_state = by.clock_state;
           };
@@ -160,6 +183,9 @@ unlistening T stock failed_to door err err_after clock failed wrote = record {
   listened = λ files left. record {
     asked = refl;
     ends = inr refl;
+    passed =
+        all_passed stock true (exchange door clock) (exchange door clock)
+        (exchange (door_after_listen {T = T} (Err failed_to) stock.port door) clock) (none_passed stock (exchange door clock)) refl refl;
     served = λ t k.
         nobody stock true (exchange door clock) (exchange (door_after_listen {T = T} (Err failed_to) stock.port door) clock) refl refl refl refl;
     wrote = wrote_one err err_after failed (codes "read fault\n") wrote;
@@ -175,6 +201,7 @@ unlistening T stock failed_to door err err_after clock failed wrote = record {
     door_count = refl;
     door_tells = refl;
     door_pieces = refl;
+    given = clock.given;
     asked = clock.asked;
     clock_state = refl;
   };

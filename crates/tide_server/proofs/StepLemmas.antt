@@ -1,22 +1,24 @@
 -- Connections served one after the other.
-use Rattle.std.proofs.Common.{◌≡◌, ℕ, ◌+◌, ◌-◌, ◌^◌, ◌<◌, Bool, false, true, List, [], ◌∷◌, ◌++◌, length, map, append_assoc, append-nil, arith, Ok, Err, inl, inr, ap, sym, ◌∙◌, subst, refl}
+use Rattle.std.proofs.Common.{◌≡◌, ℕ, ◌+◌, ◌-◌, ◌^◌, ◌<◌, Bool, false, true, List, [], ◌∷◌, ◌++◌, length, map, append_assoc, append-nil, arith, Option, Some, None, is_some, Ok, Err, inl, inr, ap, sym, ◌∙◌, subst, refl}
 use Rattle.std.specs.Bool.{IsTrue}
 use Rattle.std.specs.List.{concat}
-use Rattle.std.specs.Prelude.{count_by, ◌==◌, drop, if◌then◌else◌}
+use Rattle.std.specs.Prelude.{ℤ, count_by, ◌==◌, drop, if◌then◌else◌}
 use Rattle.std.proofs.lemmas.Grind.{common_steps}
 use Rattle.std.proofs.lemmas.Bool.Decides.{nat_tests}
 use Rattle.std.proofs.lemmas.List.{map-append}
 use Rattle.std.proofs.lemmas.List.Elements.{All-nil, All-push}
 use Rattle.tide_edge.specs.declared.failed.Failed.{Failed}
 use Rattle.tide_edge.specs.Clocks.{ClockState, clock_after, next_minute}
-use Rattle.tide_edge.specs.Doors.{Doorway, DoorState, Traffic, after_next, append_to_last, closed, door_after_close, door_after_next, first_or_empty, taken_by}
+use Rattle.tide_edge.specs.Doors.{Connection, Doorway, DoorState, Traffic, after_next, append_to_last, closed, connections_of, door_after_close, door_after_next, first_or_empty, just_taken, taken_by}
 use Rattle.tide_edge.specs.Faults.{counted, faults_after}
+use Rattle.tide_edge.specs.FileStates.{listed}
 use Rattle.tide_server.specs.declared.outage.Outage.{Outage}
 use Rattle.tide_server.specs.declared.outage.Outage.TheVariants as outages
 use Rattle.tide_server.specs.declared.stock.Stock.{Stock}
-use Rattle.tide_server.specs.Serving.{Answers, AnswersUnlessCut, AreHeld, AsksUnlessCut, Conversation, Exchange, IsHeld, IsLastReadAsNeeded, IsReadAsNeeded, MayLeave, RoseBy, Served, clock_after_all, clock_with, exchange}
-use Rattle.tide_server.specs.Workings.Connections.{Closed, Talk, talked}
-use Rattle.tide_server.specs.Workings.Steps.{IsKept, IsNext, LeftNext, ServedNext, StepBy, WereServed, conversation, door_at_end, door_failed, door_with, is_clock, is_door, serving}
+use Rattle.tide_server.specs.Conversations.{AreServed, HasServed, IsServed}
+use Rattle.tide_server.specs.Serving.{Answers, AnswersUnlessCut, AreHeld, AsksUnlessCut, Conversation, Exchange, IsHeld, IsLastReadAsNeeded, IsReadAsNeeded, MayLeave, RoseBy, Served, clock_after_all, clock_failed, clock_with, exchange}
+use Rattle.tide_server.specs.Workings.Connections.{Closed, IsNextMinute, Talk, clock_given, talked}
+use Rattle.tide_server.specs.Workings.Steps.{HavePassed, IsKept, IsNext, LeftNext, ServedNext, StepBy, WereServed, conversation, door_at_end, door_failed, door_with, is_clock, is_door, serving}
 use Rattle.tide_server.proofs.AnswerLemmas.{talk_of, unsent_talk}
 use Rattle.tide_server.proofs.ConnectionLemmas.{append_last, unread_again}
 use Rattle.tide_server.proofs.PieceLemmas.{last_read}
@@ -55,13 +57,15 @@ served_next stock first now after clock clock_now some is closes =
       talk = went.talk;
       door = closes.door ∙ ap door_after_close (went.door ∙ ap (talked went.talk) is);
       clock = went.clock;
+      minute = went.minute;
+      served = went.served;
       next = λ t. next_of first (some t);
       held = λ t k. record {
         answered =
             subst (λ (ps : List (List ℕ)). AnswersUnlessCut went.talk.is_cut (Answers stock (next_minute clock)) (concat ps) went.talk.reply)
             (taken_rest first now (next_of first (some t)) t is) (went.answered (tells t) k);
         asked =
-            subst (λ (ps : List (List ℕ)). AsksUnlessCut went.talk.is_cut (concat ps) went.talk.is_asked)
+            subst (λ (ps : List (List ℕ)). AsksUnlessCut went.talk.is_cut (concat ps) (is_some went.talk.minute))
             (taken_rest first now (next_of first (some t)) t is) (went.asked (tells t));
       };
       needed = λ t k.
@@ -78,8 +82,13 @@ left_next stock first now after clock clock_now some is closes =
     let keeps : IsTrue first.keeps_pieces → IsTrue now.keeps_pieces =
     λ k. tells_on first.keeps_pieces now.keeps_pieces (ap (λ d. d.keeps_pieces) is) k in record {
       left = went.left;
-      door = closes.door ∙ ap door_after_close (unsent_talk now closes.still went.left false true went.door ∙ ap (talked (talk_of went.left [] false true)) is);
+      connection = went.connection;
+      door =
+          closes.door
+          ∙ ap door_after_close (unsent_talk now closes.still went.left went.connection false None went.door
+          ∙ ap (talked (talk_of went.left [] false None went.connection)) is);
       clock = went.clock;
+      unanswered = went.unanswered;
       next = λ t. next_of first (some t);
       byte = λ t none. went.byte (tells t) (ap concat (taken_rest first now (next_of first (some t)) t is) ∙ none);
       needed = λ t k.
@@ -104,45 +113,50 @@ next_over first after is =
 
 pub none_kept : (before : Exchange) → IsKept false false before before
 none_kept before =
-    record { tells = refl; pieces = refl; faults = refl; asked = before.clock.asked; clock = refl }
+    record { is_observable = refl; pieces = refl; faults = refl; given = before.clock.given; asked = before.clock.asked; clock = refl }
 
-with_counts : ClockState → ℕ → ℕ → ClockState
-with_counts clock asked faults = record clock { asked = asked; faults = faults }
+with_counts : ClockState → List ℤ → ℕ → ℕ → ClockState
+with_counts clock given asked faults = record clock { given = given; asked = asked; faults = faults }
 
-clock_asked : (is_asked : Bool) (before now after : ClockState) (asked : ℕ) → now ≡ with_counts before asked before.faults
-    → after ≡ clock_with is_asked now → (count : ℕ) × (after ≡ with_counts before count before.faults)
+clock_asked : (minute : Option ℤ) (before now after : ClockState) (given : List ℤ) (asked : ℕ)
+    → now ≡ with_counts before given asked before.faults → after ≡ clock_given minute now
+    → (more : List ℤ) × (count : ℕ) × (after ≡ with_counts before more count before.faults)
 unfolding with_counts
-clock_asked true before now after asked so_far is = (counted asked, is ∙ ap (clock_after false) so_far)
-clock_asked false before now after asked so_far is = (asked, is ∙ so_far)
+clock_asked (Some minute) before now after given asked so_far is =
+    (given ++ minute ∷ [], counted asked, is ∙ ap (clock_after (Ok minute)) so_far)
+clock_asked None before now after given asked so_far is = (given, asked, is ∙ so_far)
 
 pub kept_on : (stock : Stock) (before now after : Exchange) → IsKept false false before now → ServedNext stock now after
     → IsKept false false before after
 unfolding with_counts
 kept_on stock before now after kept step =
-    let clock = clock_asked step.talk.is_asked before.clock now.clock after.clock kept.asked kept.clock step.clock in record {
-      tells = ap (λ d. d.is_observable) step.door ∙ kept.is_observable;
+    let clock = clock_asked step.talk.minute before.clock now.clock after.clock kept.given kept.asked kept.clock step.clock in record {
+      is_observable = ap (λ d. d.is_observable) step.door ∙ kept.is_observable;
       pieces = ap (λ d. d.keeps_pieces) step.door ∙ kept.pieces;
       faults = ap (λ d. d.faults) step.door ∙ kept.faults;
-      asked = clock.0;
-      clock = clock.1;
+      given = clock.0;
+      asked = clock.1;
+      clock = clock.2;
     }
 
 pub kept_left : (before now after : Exchange) → IsKept false false before now → LeftNext now after → IsKept false true before after
 unfolding with_counts
 kept_left before now after kept step = record {
-  tells = ap (λ d. d.is_observable) step.door ∙ kept.is_observable;
+  is_observable = ap (λ d. d.is_observable) step.door ∙ kept.is_observable;
   pieces = ap (λ d. d.keeps_pieces) step.door ∙ kept.pieces;
   faults = ap (λ d. d.faults) step.door ∙ kept.faults;
+  given = kept.given;
   asked = counted kept.asked;
-  clock = step.clock ∙ ap (clock_after true) kept.clock;
+  clock = step.clock ∙ ap clock_failed kept.clock;
 }
 
 pub kept_failed : (before now after : Exchange) → IsKept false false before now
     → (after.door ≡ door_failed now.door) × (after.clock ≡ now.clock) → IsKept true false before after
 kept_failed before now after kept step = record {
-  tells = ap (λ d. d.is_observable) step.0 ∙ kept.is_observable;
+  is_observable = ap (λ d. d.is_observable) step.0 ∙ kept.is_observable;
   pieces = ap (λ d. d.keeps_pieces) step.0 ∙ kept.pieces;
   faults = ap (λ d. d.faults) step.0 ∙ ap counted kept.faults;
+  given = kept.given;
   asked = kept.asked;
   clock = step.1 ∙ kept.clock;
 }
@@ -150,9 +164,10 @@ kept_failed before now after kept step = record {
 pub kept_over : (before now after : Exchange) → IsKept false false before now
     → (after.door ≡ door_at_end now.door) × (after.clock ≡ now.clock) → IsKept false false before after
 kept_over before now after kept step = record {
-  tells = ap (λ d. d.is_observable) step.0 ∙ kept.is_observable;
+  is_observable = ap (λ d. d.is_observable) step.0 ∙ kept.is_observable;
   pieces = ap (λ d. d.keeps_pieces) step.0 ∙ kept.pieces;
   faults = ap (λ d. d.faults) step.0 ∙ kept.faults;
+  given = kept.given;
   asked = kept.asked;
   clock = step.1 ∙ kept.clock;
 }
@@ -193,6 +208,11 @@ rose_by more before now after false rose is =
     elim rose [ inl r ↦ inl (omega (arith, is, r)) | inr last ↦ inr (is ∙ last) ]
 rose_by more before now after true rose is =
     elim rose [ inl r ↦ rose_at (now == 2 ^ 64 - 1) more before now after refl r is | inr last ↦ inr (grind (arith, nat_tests)) ]
+
+given_next : (minute : Option ℤ) (clock : ClockState) → IsNextMinute minute (next_minute clock)
+    → clock_given minute clock ≡ clock_with (is_some minute) clock
+given_next None clock is = refl
+given_next (Some minute) clock is = ap (λ m. clock_after (Ok m) clock) is
 
 all_on : (served : List Conversation) (c : Conversation) (clock : ClockState)
     → clock_after_all (served ++ c ∷ []) clock ≡ clock_with c.is_asked (clock_after_all served clock)
@@ -265,7 +285,10 @@ more_served stock count before now after t k kept so_far step =
           (rose_by (count_by (λ c. c.is_cut) so_far.served) before.door.line_faults now.door.line_faults after.door.line_faults
           step.talk.is_cut so_far.cut (ap (λ d. d.line_faults) step.door));
       clock =
-          step.clock ∙ ap (clock_with step.talk.is_asked) so_far.clock ∙ sym (all_on so_far.served c before.clock);
+          step.clock
+          ∙ given_next step.talk.minute now.clock (step.minute clock_tells)
+          ∙ ap (clock_with (is_some step.talk.minute)) so_far.clock
+          ∙ sym (all_on so_far.served c before.clock);
     }
 
 -- ---- The end
@@ -306,7 +329,7 @@ unfolding taken_traffic
 broken stock count before now after t kept so_far step all =
     let tells : IsTrue now.door.is_observable = tells_on before.door.is_observable now.door.is_observable kept.is_observable t in
     let next = step.next tells in
-    let talk : Talk = record { left = step.left; reply = []; is_cut = false; is_asked = true } in
+    let talk : Talk = talk_of step.left [] false None step.connection in
     let traffic = traffic_with talk now.door after.door tells step.door in
     let left : after.door.traffic.waiting ≡ next.more = ap (λ s. s.waiting) traffic ∙ ap (λ w. drop 1 w) next.waiting in record {
       served = so_far.served;
@@ -327,7 +350,7 @@ broken stock count before now after t kept so_far step all =
       cut =
           subst (λ (n : ℕ). RoseBy (count_by (λ c. c.is_cut) so_far.served) before.door.line_faults n)
           (sym (ap (λ d. d.line_faults) step.door)) so_far.cut;
-      clock = step.clock ∙ ap (clock_after true) so_far.clock;
+      clock = step.clock ∙ ap clock_failed so_far.clock;
       last = omega arith;
       bytes = All-push HasByte [] next.request (All-nil HasByte) (step.byte tells);
     }
@@ -359,3 +382,103 @@ pub nobody : (stock : Stock) (has_failed : Bool) (before after : Exchange) → a
     → Served stock has_failed before after
 nobody stock has_failed before after traffic lines clock none =
     ended stock has_failed 0 before before after (none_served stock before) traffic lines clock none
+
+-- ---- What passed
+
+pub none_passed : (stock : Stock) (before : Exchange) → HavePassed stock before before
+unfolding AreServed
+none_passed stock before = record {
+  over = [];
+  minutes = [];
+  connections = sym (append-nil (connections_of before.door.connections));
+  given = sym (append-nil before.clock.given);
+  faults = refl;
+  served = refl;
+}
+
+served_on : (stock : Stock) (over : List Connection) (minutes : List ℤ) (c : Connection) (minute : Option ℤ) → AreServed stock over minutes
+    → IsServed stock c minute → AreServed stock (over ++ c ∷ []) (minutes ++ listed minute)
+unfolding AreServed
+served_on stock [] minutes c minute so_far last = (
+  minute,
+  [],
+  ap (λ ms. ms ++ listed minute) so_far ∙ sym (append-nil (listed minute)),
+  last,
+  refl,
+)
+served_on stock (first ∷ more) minutes c minute so_far last = (
+  so_far.0,
+  so_far.1 ++ listed minute,
+  ap (λ ms. ms ++ listed minute) so_far.2 ∙ append_assoc (listed so_far.0) so_far.1 (listed minute),
+  so_far.3,
+  served_on stock more so_far.1 c minute so_far.4 last,
+)
+
+given_on : (minute : Option ℤ) (clock : ClockState) → (clock_given minute clock).given ≡ clock.given ++ listed minute
+given_on None clock = sym (append-nil clock.given)
+given_on (Some minute) clock = refl
+
+faults_on : (minute : Option ℤ) (clock : ClockState) → (clock_given minute clock).faults ≡ clock.faults
+faults_on None clock = refl
+faults_on (Some minute) clock = refl
+
+-- after one connection more
+pub passed_on : (stock : Stock) (before now after : Exchange) → HavePassed stock before now → ServedNext stock now after
+    → HavePassed stock before after
+passed_on stock before now after so_far step =
+    let c = step.talk.connection in
+    let minute = step.talk.minute in record {
+      over = so_far.over ++ c ∷ [];
+      minutes = so_far.minutes ++ listed minute;
+      connections =
+          ap (λ d. connections_of d.connections) step.door
+          ∙ ap (λ cs. cs ++ c ∷ []) so_far.connections
+          ∙ append_assoc (connections_of before.door.connections) so_far.over (c ∷ []);
+      given =
+          ap (λ clock. clock.given) step.clock
+          ∙ given_on minute now.clock
+          ∙ ap (λ ms. ms ++ listed minute) so_far.given
+          ∙ append_assoc before.clock.given so_far.minutes (listed minute);
+      faults = ap (λ clock. clock.faults) step.clock ∙ faults_on minute now.clock ∙ so_far.faults;
+      served = served_on stock so_far.over so_far.minutes c minute so_far.served step.served;
+    }
+
+-- where door and clock are left as they were
+pub all_passed : (stock : Stock) (has_failed : Bool) (before now after : Exchange) → HavePassed stock before now
+    → after.door.connections ≡ now.door.connections → after.clock ≡ now.clock → HasServed stock has_failed before after
+all_passed stock has_failed before now after so_far door clock = record {
+  over = so_far.over;
+  left = None;
+  minutes = so_far.minutes;
+  connections =
+      ap connections_of door ∙ so_far.connections ∙ sym (append-nil (connections_of before.door.connections ++ so_far.over));
+  given = ap (λ c. c.given) clock ∙ so_far.given;
+  clock_faults = ap (λ c. c.faults) clock ∙ so_far.faults;
+  served = so_far.served;
+  last = tt;
+  ends = λ is. absurd (cc);
+}
+
+left_passed : (stock : Stock) (before now after : Exchange) → HavePassed stock before now → LeftNext now after
+    → HasServed stock true before after
+left_passed stock before now after so_far step = record {
+  over = so_far.over;
+  left = Some step.connection;
+  minutes = so_far.minutes;
+  connections =
+      ap (λ d. connections_of d.connections) step.door ∙ ap (λ cs. cs ++ step.connection ∷ []) so_far.connections;
+  given = ap (λ c. c.given) step.clock ∙ so_far.given;
+  clock_faults = ap (λ c. c.faults) step.clock ∙ ap counted so_far.faults;
+  served = so_far.served;
+  last = step.unanswered;
+  ends = λ is. refl;
+}
+
+pub failed_passed : (stock : Stock) (outage : Outage) (before now after : Exchange) → HavePassed stock before now
+    → StepBy (Err outage) stock now after → HasServed stock true before after
+failed_passed stock outages.Door before now after so_far step =
+    all_passed stock true before now after so_far (ap (λ d. d.connections) step.0) step.1
+failed_passed stock outages.Clock before now after so_far step = left_passed stock before now after so_far step
+
+pub taken_fresh : (first now : DoorState) → now ≡ door_after_next (Ok true) first → now.connections.latest ≡ Some just_taken
+taken_fresh first now is = ap (λ d. d.connections.latest) is

@@ -1,10 +1,13 @@
+pub mod Conversations
 pub mod Heads
 pub mod Laws
 pub mod Openings
 pub mod Paths
+pub mod Promises
 pub mod Queries
 pub mod Replies
 pub mod Responses
 pub mod Rows
 pub mod Serving
+pub mod Shown
 pub mod Workings

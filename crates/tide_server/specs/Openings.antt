@@ -1,5 +1,5 @@
 -- What a server serves from, and how it ends (this project).
-use Rattle.std.specs.Prelude.{◌≡◌, ◌⊎◌, ℕ, Bool, false, IsTrue, not, if◌then◌else◌, List, [], ◌∷◌, ◌++◌, codes, count_by, decimal, Option, Some, None, Result, Ok, Err}
+use Rattle.std.specs.Prelude.{◌≡◌, ◌⊎◌, ℕ, ℤ, Bool, false, IsTrue, not, if◌then◌else◌, List, [], ◌∷◌, ◌++◌, codes, count_by, decimal, Option, Some, None, Result, Ok, Err}
 use Rattle.std.specs.Option.{option_map_or}
 use Rattle.std.specs.Str.{bytes_eq}
 use Rattle.decimal_text.specs.Expected.{◌>>=◌}
@@ -27,6 +27,7 @@ use Rattle.named_files.specs.declared.no_answer.NoAnswer.TheVariants.{Told}
 use Rattle.named_files.specs.NoAnswers.{told, status_of, line_of, source_of, is_read_fault}
 use Rattle.named_files.specs.Readings.{Folders, allowed_for, book_named, table_named}
 use Rattle.tide_server.specs.declared.stock.Stock.{Stock}
+use Rattle.tide_server.specs.Conversations.{HasServed}
 use Rattle.tide_server.specs.Serving.{Served, exchange}
 
 -- ---- The words
@@ -115,11 +116,13 @@ abbrev pub end_line : Status → List ℕ
 end_line Done = []
 end_line _ = codes "read fault\n"
 
--- The door was asked to listen at the port, and connections were served until the end of them or a fault: that says something where
--- door and clock tell. What was told says first where the server listens.
+-- The door was asked to listen at the port, and connections were served until the end of them or a fault: what passed over each,
+-- for any door and clock, and which requests were answered, if door and clock are observable. What was written says first where the
+-- server listens.
 pub record HasListened (stock : Stock) (status : Status) (before after : Handed) : Type 0 where
   pub asked : after.door.doorway.port ≡ Some stock.port
   pub ends : (status ≡ Done) ⊎ (status ≡ ReadFault)
+  pub passed : HasServed stock (is_read_fault status) (exchange before.door before.clock) (exchange after.door after.clock)
   pub served : IsTrue before.door.is_observable → IsTrue before.clock.is_observable
       → Served stock (is_read_fault status) (exchange before.door before.clock) (exchange after.door after.clock)
   pub wrote : WroteBoth before.err after.err (notice_at stock.port after.door.doorway) (end_line status)
@@ -142,8 +145,9 @@ pub record EndedBy (has_failed : Bool) (before after : Handed) : Type 0 where
   pub door_count : after.door.faults ≡ faults_after door before.door.faults
   pub door_tells : after.door.is_observable ≡ before.door.is_observable
   pub door_pieces : after.door.keeps_pieces ≡ before.door.keeps_pieces
+  pub given : List ℤ
   pub asked : ℕ
-  pub clock_state : after.clock ≡ record before.clock { asked = asked; faults = faults_after clock before.clock.faults }
+  pub clock_state : after.clock ≡ record before.clock { given = given; asked = asked; faults = faults_after clock before.clock.faults }
 
 -- ---- The whole objects
 

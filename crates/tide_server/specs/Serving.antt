@@ -1,8 +1,9 @@
 -- Who was served, and with what (this project).
-use Rattle.std.specs.Prelude.{◌≡◌, ◌⊎◌, ◌≤◌, ◌+◌, ◌-◌, ◌^◌, ℕ, ℤ, Bool, true, false, IsTrue, if◌then◌else◌, List, [], ◌∷◌, ◌++◌, length, map, take, All, count_by, None}
+use Rattle.std.specs.Prelude.{◌≡◌, ◌⊎◌, ◌≤◌, ◌+◌, ◌-◌, ◌^◌, ℕ, ℤ, Bool, true, false, IsTrue, if◌then◌else◌, List, [], ◌∷◌, ◌++◌, length, map, take, All, count_by, None, Ok}
 use Rattle.std.specs.List.{concat}
 use Rattle.tide_edge.specs.Clocks.{ClockState, clock_after, next_minute}
 use Rattle.tide_edge.specs.Doors.{Doorway, DoorState, first_or_empty, left_after}
+use Rattle.tide_edge.specs.Faults.{counted}
 use Rattle.tide_server.specs.declared.stock.Stock.{Stock}
 use Rattle.tide_server.specs.Replies.{IsReply}
 use Rattle.tide_server.specs.Responses.{fixed_of, unavailable_of}
@@ -50,9 +51,13 @@ pub record IsHeld (stock : Stock) (minute : ℤ) (c : Conversation) : Type 0 whe
 
 -- ---- One after the other
 
--- the clock after a conversation, for which it is asked once or not at all
+-- the clock after a conversation, for which it gives its next minute once or not at all
 abbrev pub clock_with : Bool → ClockState → ClockState
-clock_with is_asked clock = if is_asked then clock_after false clock else clock
+clock_with is_asked clock = if is_asked then clock_after (Ok (next_minute clock)) clock else clock
+
+-- the clock after a reading that failed
+abbrev pub clock_failed : ClockState → ClockState
+clock_failed clock = record clock { asked = counted clock.asked; faults = counted clock.faults }
 
 unfoldable pub clock_after_all : List Conversation → ClockState → ClockState
 clock_after_all [] clock = clock
@@ -110,7 +115,7 @@ MayLeave true left = length left ≤ 1
 -- where a connection was left the clock has failed for it
 abbrev pub clock_at_end : List (List (List ℕ)) → ClockState → ClockState
 clock_at_end [] clock = clock
-clock_at_end (request ∷ more) clock = clock_after true clock
+clock_at_end (request ∷ more) clock = clock_failed clock
 
 -- Connections were served one after the other, in the order in which they waited, and each has its reply. As many were cut short
 -- as the count of the lines' faults rose by. One was left exactly where the clock has failed, and it has a byte. The clock was asked

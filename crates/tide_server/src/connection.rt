@@ -1,7 +1,8 @@
 //! One connection.
 
-ghost use Rattle.std.specs.Prelude.{◌≡◌, ◌==◌, ◌||◌, ℕ, List, IsTrue, is_err};
+ghost use Rattle.std.specs.Prelude.{◌≡◌, ◌==◌, ◌||◌, ℕ, List, Some, IsTrue, is_err};
 ghost use Rattle.tide_edge.specs.Clocks.{IsClockMinute};
+ghost use Rattle.tide_edge.specs.Doors.{just_taken};
 ghost use Rattle.tide_server.specs.Responses.{rejection_of, unavailable_to};
 ghost use Rattle.tide_server.specs.Rows.{is_settled};
 ghost use Rattle.tide_server.specs.Serving.{exchange};
@@ -32,6 +33,7 @@ pub(crate) fn serve_connection<D: Door, K: Clock>(
     clock: &mut K,
 ) -> Result<(), Failed>
     requires is_open { IsTrue (D.state door.old).doorway.is_open }
+    requires fresh { (D.state door.old).connections.latest ≡ Some just_taken }
     ensures { Closed (is_err result) stock.now
         (exchange (D.state door.old) (K.state clock.old)) (exchange (D.state door.new) (K.state clock.new)) }
 {
@@ -50,6 +52,7 @@ fn answer_connection<D: Door, K: Clock>(
     clock: &mut K,
 ) -> Result<(), Failed>
     requires is_open { IsTrue (D.state door.old).doorway.is_open }
+    requires fresh { (D.state door.old).connections.latest ≡ Some just_taken }
     ensures { WentBy (is_err result) stock.now
         (exchange (D.state door.old) (K.state clock.old)) (exchange (D.state door.new) (K.state clock.new)) }
 {

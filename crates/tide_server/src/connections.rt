@@ -2,6 +2,7 @@
 
 ghost use Rattle.std.specs.Prelude.{◌≡◌, false, true, Some, IsTrue, OnOk, is_err};
 ghost use Rattle.tide_edge.specs.Doors.{asked};
+ghost use Rattle.tide_server.specs.Conversations.{HasServed};
 ghost use Rattle.tide_server.specs.Serving.{IsOver, Served, exchange};
 ghost use Rattle.tide_server.specs.Workings.Steps.{IsKept, StepBy, is_clock_outage, is_door_outage};
 
@@ -22,6 +23,8 @@ pub(crate) fn serve_all<D: Door, K: Clock>(
 ) -> Result<(), Outage>
     requires listens { (D.state door.old).doorway ≡ asked stock.now.port true }
     ensures served { IsTrue (D.state door.old).is_observable → IsTrue (K.state clock.old).is_observable → Served stock.now (is_err result)
+        (exchange (D.state door.old) (K.state clock.old)) (exchange (D.state door.new) (K.state clock.new)) }
+    ensures passed { HasServed stock.now (is_err result)
         (exchange (D.state door.old) (K.state clock.old)) (exchange (D.state door.new) (K.state clock.new)) }
     ensures kept { IsKept (is_door_outage result) (is_clock_outage result)
         (exchange (D.state door.old) (K.state clock.old)) (exchange (D.state door.new) (K.state clock.new)) }

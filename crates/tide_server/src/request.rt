@@ -25,8 +25,9 @@ impl Model for Request {
 }
 
 impl Request {
-    ghost use Rattle.std.specs.Prelude.{◌≡◌, ◌↔◌, ◌+◌, ◌<◌, ◌≤◌, ◌++◌, IsTrue, [], length, take, IfOk};
+    ghost use Rattle.std.specs.Prelude.{◌≡◌, ◌↔◌, ◌+◌, ◌<◌, ◌≤◌, ◌++◌, ℕ, List, IsTrue, [], length, take, IfOk};
     ghost use Rattle.std.specs.List.{concat};
+    ghost use Rattle.tide_edge.specs.declared.piece.TheConstants.{PIECE};
     ghost use Rattle.tide_edge.specs.Doors.{door_after_read, first_or_empty};
     ghost use Rattle.tide_server.specs.declared.limits.TheConstants.{LONGEST};
 
@@ -58,7 +59,9 @@ impl Request {
     pub(crate) fn read_more<D: Door>(&mut self, door: &mut D) -> Result<usize, Failed>
         requires short { length self.old < LONGEST }
         requires open { IsTrue (D.state door.old).doorway.is_open }
-        ensures after { D.state door.new ≡ door_after_read result (D.state door.old) }
+        ensures after { (room : List ℕ) × (D.state door.new ≡ door_after_read result room (D.state door.old))
+            × IfOk result (λ count. self.new ≡ self.old ++ take count room) }
+        ensures within { IfOk result (λ count. count ≤ PIECE) }
         ensures longer { IfOk result (λ count. length self.new ≡ length self.old + count) }
         ensures next_bytes { IsTrue (D.state door.old).is_observable
             → IfOk result (λ count. self.new ≡ self.old ++ take count (concat (D.state door.old).traffic.rest)) }

@@ -7,9 +7,10 @@ ghost use Rattle.tide_edge.specs.SinkStates.{Wrote};
 ghost use Rattle.tide_edge.specs.Whole.{ReadWithin};
 ghost use Rattle.tide_fault.specs.declared.status.Status.{Status};
 ghost use Rattle.named_files.specs.NoAnswers.{is_read_fault};
-ghost use Rattle.named_files.specs.Readings.{Folders};
-ghost use Rattle.tide_server.specs.Openings.{EndedBy, EndsAs, TookNone, files_asked, handed, notice_of, service_of, stock_from, stock_of};
+ghost use Rattle.tide_server.specs.Openings.{EndedBy, EndsAs, TookNone, files_asked, handed, notice_of, service_of, stock_of};
+ghost use Rattle.tide_server.specs.Promises.{ServesAs, service_states, services};
 ghost use Rattle.tide_server.specs.Serving.{IsOver};
+ghost use Rattle.tide_server.specs.Shown.{EndsAsShown};
 ghost use Rattle.tide_server.specs.Workings.Ends.{Ended, unread};
 
 use crate::connections::serve_all;
@@ -39,12 +40,27 @@ pub fn serve<F: Files, D: Door, E: Sink, K: Clock>(
     clock: &mut K,
 ) -> Status
     requires { (D.state door.old).doorway.port ≡ None }
+    ensures { ServesAs (service_states F.state D.state E.state K.state) words.now result
+        (services files.old door.old err.old clock.old) (services files.new door.new err.new clock.new) }
+{
+    serve_words(alloc, words, files, door, err, clock)
+}
+
+// The same, promise by promise.
+fn serve_words<F: Files, D: Door, E: Sink, K: Clock>(
+    alloc: Global,
+    words: &Words,
+    files: &mut F,
+    door: &mut D,
+    err: &mut E,
+    clock: &mut K,
+) -> Status
+    requires { (D.state door.old).doorway.port ≡ None }
     ensures own_files { IsTrue (F.state files.old).store.is_observable
         → EndsAs (IsTrue (F.state files.old).store.is_steady) (stock_of (F.state files.old).store.folder words.now) result
         (handed (F.state files.old) (D.state door.old) (E.state err.old) (K.state clock.old))
         (handed (F.state files.new) (D.state door.new) (E.state err.new) (K.state clock.new)) }
-    ensures some_files { (folders : Folders)
-        × EndsAs (Unit {0}) (stock_from folders words.now) result
+    ensures shown { EndsAsShown words.now result
         (handed (F.state files.old) (D.state door.old) (E.state err.old) (K.state clock.old))
         (handed (F.state files.new) (D.state door.new) (E.state err.new) (K.state clock.new)) }
     ensures done { result ≡ Status.Done → IsOver (D.state door.new).doorway }

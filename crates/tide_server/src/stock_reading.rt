@@ -8,9 +8,11 @@ ghost use Rattle.tide_fault.specs.Faults.{wants_memory, IsTold as IsToldFault};
 ghost use Rattle.decimal_text.specs.Expected.{Meets};
 ghost use Rattle.tide_edge.specs.Whole.{ReadWithin, both, one_file};
 ghost use Rattle.named_files.specs.NoAnswers.{IsTold, reading_failed, source_of};
-ghost use Rattle.named_files.specs.Readings.{Folders, allowed_for, limit_of};
+ghost use Rattle.named_files.specs.Opened.{IsResultOf, folders_shown};
+ghost use Rattle.named_files.specs.Readings.{allowed_for, limit_of};
 ghost use Rattle.tide_fault.specs.declared.slot.Slot.{Slot};
-ghost use Rattle.tide_server.specs.Openings.{asks_another, files_asked, service_in, service_of, stock_from, stock_named, stock_of};
+ghost use Rattle.tide_server.specs.Openings.{asks_another, files_asked, service_in, service_of, stock_named, stock_of};
+ghost use Rattle.tide_server.specs.Shown.{names_served, stock_by_openings, stock_names};
 
 use crate::stock::{SoundStock, Stock};
 use decimal_text::{Text, Words};
@@ -29,7 +31,7 @@ pub(crate) fn read_stock<F: Files>(
 ) -> Result<SoundStock, NoAnswer>
     ensures own { IsTrue (F.state files.old).store.is_observable → Meets source_of (IsTrue (F.state files.old).store.is_steady)
         (stock_of (F.state files.old).store.folder words.now) result }
-    ensures some { (folders : Folders) × Meets source_of (Unit {0}) (stock_from folders words.now) result }
+    ensures shown { IsResultOf (names_served (service_of words.now)) (stock_by_openings words.now) (F.state files.old).openings (F.state files.new).openings result }
     ensures told { IfErr result IsTold }
     ensures read { ReadWithin (files_asked (service_of words.now)) (reading_failed result) (F.state files.old) (F.state files.new) }
     ensures unopened { ¬ (IsOk (service_of words.now)) → files.new ≡ files.old }
@@ -51,7 +53,8 @@ fn read_named<F: Files>(
 ) -> Result<SoundStock, NoAnswer>
     ensures own { IsTrue (F.state files.old).store.is_observable → Meets source_of (IsTrue (F.state files.old).store.is_steady)
         (stock_named (λ slot. (F.state files.old).store.folder) question.now name.now) result }
-    ensures some { (folders : Folders) × Meets source_of (Unit {0}) (stock_named folders question.now name.now) result }
+    ensures shown { IsResultOf (stock_names name.now question.now) (λ openings. stock_named (folders_shown question.now openings) question.now name.now)
+        (F.state files.old).openings (F.state files.new).openings result }
     ensures told { IfErr result IsTold }
     ensures read { ReadWithin (both (one_file (limit_of Slot.File)) (allowed_for Slot.Offsets question.now.offsets))
         (reading_failed result) (F.state files.old) (F.state files.new) }

@@ -1,20 +1,31 @@
 -- What goes over a connection.
-use Rattle.std.specs.Prelude.{◌≡◌, ℕ, ℤ, ◌⊎◌, Bool, true, false, IsTrue, List, [], ◌++◌, take, Option, Some, None}
+use Rattle.std.specs.Prelude.{◌≡◌, ◌<◌, ℕ, ℤ, ◌⊎◌, Bool, true, false, IsTrue, List, [], ◌++◌, length, take, Option, Some, None, is_some, Ok}
 use Rattle.std.specs.List.{concat}
-use Rattle.tide_edge.specs.Clocks.{clock_after, next_minute}
-use Rattle.tide_edge.specs.Doors.{DoorState, append_to_last, door_after_close, told_traffic}
+use Rattle.tide_edge.specs.Clocks.{ClockState, clock_after, next_minute}
+use Rattle.tide_edge.specs.Doors.{Connection, Connections, DoorState, append_to_last, change_latest, door_after_close, told_traffic}
 use Rattle.tide_edge.specs.Faults.{faults_after}
 use Rattle.tide_server.specs.declared.stock.Stock.{Stock}
+use Rattle.tide_server.specs.Conversations.{IsReadEnough, IsServed, IsLeft}
 use Rattle.tide_server.specs.Responses.{fixed_of, unavailable_of}
 use Rattle.tide_server.specs.Replies.{reply_of}
 use Rattle.tide_server.specs.Rows.{Row, IsRow}
-use Rattle.tide_server.specs.Serving.{Answers, AnswersUnlessCut, AsksUnlessCut, Exchange, IsEnough, IsReadAsNeeded, clock_with}
+use Rattle.tide_server.specs.Serving.{Answers, AnswersUnlessCut, AsksUnlessCut, Exchange, IsEnough, IsReadAsNeeded, clock_failed}
 
 -- ---- Reading
 
--- this is left of the open connection, after a read that failed or none that did
-abbrev pub read_to : List (List ℕ) → Bool → DoorState → DoorState
-read_to left failed d = record d {
+-- the last of the connections stands so
+abbrev pub with_latest : Connection → Connections → Connections
+with_latest connection all = record all { latest = Some connection }
+
+-- these bytes came, and nothing was sent
+abbrev pub read_as : Bool → List ℕ → Bool → Connection
+read_as failed bytes ended =
+    record { came = bytes; is_ended = ended; sent = []; read_failed = failed; write_failed = false }
+
+-- this is left of the open connection, which stands so, after a read that failed or none that did
+abbrev pub read_to : List (List ℕ) → Connection → Bool → DoorState → DoorState
+read_to left connection failed d = record d {
+  connections = with_latest connection d.connections;
   traffic = told_traffic (λ t. record { waiting = t.waiting; rest = left; replies = t.replies }) d;
   line_faults = faults_after failed d.line_faults;
 }
@@ -30,25 +41,32 @@ abbrev pub IsReadAs : List ℕ → Option Row → Type 0
 IsReadAs bytes None = bytes ≡ []
 IsReadAs bytes (Some row) = (request : List ℕ) × IsRead bytes request × ¬ (request ≡ []) × IsRow request row
 
--- the open connection was read, and no further than needed where it keeps its pieces
-pub record HasRead (failed : Bool) (before after : DoorState) : Type 0 where
+-- these bytes of the open connection were read, and no further than needed
+pub record HasRead (failed : Bool) (request : List ℕ) (before after : DoorState) : Type 0 where
   pub left : List (List ℕ)
-  pub door : after ≡ read_to left failed before
+  pub is_ended : Bool
+  pub door : after ≡ read_to left (read_as failed request is_ended) failed before
+  pub enough : IsReadEnough (read_as failed request is_ended)
   pub needed : IsTrue before.is_observable → IsTrue before.keeps_pieces → IsReadAsNeeded before.traffic.rest left
 
 -- ---- Sending
 
 -- a text was sent, after a write that failed or none that did
+abbrev pub sending : List ℕ → Bool → Connection → Connection
+sending text false connection = record connection { sent = connection.sent ++ text }
+sending text true connection = record connection { sent = connection.sent ++ text; write_failed = true }
+
 abbrev pub sent : List ℕ → Bool → DoorState → DoorState
 sent text failed d = record d {
+  connections = change_latest (sending text failed) d.connections;
   traffic = told_traffic (λ t. record { waiting = t.waiting; rest = t.rest; replies = append_to_last t.replies text }) d;
   line_faults = faults_after failed d.line_faults;
 }
 
--- a text was sent whole, or a front part of it
+-- a text was sent whole, or a proper prefix of it
 abbrev pub SentBy : Bool → List ℕ → DoorState → DoorState → Type 0
 SentBy false text before after = after ≡ sent text false before
-SentBy true text before after = (count : ℕ) × (after ≡ sent (take count text) true before)
+SentBy true text before after = (count : ℕ) × (count < length text) × (after ≡ sent (take count text) true before)
 
 -- the reply of a row, or what stands for it where it isn't fixed
 abbrev pub Replies : Stock → ℤ → Row → List ℕ → Type 0
@@ -58,22 +76,35 @@ Replies stock minute row text =
 -- The reply of a row was sent, at the minute that the clock has given. Or the clock has failed, and nothing was sent.
 abbrev pub RowSent : Bool → Stock → Row → Exchange → Exchange → Type 0
 RowSent false stock row before after =
-    (text : List ℕ) × (failed : Bool)
-    × (IsTrue before.clock.is_observable → Replies stock (next_minute before.clock) row text)
-    × SentBy failed text before.door after.door × (after.clock ≡ clock_after false before.clock)
-RowSent true stock row before after = (after.door ≡ before.door) × (after.clock ≡ clock_after true before.clock)
+    (text : List ℕ) × (failed : Bool) × (minute : ℤ)
+    × (IsTrue before.clock.is_observable → minute ≡ next_minute before.clock) × Replies stock minute row text
+    × SentBy failed text before.door after.door × (after.clock ≡ clock_after (Ok minute) before.clock)
+RowSent true stock row before after = (after.door ≡ before.door) × (after.clock ≡ clock_failed before.clock)
 
 -- ---- The whole of it
 
--- what came of the open connection: what is left of its pieces, the reply, whether its lines failed, and whether the clock was asked
+-- the clock after it gave a minute, or wasn't read
+abbrev pub clock_given : Option ℤ → ClockState → ClockState
+clock_given None clock = clock
+clock_given (Some minute) clock = clock_after (Ok minute) clock
+
+-- a minute that was given is this one
+abbrev pub IsNextMinute : Option ℤ → ℤ → Type 0
+IsNextMinute None next = Unit {0}
+IsNextMinute (Some minute) next = minute ≡ next
+
+-- what came of the open connection: what is left of its pieces, the reply, whether its lines failed, the minute that the clock gave
+-- for it, and what passed over it
 pub record Talk : Type 0 where
   pub left : List (List ℕ)
   pub reply : List ℕ
   pub is_cut : Bool
-  pub is_asked : Bool
+  pub minute : Option ℤ
+  pub connection : Connection
 
 abbrev pub talked : Talk → DoorState → DoorState
 talked talk d = record d {
+  connections = with_latest talk.connection d.connections;
   traffic = told_traffic (λ t. record { waiting = t.waiting; rest = talk.left; replies = append_to_last t.replies talk.reply }) d;
   line_faults = faults_after talk.is_cut d.line_faults;
 }
@@ -82,17 +113,21 @@ talked talk d = record d {
 pub record Went (stock : Stock) (before after : Exchange) : Type 0 where
   pub talk : Talk
   pub door : after.door ≡ talked talk before.door
-  pub clock : after.clock ≡ clock_with talk.is_asked before.clock
+  pub clock : after.clock ≡ clock_given talk.minute before.clock
+  pub minute : IsTrue before.clock.is_observable → IsNextMinute talk.minute (next_minute before.clock)
+  pub served : IsServed stock talk.connection talk.minute
   pub answered : IsTrue before.door.is_observable → IsTrue before.clock.is_observable
       → AnswersUnlessCut talk.is_cut (Answers stock (next_minute before.clock)) (concat before.door.traffic.rest) talk.reply
-  pub asked : IsTrue before.door.is_observable → AsksUnlessCut talk.is_cut (concat before.door.traffic.rest) talk.is_asked
+  pub asked : IsTrue before.door.is_observable → AsksUnlessCut talk.is_cut (concat before.door.traffic.rest) (is_some talk.minute)
   pub needed : IsTrue before.door.is_observable → IsTrue before.door.keeps_pieces → IsReadAsNeeded before.door.traffic.rest talk.left
 
 -- the clock has failed for it: it has a byte, and nothing was sent
 pub record Stopped (before after : Exchange) : Type 0 where
   pub left : List (List ℕ)
-  pub door : after.door ≡ read_to left false before.door
-  pub clock : after.clock ≡ clock_after true before.clock
+  pub connection : Connection
+  pub door : after.door ≡ read_to left connection false before.door
+  pub clock : after.clock ≡ clock_failed before.clock
+  pub unanswered : IsLeft connection
   pub byte : IsTrue before.door.is_observable → ¬ (concat before.door.traffic.rest ≡ [])
   pub needed : IsTrue before.door.is_observable → IsTrue before.door.keeps_pieces → IsReadAsNeeded before.door.traffic.rest left
 

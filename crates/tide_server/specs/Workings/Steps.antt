@@ -1,14 +1,15 @@
 -- One connection after the other, a step at a time.
-use Rattle.std.specs.Prelude.{◌≡◌, ℕ, Bool, true, false, IsTrue, List, [], ◌∷◌, ◌++◌, length, map, count_by, Some, Result, Ok, Err}
+use Rattle.std.specs.Prelude.{◌≡◌, ℕ, ℤ, Bool, true, false, IsTrue, List, [], ◌∷◌, ◌++◌, length, map, count_by, Some, None, is_some, Result, Ok, Err}
 use Rattle.std.specs.List.{concat}
-use Rattle.tide_edge.specs.Clocks.{clock_after, next_minute}
-use Rattle.tide_edge.specs.Doors.{Doorway, DoorState, after_next, door_after_close, door_after_next}
+use Rattle.tide_edge.specs.Clocks.{next_minute}
+use Rattle.tide_edge.specs.Doors.{Connection, Doorway, DoorState, after_next, connections_of, door_after_close, door_after_next}
 use Rattle.tide_edge.specs.Faults.{counted, faults_after}
 use Rattle.tide_server.specs.declared.outage.Outage.{Outage}
 use Rattle.tide_server.specs.declared.outage.Outage.TheVariants as outages
 use Rattle.tide_server.specs.declared.stock.Stock.{Stock}
-use Rattle.tide_server.specs.Serving.{AreHeld, Conversation, Exchange, IsHeld, IsLastReadAsNeeded, IsReadAsNeeded, RoseBy, clock_after_all, clock_with}
-use Rattle.tide_server.specs.Workings.Connections.{Talk, talked}
+use Rattle.tide_server.specs.Conversations.{AreServed, IsLeft, IsServed}
+use Rattle.tide_server.specs.Serving.{AreHeld, Conversation, Exchange, IsHeld, IsLastReadAsNeeded, IsReadAsNeeded, RoseBy, clock_after_all, clock_failed}
+use Rattle.tide_server.specs.Workings.Connections.{IsNextMinute, Talk, clock_given, talked}
 
 abbrev pub is_door : Outage → Bool
 is_door outages.Door = true
@@ -34,7 +35,7 @@ door_with talk d = door_after_close (talked talk (door_after_next (Ok true) d))
 
 abbrev pub conversation : List (List ℕ) → Talk → Conversation
 conversation request talk =
-    record { request = request; reply = talk.reply; is_cut = talk.is_cut; is_asked = talk.is_asked }
+    record { request = request; reply = talk.reply; is_cut = talk.is_cut; is_asked = is_some talk.minute }
 
 -- the first request that waits, and those behind it
 pub record IsNext (door : DoorState) : Type 0 where
@@ -46,7 +47,9 @@ pub record IsNext (door : DoorState) : Type 0 where
 pub record ServedNext (stock : Stock) (before after : Exchange) : Type 0 where
   pub talk : Talk
   pub door : after.door ≡ door_with talk before.door
-  pub clock : after.clock ≡ clock_with talk.is_asked before.clock
+  pub clock : after.clock ≡ clock_given talk.minute before.clock
+  pub minute : IsTrue before.clock.is_observable → IsNextMinute talk.minute (next_minute before.clock)
+  pub served : IsServed stock talk.connection talk.minute
   pub next : IsTrue before.door.is_observable → IsNext before.door
   pub held : (door : IsTrue before.door.is_observable) → IsTrue before.clock.is_observable
       → IsHeld stock (next_minute before.clock) (conversation (next door).request talk)
@@ -55,8 +58,11 @@ pub record ServedNext (stock : Stock) (before after : Exchange) : Type 0 where
 -- it was taken, has a byte and got no reply, since the clock has failed
 pub record LeftNext (before after : Exchange) : Type 0 where
   pub left : List (List ℕ)
-  pub door : after.door ≡ door_with record { left = left; reply = []; is_cut = false; is_asked = true } before.door
-  pub clock : after.clock ≡ clock_after true before.clock
+  pub connection : Connection
+  pub door : after.door
+      ≡ door_with record { left = left; reply = []; is_cut = false; minute = None; connection = connection } before.door
+  pub clock : after.clock ≡ clock_failed before.clock
+  pub unanswered : IsLeft connection
   pub next : IsTrue before.door.is_observable → IsNext before.door
   pub byte : (door : IsTrue before.door.is_observable) → ¬ (concat (next door).request ≡ [])
   pub needed : (door : IsTrue before.door.is_observable) → IsTrue before.door.keeps_pieces → IsReadAsNeeded (next door).request left
@@ -84,8 +90,9 @@ pub record IsKept (door_failed clock_failed : Bool) (before after : Exchange) : 
   pub is_observable : after.door.is_observable ≡ before.door.is_observable
   pub pieces : after.door.keeps_pieces ≡ before.door.keeps_pieces
   pub faults : after.door.faults ≡ faults_after door_failed before.door.faults
+  pub given : List ℤ
   pub asked : ℕ
-  pub clock : after.clock ≡ record before.clock { asked = asked; faults = faults_after clock_failed before.clock.faults }
+  pub clock : after.clock ≡ record before.clock { given = given; asked = asked; faults = faults_after clock_failed before.clock.faults }
 
 -- these were served
 pub record WereServed (stock : Stock) (count : ℕ) (before after : Exchange) : Type 0 where
@@ -97,3 +104,12 @@ pub record WereServed (stock : Stock) (count : ℕ) (before after : Exchange) : 
   pub read : IsTrue before.door.keeps_pieces → IsLastReadAsNeeded (map (λ c. c.request) served) after.door.traffic.rest
   pub cut : RoseBy (count_by (λ c. c.is_cut) served) before.door.line_faults after.door.line_faults
   pub clock : after.clock ≡ clock_after_all served before.clock
+
+-- so far these connections were served, at these minutes
+pub record HavePassed (stock : Stock) (before after : Exchange) : Type 0 where
+  pub over : List Connection
+  pub minutes : List ℤ
+  pub connections : connections_of after.door.connections ≡ connections_of before.door.connections ++ over
+  pub given : after.clock.given ≡ before.clock.given ++ minutes
+  pub faults : after.clock.faults ≡ before.clock.faults
+  pub served : AreServed stock over minutes

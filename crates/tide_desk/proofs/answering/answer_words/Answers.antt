@@ -1,9 +1,8 @@
-use Rattle.std.proofs.Common.{None}
-use Rattle.std.specs.Prelude.{pos}
+use Rattle.std.proofs.Common.{[], refl}
 use Rattle.named_files.specs.NoAnswers.{reading_failed}
 use Rattle.named_files.proofs.ReadingLemmas.{failed_at}
 use Rattle.tide_desk.specs.Outcomes.{sources}
-use Rattle.tide_desk.proofs.AnsweringLemmas.{files_named, has_files, meets_alone, meets_named, meets_unasked, names_file, went_by_words, went_nowhere}
+use Rattle.tide_desk.proofs.AnsweringLemmas.{files_named, has_files, meets_alone, meets_named, meets_unasked, names_file, shown_alone, shown_named, shown_unasked, shown_unopened, went_by_words, went_nowhere}
 use Rattle.std.proofs.lemmas.Result.{err_from_is_err_and}
 use Rattle.tide_desk.proofs.SettledLemmas.{nameless_unread, unasked_unsettled}
 use Rattle.tide_desk.proofs.answering.answer_words.Goals as goal
@@ -12,12 +11,13 @@ pub returns-in_err-question-clause-own : goal.returns-in_err-question-clause-own
 returns-in_err-question-clause-own g c =
     λ t k. meets_unasked _ _ _ _ c.args.words.now _ c.from_residual.result c.from_residual.ensures.1 c.in_err-question.ensures.exact
 
-pub returns-in_err-question-clause-some : goal.returns-in_err-question-clause-some
-returns-in_err-question-clause-some g c = (
-  λ slot name. None,
-  pos 0,
-  meets_unasked (Unit {0}) _ _ _ c.args.words.now _ c.from_residual.result c.from_residual.ensures.1 c.in_err-question.ensures.exact,
-)
+pub returns-in_err-question-clause-shown : goal.returns-in_err-question-clause-shown
+returns-in_err-question-clause-shown g c =
+    shown_unopened _ _
+    (g.F.Files.state c.args.files.now).openings
+    (g.F.Files.state c.args.files.now).openings
+    c.from_residual.result refl
+    (shown_unasked _ _ c.args.words.now _ c.from_residual.result [] c.from_residual.ensures.1 c.in_err-question.ensures.exact)
 
 pub returns-in_err-question-clause-reads : goal.returns-in_err-question-clause-reads
 returns-in_err-question-clause-reads g c =
@@ -30,13 +30,12 @@ returns-in-Some-clause-own g c =
     (meets_named _ _ _ _ c.args.words.now c.in_ok-question.question c.in-Some.name c.answer_over.result c.in_ok-question.ensures.exact c.in-Some.is
     ((rw c.new-sound.ensures at c.answer_over.ensures.own) t (rw c.in_ok-question.ensures.exact at k)))
 
-pub returns-in-Some-clause-some : goal.returns-in-Some-clause-some
-returns-in-Some-clause-some g c =
-    let some = rw c.new-sound.ensures at c.answer_over.ensures.some in (
-      some.0,
-      some.1,
-      meets_named (Unit {0}) _ some.0 some.1 c.args.words.now c.in_ok-question.question c.in-Some.name c.answer_over.result c.in_ok-question.ensures.exact c.in-Some.is some.2,
-    )
+pub returns-in-Some-clause-shown : goal.returns-in-Some-clause-shown
+returns-in-Some-clause-shown g c =
+    shown_named _ _ c.args.words.now c.in_ok-question.question c.in-Some.name
+    (g.F.Files.state c.args.files.now).openings
+    (g.F.Files.state c.answer_over.new.files).openings
+    c.answer_over.result c.in_ok-question.ensures.exact c.in-Some.is (rw c.new-sound.ensures at c.answer_over.ensures.shown)
 
 pub returns-in-Some-clause-reads : goal.returns-in-Some-clause-reads
 returns-in-Some-clause-reads g c =
@@ -65,13 +64,14 @@ returns-in-None-clause-own g c =
     λ t k. meets_alone _ _ _ _ c.args.words.now c.in_ok-question.question c.answer_without.result c.in_ok-question.ensures.exact c.in-None.is
     (rw c.new-sound.ensures at c.answer_without.ensures.exact)
 
-pub returns-in-None-clause-some : goal.returns-in-None-clause-some
-returns-in-None-clause-some g c = (
-  λ slot name. None,
-  pos 0,
-  meets_alone (Unit {0}) _ _ _ c.args.words.now c.in_ok-question.question c.answer_without.result c.in_ok-question.ensures.exact c.in-None.is
-      (rw c.new-sound.ensures at c.answer_without.ensures.exact),
-)
+pub returns-in-None-clause-shown : goal.returns-in-None-clause-shown
+returns-in-None-clause-shown g c =
+    shown_unopened _ _
+    (g.F.Files.state c.args.files.now).openings
+    (g.F.Files.state c.args.files.now).openings
+    c.answer_without.result refl
+    (shown_alone _ _ c.args.words.now c.in_ok-question.question c.answer_without.result [] c.in_ok-question.ensures.exact c.in-None.is
+    (rw c.new-sound.ensures at c.answer_without.ensures.exact))
 
 pub returns-in_err-question-clause-asked_once : goal.returns-in_err-question-clause-asked_once
 returns-in_err-question-clause-asked_once g c =

@@ -2,13 +2,14 @@ use Rattle.std.proofs.Common.{◌≡◌, Ok, true, ap, arith, refl, rules}
 use Rattle.std.proofs.lemmas.Result.{err_from_is_err_and}
 use Rattle.tide_edge.specs.Doors.{after_next, closed}
 use Rattle.tide_server.specs.Serving.{exchange}
-use Rattle.tide_server.proofs.StepLemmas.{failed, kept_by, kept_on, more_served, next_serving, none_kept, none_served}
+use Rattle.tide_server.proofs.StepLemmas.{failed, failed_passed, kept_by, kept_on, more_served, next_serving, none_kept, none_passed, none_served, passed_on}
 use Rattle.tide_server.proofs.connections.serve_all.Goals as goal
 
 pub loop-taken-init : goal.loop-taken-init
 loop-taken-init g c = record {
   doorway = c.requires.listens;
   kept = none_kept (exchange (g.D.Door.state c.args.door.now) (g.K.Clock.state c.args.clock.now));
+  passed = none_passed c.args.stock.now (exchange (g.D.Door.state c.args.door.now) (g.K.Clock.state c.args.clock.now));
   served = λ t k. none_served c.args.stock.now (exchange (g.D.Door.state c.args.door.now) (g.K.Clock.state c.args.clock.now));
   unasked = λ none. refl;
 }
@@ -44,6 +45,19 @@ returns-in_err-serve_next-clause-kept g c =
     c.loop-taken.invariant.kept
     c.in_err-serve_next.ensures.steps)
 
+pub returns-in_err-serve_next-clause-passed : goal.returns-in_err-serve_next-clause-passed
+returns-in_err-serve_next-clause-passed g c =
+    let p = err_from_is_err_and c.from_residual.result c.from_residual.ensures.1 in
+    rw p.1
+    (failed_passed
+    c.args.stock.now
+    c.in_err-serve_next.field-0.0
+    (exchange (g.D.Door.state c.args.door.now) (g.K.Clock.state c.args.clock.now))
+    (exchange (g.D.Door.state c.loop-taken.door) (g.K.Clock.state c.loop-taken.clock))
+    (exchange (g.D.Door.state c.serve_next.new.door) (g.K.Clock.state c.serve_next.new.clock))
+    c.loop-taken.invariant.passed
+    c.in_err-serve_next.ensures.steps)
+
 pub loop-taken-preserved : goal.loop-taken-preserved
 loop-taken-preserved g c =
     let comes : c.in_ok-serve_next.field-0 ≡ true = search rules in
@@ -58,6 +72,7 @@ loop-taken-preserved g c =
           next_serving c.args.stock.now.port c.loop-taken._taken (g.D.Door.state c.serve_next.new.door).doorway
           c.loop-taken-test.true doorway;
       kept = kept_on c.args.stock.now before now after c.loop-taken.invariant.kept step;
+      passed = passed_on c.args.stock.now before now after c.loop-taken.invariant.passed step;
       served = λ t k.
           more_served c.args.stock.now c.loop-taken._taken before now after t k c.loop-taken.invariant.kept
           (c.loop-taken.invariant.served t k) step;

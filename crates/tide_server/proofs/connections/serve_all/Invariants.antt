@@ -1,6 +1,6 @@
 use Rattle.std.proofs.Common.{◌≡◌, false}
 use Rattle.std.specs.Bool.{IsTrue}
-use Rattle.tide_server.specs.Workings.Steps.{IsKept, WereServed, serving}
+use Rattle.tide_server.specs.Workings.Steps.{HavePassed, IsKept, WereServed, serving}
 use Rattle.tide_server.specs.Serving.{exchange}
 use Rattle.tide_server.proofs.connections.serve_all.Given as goal
 
@@ -8,6 +8,8 @@ abbrev pub invariant-loop-taken : goal.invariant-loop-taken
 invariant-loop-taken g l = record {
   doorway : (g.D.Door.state l.door).doorway ≡ serving l.stock.port l._taken;
   kept : IsKept false false (exchange (g.D.Door.state l.initial.door) (g.K.Clock.state l.initial.clock))
+      (exchange (g.D.Door.state l.door) (g.K.Clock.state l.clock));
+  passed : HavePassed l.stock (exchange (g.D.Door.state l.initial.door) (g.K.Clock.state l.initial.clock))
       (exchange (g.D.Door.state l.door) (g.K.Clock.state l.clock));
   served : IsTrue (g.D.Door.state l.initial.door).is_observable → IsTrue (g.K.Clock.state l.initial.clock).is_observable
       → WereServed l.stock l._taken (exchange (g.D.Door.state l.initial.door) (g.K.Clock.state l.initial.clock))

@@ -10,6 +10,7 @@ returns-in-Ok-clause-ended g c =
       port = c.serve_all.ensures.port;
       listens = c.serve_all.ensures.listens;
       closed = c.serve_all.ensures.closed;
+      passed = c.in-Ok.ensures.passed;
       served = c.in-Ok.ensures.served;
     })
     c.in-Ok.ensures.kept c.in-Ok.ensures.over (rw c.port.ensures at c.tell_port.ensures.1)
@@ -24,6 +25,7 @@ returns-in-Err-clause-ended g c =
       port = c.serve_all.ensures.port;
       listens = c.serve_all.ensures.listens;
       closed = c.serve_all.ensures.closed;
+      passed = c.in-Err.ensures.passed;
       served = c.in-Err.ensures.served;
     })
     c.in-Err.ensures.kept (rw c.port.ensures at c.tell_port.ensures.1) c.refuse.ensures.line.1)

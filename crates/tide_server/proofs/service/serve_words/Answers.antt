@@ -1,9 +1,10 @@
 use Rattle.std.proofs.Common.{inl, inr, false, refl}
 use Rattle.std.specs.Bool.{IsTrue}
 use Rattle.named_files.specs.NoAnswers.{is_unread}
-use Rattle.tide_server.specs.Openings.{handed, stock_from, stock_of}
+use Rattle.tide_server.specs.Openings.{handed, stock_of}
 use Rattle.tide_server.proofs.OpeningLemmas.{files_failed, refused_for, refused_full}
-use Rattle.tide_server.proofs.service.serve.Goals as goal
+use Rattle.tide_server.proofs.StockLemmas.{shown_ready, shown_refused}
+use Rattle.tide_server.proofs.service.serve_words.Goals as goal
 
 pub returns-in-Ok-clause-own_files : goal.returns-in-Ok-clause-own_files
 returns-in-Ok-clause-own_files g c =
@@ -19,22 +20,23 @@ returns-in-Ok-clause-own_files g c =
     refl
     c.refuse.ensures.line.1)
 
-pub returns-in-Ok-clause-some_files : goal.returns-in-Ok-clause-some_files
-returns-in-Ok-clause-some_files g c =
-    let some = c.in-Ok.ensures.some in (
-      some.0,
-      inl (refused_full
-          (Unit {0})
-          (stock_from some.0 c.args.words.now)
-          c.refuse.result
-          (handed (g.F.Files.state c.args.files.now) (g.D.Door.state c.args.door.now) (g.E.Sink.state c.args.err.now) (g.K.Clock.state c.args.clock.now))
-          (handed (g.F.Files.state c.read_stock.new.files) (g.D.Door.state c.args.door.now) (g.E.Sink.state c.refuse.new.err) (g.K.Clock.state c.args.clock.now))
-          c.refuse.ensures.line.0
-          c.refuse.ensures.same
-          refl
-          refl
-          c.refuse.ensures.line.1),
-    )
+pub returns-in-Ok-clause-shown : goal.returns-in-Ok-clause-shown
+returns-in-Ok-clause-shown g c =
+    shown_ready c.args.words.now _ c.refuse.result
+    (handed (g.F.Files.state c.args.files.now) (g.D.Door.state c.args.door.now) (g.E.Sink.state c.args.err.now) (g.K.Clock.state c.args.clock.now))
+    (handed (g.F.Files.state c.read_stock.new.files) (g.D.Door.state c.args.door.now) (g.E.Sink.state c.refuse.new.err) (g.K.Clock.state c.args.clock.now))
+    c.in-Ok.ensures.shown
+    (λ expected is. inl (refused_full
+    (Unit {0})
+    expected
+    c.refuse.result
+    (handed (g.F.Files.state c.args.files.now) (g.D.Door.state c.args.door.now) (g.E.Sink.state c.args.err.now) (g.K.Clock.state c.args.clock.now))
+    (handed (g.F.Files.state c.read_stock.new.files) (g.D.Door.state c.args.door.now) (g.E.Sink.state c.refuse.new.err) (g.K.Clock.state c.args.clock.now))
+    c.refuse.ensures.line.0
+    c.refuse.ensures.same
+    refl
+    refl
+    c.refuse.ensures.line.1))
 
 pub returns-clause-own_files : goal.returns-clause-own_files
 returns-clause-own_files g c =
@@ -50,22 +52,12 @@ returns-clause-own_files g c =
     refl
     c.tell.ensures.told)
 
-pub returns-clause-some_files : goal.returns-clause-some_files
-returns-clause-some_files g c =
-    let some = c.in-Err.ensures.some in (
-      some.0,
-      inl (refused_for
-          (Unit {0})
-          (stock_from some.0 c.args.words.now)
-          c.in-Err.none
-          c.tell.result
-          (handed (g.F.Files.state c.args.files.now) (g.D.Door.state c.args.door.now) (g.E.Sink.state c.args.err.now) (g.K.Clock.state c.args.clock.now))
-          (handed (g.F.Files.state c.read_stock.new.files) (g.D.Door.state c.args.door.now) (g.E.Sink.state c.tell.new.err) (g.K.Clock.state c.args.clock.now))
-          some.1
-          refl
-          refl
-          c.tell.ensures.told),
-    )
+pub returns-clause-shown : goal.returns-clause-shown
+returns-clause-shown g c =
+    shown_refused c.args.words.now c.in-Err.none c.tell.result
+    (handed (g.F.Files.state c.args.files.now) (g.D.Door.state c.args.door.now) (g.E.Sink.state c.args.err.now) (g.K.Clock.state c.args.clock.now))
+    (handed (g.F.Files.state c.read_stock.new.files) (g.D.Door.state c.args.door.now) (g.E.Sink.state c.tell.new.err) (g.K.Clock.state c.args.clock.now))
+    c.in-Err.ensures.shown refl refl c.tell.ensures.told
 
 pub returns-in-Ok-clause-read_fault : goal.returns-in-Ok-clause-read_fault
 returns-in-Ok-clause-read_fault g c =
@@ -91,16 +83,17 @@ returns-in-Ok-new-clause-own_files g c =
       c.serve_stock.ensures.ended.listened (g.F.Files.state c.args.files.now) (g.F.Files.state c.read_stock.new.files),
     )
 
-pub returns-in-Ok-new-clause-some_files : goal.returns-in-Ok-new-clause-some_files
-returns-in-Ok-new-clause-some_files g c =
-    let some = c.in-Ok.ensures.some in (
-      some.0,
-      inr (
-        _,
-        some.1,
-        c.serve_stock.ensures.ended.listened (g.F.Files.state c.args.files.now) (g.F.Files.state c.read_stock.new.files),
-      ),
-    )
+pub returns-in-Ok-new-clause-shown : goal.returns-in-Ok-new-clause-shown
+returns-in-Ok-new-clause-shown g c =
+    shown_ready c.args.words.now _ c.serve_stock.result
+    (handed (g.F.Files.state c.args.files.now) (g.D.Door.state c.args.door.now) (g.E.Sink.state c.args.err.now) (g.K.Clock.state c.args.clock.now))
+    (handed (g.F.Files.state c.read_stock.new.files) (g.D.Door.state c.serve_stock.new.door) (g.E.Sink.state c.serve_stock.new.err) (g.K.Clock.state c.serve_stock.new.clock))
+    c.in-Ok.ensures.shown
+    (λ expected is. inr (
+      _,
+      is,
+      c.serve_stock.ensures.ended.listened (g.F.Files.state c.args.files.now) (g.F.Files.state c.read_stock.new.files),
+    ))
 
 pub returns-in-Ok-new-clause-unlistened : goal.returns-in-Ok-new-clause-unlistened
 returns-in-Ok-new-clause-unlistened g c =

@@ -1,0 +1,42 @@
+-- A fault whose status isn't that of no memory is the expected one.
+use Rattle.std.proofs.Common.{◌≡◌, ◌∙◌, Result, Err, inl, inr, refl}
+use Rattle.decimal_text.specs.Expected.{Excuses}
+use Rattle.harmonics_text.specs.declared.fault.BookFault.TheVariants as form
+use Rattle.question.specs.declared.fault.AskFault.TheVariants as ask
+use Rattle.station_table.specs.declared.fault.OffsetFault.TheVariants as table
+use Rattle.tide_edge.specs.SinkStates.{SinkState}
+use Rattle.tide_fault.specs.declared.fault.Fault.TheVariants.{Ask, NoSheet, TooLong, Book, Offsets, BadZone, Refused}
+use Rattle.tide_fault.specs.declared.refusal.Refusal.TheVariants as refusals
+use Rattle.tide_fault.specs.declared.status.Status.{Status}
+use Rattle.tide_fault.specs.declared.status.Status.TheVariants.{NoMemory}
+use Rattle.named_files.specs.declared.no_answer.NoAnswer.{NoAnswer}
+use Rattle.named_files.specs.declared.no_answer.NoAnswer.TheVariants.{Unread, Told}
+use Rattle.named_files.specs.declared.no_answer.NoAnswer.TheVariants as none_of
+use Rattle.named_files.specs.NoAnswers.{source_of, status_of}
+use Rattle.named_files.specs.Telling.{Tells}
+
+settles : {T : Type 0} (expected : Result T NoAnswer) (none : NoAnswer) → Excuses (source_of none) (Unit {0}) expected none
+    → ¬ (status_of none ≡ NoMemory) → expected ≡ Err none
+settles expected Unread excuses other = excuses tt
+settles expected (Told (Ask ask.NoMemory)) excuses other = absurd (other refl)
+settles expected (Told (Ask _)) excuses other = excuses
+settles expected (Told (NoSheet word)) excuses other = excuses
+settles expected (Told (TooLong slot)) excuses other = excuses
+settles expected (Told (Book form.NoMemory)) excuses other = absurd (other refl)
+settles expected (Told (Book (form.At line why))) excuses other = excuses
+settles expected (Told (Offsets table.NoMemory)) excuses other = absurd (other refl)
+settles expected (Told (Offsets (table.At row why))) excuses other = excuses
+settles expected (Told BadZone) excuses other = excuses
+settles expected (Told (Refused refusals.NoMemory)) excuses other = absurd (other refl)
+settles expected (Told (Refused _)) excuses other = excuses
+settles expected (none_of.Refused refusals.NoMemory rows) excuses other = absurd (other refl)
+settles expected (none_of.Refused _ rows) excuses other = excuses
+
+-- the same of the status with which it was written
+pub told_settles : {T : Type 0} (expected : Result T NoAnswer) (none : NoAnswer) (status : Status) (before after : SinkState)
+    → Excuses (source_of none) (Unit {0}) expected none → Tells none status before after → ¬ (status ≡ NoMemory) → expected ≡ Err none
+told_settles expected none status before after excuses told other =
+    elim told [
+      | inl t ↦ settles expected none excuses (λ is. other (t.0 ∙ is))
+      | inr t ↦ absurd (other t.0)
+    ]

@@ -1,0 +1,66 @@
+-- What a run promises, whatever the objects are that it works on (this project).
+use Rattle.std.specs.Prelude.{◌≡◌, ◌⊎◌, ℕ, ℤ, List, IsTrue, Ok}
+use Rattle.report_sheets.specs.Sheets.{SheetMeaning}
+use Rattle.named_files.specs.NoAnswers.{is_read_fault}
+use Rattle.tide_edge.specs.Clocks.{ClockState, clock_after, next_minute}
+use Rattle.tide_edge.specs.FileStates.{FilesState}
+use Rattle.tide_edge.specs.SinkStates.{SinkState}
+use Rattle.tide_fault.specs.declared.status.Status.{Status}
+use Rattle.tide_fault.specs.declared.status.Status.TheVariants.{ReadFault}
+use Rattle.tide_desk.specs.Answers.{AsksClock, HasFiles, NamesFile, allowed_by, answer_of, asked_of}
+use Rattle.tide_desk.specs.Outcomes.{EndsAs, IsFirm, IsSilent, IsUntouched, Outputs, Sources, WentOn, is_settled, outputs, sources}
+use Rattle.tide_desk.specs.Shown.{EndsAsShown}
+
+-- the objects that a run works on
+pub record Objects (F O E K : Type 0) : Type 0 where
+  pub files : F
+  pub out : O
+  pub err : E
+  pub clock : K
+
+abbrev pub objects : {F O E K : Type 0} → F → O → E → K → Objects F O E K
+objects files out err clock = record { files = files; out = out; err = err; clock = clock }
+
+-- the states of objects of any kind
+pub record States (F O E K : Type 0) : Type 0 where
+  pub files : F → FilesState
+  pub out : O → SinkState
+  pub err : E → SinkState
+  pub clock : K → ClockState
+
+abbrev pub states : {F O E K : Type 0} → (F → FilesState) → (O → SinkState) → (E → SinkState) → (K → ClockState) → States F O E K
+states files out err clock = record { files = files; out = out; err = err; clock = clock }
+
+abbrev pub sources_of : {F O E K : Type 0} → States F O E K → Objects F O E K → Sources
+sources_of s o = sources (s.files o.files) (s.clock o.clock)
+
+abbrev pub outputs_of : {F O E K : Type 0} → States F O E K → Objects F O E K → Outputs
+outputs_of s o = outputs (s.out o.out) (s.err o.err)
+
+-- The words were answered, with these sheets for a report.
+--
+-- shown: the run ends as by the answer to the words by the files that it opened, as far as their bytes came, and by the minute that the
+-- clock gave; it opened what the words name, in their order.
+-- own_files: over observable objects it ends as by the answer over what they hold, unless reading has failed.
+-- reads: how much was opened, read and asked; and a fault of reading is one of the files or of the clock.
+-- unwritten, untold: what stays untouched without an answer, and with one.
+-- unopened, unread, read_last, read_once: when the files and the clock stay untouched, and when the clock is read.
+pub record AnswersAs {F O E K : Type 0} (s : States F O E K) (sheets : List SheetMeaning) (words : List (List ℕ)) (status : Status)
+    (before after : Objects F O E K) : Type 0 where
+  pub shown : EndsAsShown sheets words (sources_of s before) (sources_of s after) status (outputs_of s before) (outputs_of s after)
+  pub own_files : IsTrue (s.files before.files).store.is_observable
+      → (AsksClock (asked_of sheets words) → IsTrue (s.clock before.clock).is_observable)
+      → IsFirm (AsksClock (asked_of sheets words)) (sources_of s before) (sources_of s after) ⊎ (¬ (status ≡ ReadFault))
+      → EndsAs (answer_of sheets (s.files before.files).store.folder (next_minute (s.clock before.clock)) words) status
+      (outputs_of s before) (outputs_of s after)
+  pub reads : WentOn (is_read_fault status) (AsksClock (asked_of sheets words)) (allowed_by (asked_of sheets words))
+      (sources_of s before) (sources_of s after)
+  pub unwritten : IsUntouched status before.out after.out
+  pub untold : IsSilent status before.err after.err
+  pub unopened : ¬ (NamesFile (asked_of sheets words)) → after.files ≡ before.files
+  pub unread : ¬ (AsksClock (asked_of sheets words)) → after.clock ≡ before.clock
+  pub read_last : IsTrue (s.files before.files).store.is_observable
+      → ¬ (HasFiles (λ slot. (s.files before.files).store.folder) (asked_of sheets words)) → after.clock ≡ before.clock
+  pub read_once : IsTrue (s.files before.files).store.is_observable → AsksClock (asked_of sheets words)
+      → HasFiles (λ slot. (s.files before.files).store.folder) (asked_of sheets words) → IsTrue (is_settled status)
+      → (minute : ℤ) × (s.clock after.clock ≡ clock_after (Ok minute) (s.clock before.clock))

@@ -1,0 +1,85 @@
+-- What the words are answered by what was opened for them and the minute that the clock gave (this project).
+use Rattle.std.specs.Prelude.{◌≡◌, ℕ, ℤ, pos, if◌then◌else◌, List, [], ◌++◌, length, map, Option, Some, None, Result, Ok, Err, slice_get}
+use Rattle.decimal_text.specs.Expected.{◌>>=◌}
+use Rattle.question.specs.declared.command.Command.{Command}
+use Rattle.question.specs.declared.question.Question.{Question}
+use Rattle.report_sheets.specs.Sheets.{SheetMeaning}
+use Rattle.tide_answer.specs.declared.text.Answer.{Answer}
+use Rattle.tide_answer.specs.Answers.{answered_alone}
+use Rattle.tide_edge.specs.Clocks.{ClockState}
+use Rattle.tide_edge.specs.FileStates.{Opening, openings_of}
+use Rattle.tide_fault.specs.declared.fault.Fault.{Fault}
+use Rattle.tide_fault.specs.declared.slot.Slot.{Slot}
+use Rattle.tide_fault.specs.declared.status.Status.{Status}
+use Rattle.tide_fault.specs.declared.status.Status.TheVariants.{NoMemory}
+use Rattle.named_files.specs.declared.no_answer.NoAnswer.{NoAnswer}
+use Rattle.named_files.specs.declared.no_answer.NoAnswer.TheVariants.{Unread}
+use Rattle.named_files.specs.NoAnswers.{told, refused_over}
+use Rattle.named_files.specs.Opened.{failing_file, folders_shown, names_to}
+use Rattle.named_files.specs.Readings.{Folders, files_in}
+use Rattle.tide_desk.specs.Answers.{answered_with, asked_of, asks_clock, given_with, is_report, refused_from}
+use Rattle.tide_desk.specs.Outcomes.{EndsAs, Outputs, Sources}
+
+-- ---- The answer, if the clock may fail
+
+-- the minute of a command that reads the clock; of any other, 0
+abbrev pub minute_given : Option ℤ → Result ℤ NoAnswer
+minute_given None = Err Unread
+minute_given (Some minute) = Ok minute
+
+abbrev pub minute_read : Command → Option ℤ → Result ℤ NoAnswer
+minute_read command given = if asks_clock command then minute_given given else Ok (pos 0)
+
+-- as the answer over files and a minute, but that the clock, which is read behind all files, may have given none
+unfoldable pub shown_over : List SheetMeaning → Folders → Option ℤ → Question → List ℕ → Result Answer NoAnswer
+shown_over sheets folders given question name = do
+  read ← files_in folders question name
+  now ← minute_read question.command given
+  refused_over read.table
+      (answered_with (is_report question.command) sheets read.book read.table question (given_with read now))
+
+abbrev pub shown_by : List SheetMeaning → Folders → Option ℤ → Question → Option (List ℕ) → Result Answer NoAnswer
+shown_by sheets folders given question None = told (refused_from (answered_alone question))
+shown_by sheets folders given question (Some name) = shown_over sheets folders given question name
+
+unfoldable pub answer_shown : List SheetMeaning → Folders → Option ℤ → List (List ℕ) → Result Answer NoAnswer
+answer_shown sheets folders given words = do
+  question ← told (asked_of sheets words)
+  shown_by sheets folders given question question.file
+
+-- ---- What was opened, and the minute
+
+-- the names that the words want opened, in their order, up to the file that is why there is no answer
+abbrev pub names_by : Question → Option (List ℕ) → Option Slot → List (List ℕ)
+names_by question None why = []
+names_by question (Some name) why = names_to name question why
+
+abbrev pub names_wanted : Result Question Fault → Option Slot → List (List ℕ)
+names_wanted (Ok question) why = names_by question question.file why
+names_wanted (Err fault) why = []
+
+-- the files of what the words ask, as these openings show them
+abbrev pub folders_by : Result Question Fault → List Opening → Folders
+folders_by (Ok question) openings = folders_shown question openings
+folders_by (Err fault) openings = λ slot name. None
+
+-- the minute that a clock gave in between, if it gave one
+abbrev pub given_between : ClockState → ClockState → Option ℤ
+given_between before after = slice_get after.given (length before.given)
+
+-- the answer to the words by these openings and by what the clock gave in between
+abbrev pub answer_by : List SheetMeaning → List (List ℕ) → List Opening → ClockState → ClockState → Result Answer NoAnswer
+answer_by sheets words openings before after =
+    answer_shown sheets (folders_by (asked_of sheets words) openings) (given_between before after) words
+
+-- A run ends as by the answer to the words by what it opened and by what the clock gave. What it opened are the first of the files that
+-- the words name, in their order, each once; and unless memory ran out, none behind the one that is why there is no answer.
+pub record EndsAsShown (sheets : List SheetMeaning) (words : List (List ℕ)) (before after : Sources) (status : Status)
+    (unwritten written : Outputs) : Type 0 where
+  pub openings : List Opening
+  pub all : openings_of after.files.openings ≡ openings_of before.files.openings ++ openings
+  pub unopened : List (List ℕ)
+  pub names : names_wanted (asked_of sheets words) None ≡ map (λ o. o.name) openings ++ unopened
+  pub last : ¬ (status ≡ NoMemory) → (behind : List (List ℕ))
+      × (names_wanted (asked_of sheets words) (failing_file (answer_by sheets words openings before.clock after.clock)) ≡ map (λ o. o.name) openings ++ behind)
+  pub ends : EndsAs (answer_by sheets words openings before.clock after.clock) status unwritten written

@@ -1,0 +1,73 @@
+-- What passed over each connection of a server: the bytes that came, the reply to them, and the minute of the reply (this project).
+use Rattle.std.specs.Prelude.{◌≡◌, ◌⊎◌, ◌≤◌, ◌+◌, ◌&&◌, not, ℕ, ℤ, Bool, true, false, IsTrue, List, [], ◌∷◌, ◌++◌, length, take, Option, Some, None, is_some}
+use Rattle.tide_edge.specs.Doors.{Connection, connections_of}
+use Rattle.tide_edge.specs.Faults.{faults_after}
+use Rattle.tide_edge.specs.FileStates.{listed}
+use Rattle.tide_edge.specs.declared.piece.TheConstants.{PIECE}
+use Rattle.tide_server.specs.declared.stock.Stock.{Stock}
+use Rattle.tide_server.specs.Serving.{Answers, Exchange, IsEnough, has_byte}
+
+-- ---- One connection
+
+-- It was read until its bytes were enough, its end was found, or a read failed. Nothing was read once they were enough: those
+-- before the last read weren't, and that gave one piece at most.
+pub record IsReadEnough (c : Connection) : Type 0 where
+  pub before : ℕ
+  pub waits : ¬ (IsEnough (take before c.came))
+  pub one : length c.came ≤ before + PIECE
+  pub until : (c.is_ended ≡ true) ⊎ ((c.read_failed ≡ true) ⊎ IsEnough c.came)
+
+-- The clock is read for a connection that has a byte and of which no read failed, and for no other.
+abbrev pub reads_clock : Connection → Bool
+reads_clock c = not c.read_failed && has_byte c.came
+
+-- an answer was sent whole, or a proper prefix of one if a write failed
+abbrev pub IsSent : Bool → (List ℕ → Type 0) → List ℕ → Type 0
+IsSent false answers sent = answers sent
+IsSent true answers sent = (rest : List ℕ) × ¬ (rest ≡ []) × answers (sent ++ rest)
+
+pub record IsUnanswered (c : Connection) : Type 0 where
+  pub sent : c.sent ≡ []
+  pub unfailed : c.write_failed ≡ false
+
+-- A connection was answered at the minute that the clock gave for it. If none was given, nothing was sent.
+abbrev pub IsAnswered : Stock → Connection → Option ℤ → Type 0
+IsAnswered stock c None = IsUnanswered c
+IsAnswered stock c (Some minute) = IsSent c.write_failed (Answers stock minute c.came) c.sent
+
+pub record IsServed (stock : Stock) (c : Connection) (minute : Option ℤ) : Type 0 where
+  pub read : IsReadEnough c
+  pub asked : is_some minute ≡ reads_clock c
+  pub answered : IsAnswered stock c minute
+
+-- the clock failed for it, and nothing was sent
+pub record IsLeft (c : Connection) : Type 0 where
+  pub read : IsReadEnough c
+  pub asked : reads_clock c ≡ true
+  pub unanswered : IsUnanswered c
+
+-- ---- One after the other
+
+-- these were served in this order, at the minutes given
+unfoldable pub AreServed : Stock → List Connection → List ℤ → Type 0
+AreServed stock [] minutes = minutes ≡ []
+AreServed stock (c ∷ more) minutes =
+    (minute : Option ℤ) × (later : List ℤ) × (minutes ≡ listed minute ++ later) × IsServed stock c minute × AreServed stock more later
+
+-- the connection for which the clock failed, if it did
+abbrev pub IsLast : Option Connection → Type 0
+IsLast None = Unit {0}
+IsLast (Some c) = IsLeft c
+
+-- What passed over a door and a clock. The clock was read for nothing else, and failed exactly for the connection that was left
+-- without a reply, which is the last one.
+pub record HasServed (stock : Stock) (has_failed : Bool) (before after : Exchange) : Type 0 where
+  pub over : List Connection
+  pub left : Option Connection
+  pub minutes : List ℤ
+  pub connections : connections_of after.door.connections ≡ connections_of before.door.connections ++ over ++ listed left
+  pub given : after.clock.given ≡ before.clock.given ++ minutes
+  pub clock_faults : after.clock.faults ≡ faults_after (is_some left) before.clock.faults
+  pub served : AreServed stock over minutes
+  pub last : IsLast left
+  pub ends : IsTrue (is_some left) → IsTrue has_failed

@@ -1,0 +1,51 @@
+-- What a server serves from by the files that it opened (this project).
+use Rattle.std.specs.Prelude.{◌≡◌, ℕ, List, [], ◌∷◌, ◌++◌, map, Option, Some, None, Result, Ok, Err}
+use Rattle.question.specs.declared.question.Question.{Question}
+use Rattle.tide_edge.specs.FileStates.{Opening, listed, openings_of}
+use Rattle.tide_fault.specs.declared.fault.Fault.{Fault}
+use Rattle.tide_fault.specs.declared.slot.Slot.{Slot}
+use Rattle.tide_fault.specs.declared.slot.Slot.TheVariants as slots
+use Rattle.tide_fault.specs.declared.status.Status.{Status}
+use Rattle.tide_fault.specs.declared.status.Status.TheVariants.{NoMemory}
+use Rattle.named_files.specs.declared.no_answer.NoAnswer.{NoAnswer}
+use Rattle.named_files.specs.Opened.{failing_file, folders_shown}
+use Rattle.named_files.specs.Readings.{Folders}
+use Rattle.tide_server.specs.declared.stock.Stock.{Stock}
+use Rattle.tide_server.specs.Openings.{EndsAs, Handed, service_of, stock_from}
+
+-- the names of what a server serves from, the first of this name, up to the file that is why there is nothing to serve
+abbrev pub stock_names : List ℕ → Question → Option Slot → List (List ℕ)
+stock_names name question None = name ∷ listed question.offsets
+stock_names name question (Some slots.File) = name ∷ []
+stock_names name question (Some slots.Offsets) = name ∷ listed question.offsets
+stock_names name question (Some slots.Zone) = name ∷ listed question.offsets
+stock_names name question (Some slots.Certificate) = name ∷ listed question.offsets
+
+abbrev pub names_by : Question → Option (List ℕ) → Option Slot → List (List ℕ)
+names_by question None why = []
+names_by question (Some name) why = stock_names name question why
+
+-- those that the words want opened
+abbrev pub names_served : Result Question Fault → Option Slot → List (List ℕ)
+names_served (Ok question) why = names_by question question.file why
+names_served (Err fault) why = []
+
+-- the files of what the words ask, as these openings show them
+abbrev pub folders_by : Result Question Fault → List Opening → Folders
+folders_by (Ok question) openings = folders_shown question openings
+folders_by (Err fault) openings = λ slot name. None
+
+-- what the words serve from by these openings
+abbrev pub stock_by_openings : List (List ℕ) → List Opening → Result Stock NoAnswer
+stock_by_openings words openings = stock_from (folders_by (service_of words) openings) words
+
+-- A server ends as by what the words serve from by what it opened. What it opened are the first of the files that the words name, in their
+-- order, each once; and unless memory ran out, none behind the one that is why there is nothing to serve.
+pub record EndsAsShown (words : List (List ℕ)) (status : Status) (before after : Handed) : Type 0 where
+  pub openings : List Opening
+  pub all : openings_of after.files.openings ≡ openings_of before.files.openings ++ openings
+  pub unopened : List (List ℕ)
+  pub names : names_served (service_of words) None ≡ map (λ o. o.name) openings ++ unopened
+  pub last : ¬ (status ≡ NoMemory) → (behind : List (List ℕ))
+      × (names_served (service_of words) (failing_file (stock_by_openings words openings)) ≡ map (λ o. o.name) openings ++ behind)
+  pub ends : EndsAs (Unit {0}) (stock_by_openings words openings) status before after
