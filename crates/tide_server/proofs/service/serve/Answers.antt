@@ -1,8 +1,8 @@
-use Rattle.std.proofs.Common.{inl, inr, false, refl}
+use Rattle.std.proofs.Common.{◌∙◌, None, inl, inr, false, refl, sym}
 use Rattle.std.specs.Bool.{IsTrue}
 use Rattle.named_files.specs.NoAnswers.{is_unread}
 use Rattle.tide_server.specs.Openings.{handed, stock_from, stock_of}
-use Rattle.tide_server.proofs.OpeningLemmas.{files_failed, refused_for, refused_full}
+use Rattle.tide_server.proofs.OpeningLemmas.{files_failed, refused_another, refused_for, refused_full}
 use Rattle.tide_server.proofs.service.serve.Goals as goal
 
 pub returns-in-Ok-clause-own_files : goal.returns-in-Ok-clause-own_files
@@ -10,14 +10,14 @@ returns-in-Ok-clause-own_files g c =
     λ t. inl (refused_full
     (IsTrue (g.F.Files.state c.args.files.now).store.is_steady)
     (stock_of (g.F.Files.state c.args.files.now).store.folder c.args.words.now)
-    c.refuse.result
+    c.refuse-in-Err-new.result
     (handed (g.F.Files.state c.args.files.now) (g.D.Door.state c.args.door.now) (g.E.Sink.state c.args.err.now) (g.K.Clock.state c.args.clock.now))
-    (handed (g.F.Files.state c.read_stock.new.files) (g.D.Door.state c.args.door.now) (g.E.Sink.state c.refuse.new.err) (g.K.Clock.state c.args.clock.now))
-    c.refuse.ensures.line.0
-    c.refuse.ensures.same
+    (handed (g.F.Files.state c.read_stock.new.files) (g.D.Door.state c.args.door.now) (g.E.Sink.state c.refuse-in-Err-new.new.err) (g.K.Clock.state c.args.clock.now))
+    c.refuse-in-Err-new.ensures.line.0
+    c.refuse-in-Err-new.ensures.same
     refl
     refl
-    c.refuse.ensures.line.1)
+    c.refuse-in-Err-new.ensures.line.1)
 
 pub returns-in-Ok-clause-some_files : goal.returns-in-Ok-clause-some_files
 returns-in-Ok-clause-some_files g c =
@@ -26,14 +26,14 @@ returns-in-Ok-clause-some_files g c =
       inl (refused_full
           (Unit {0})
           (stock_from some.0 c.args.words.now)
-          c.refuse.result
+          c.refuse-in-Err-new.result
           (handed (g.F.Files.state c.args.files.now) (g.D.Door.state c.args.door.now) (g.E.Sink.state c.args.err.now) (g.K.Clock.state c.args.clock.now))
-          (handed (g.F.Files.state c.read_stock.new.files) (g.D.Door.state c.args.door.now) (g.E.Sink.state c.refuse.new.err) (g.K.Clock.state c.args.clock.now))
-          c.refuse.ensures.line.0
-          c.refuse.ensures.same
+          (handed (g.F.Files.state c.read_stock.new.files) (g.D.Door.state c.args.door.now) (g.E.Sink.state c.refuse-in-Err-new.new.err) (g.K.Clock.state c.args.clock.now))
+          c.refuse-in-Err-new.ensures.line.0
+          c.refuse-in-Err-new.ensures.same
           refl
           refl
-          c.refuse.ensures.line.1),
+          c.refuse-in-Err-new.ensures.line.1),
     )
 
 pub returns-clause-own_files : goal.returns-clause-own_files
@@ -69,10 +69,10 @@ returns-clause-some_files g c =
 
 pub returns-in-Ok-clause-read_fault : goal.returns-in-Ok-clause-read_fault
 returns-in-Ok-clause-read_fault g c =
-    rw c.refuse.ensures.same
+    rw c.refuse-in-Err-new.ensures.same
     (files_failed false
     (handed (g.F.Files.state c.args.files.now) (g.D.Door.state c.args.door.now) (g.E.Sink.state c.args.err.now) (g.K.Clock.state c.args.clock.now))
-    (handed (g.F.Files.state c.read_stock.new.files) (g.D.Door.state c.args.door.now) (g.E.Sink.state c.refuse.new.err) (g.K.Clock.state c.args.clock.now))
+    (handed (g.F.Files.state c.read_stock.new.files) (g.D.Door.state c.args.door.now) (g.E.Sink.state c.refuse-in-Err-new.new.err) (g.K.Clock.state c.args.clock.now))
     c.in-Ok.ensures.read.faults refl refl)
 
 pub returns-clause-read_fault : goal.returns-clause-read_fault
@@ -112,3 +112,47 @@ returns-in-Ok-new-clause-unasked g c =
     let listened = c.serve_stock.ensures.ended.listened (g.F.Files.state c.args.files.now) (g.F.Files.state c.read_stock.new.files) in
     let asked = listened.asked in
     λ took. elim took [ inl none ↦ absurd (cc) | inr none ↦ c.serve_stock.ensures.unasked none ]
+
+pub returns-then-names_another-clause-own_files : goal.returns-then-names_another-clause-own_files
+returns-then-names_another-clause-own_files g c =
+    let another = sym c.names_another.ensures ∙ c.if-names_another.true in
+    λ t. inl (refused_another
+    (IsTrue (g.F.Files.state c.args.files.now).store.is_steady)
+    (λ slot. (g.F.Files.state c.args.files.now).store.folder)
+    c.args.words.now
+    c.refuse.result
+    (handed (g.F.Files.state c.args.files.now) (g.D.Door.state c.args.door.now) (g.E.Sink.state c.args.err.now) (g.K.Clock.state c.args.clock.now))
+    (handed (g.F.Files.state c.args.files.now) (g.D.Door.state c.args.door.now) (g.E.Sink.state c.refuse.new.err) (g.K.Clock.state c.args.clock.now))
+    c.refuse.ensures.line.0
+    another
+    c.refuse.ensures.same
+    refl
+    refl
+    c.refuse.ensures.line.1)
+
+pub returns-then-names_another-clause-some_files : goal.returns-then-names_another-clause-some_files
+returns-then-names_another-clause-some_files g c =
+    let another = sym c.names_another.ensures ∙ c.if-names_another.true in (
+      λ slot name. None,
+      inl (refused_another
+          (Unit {0})
+          (λ slot name. None)
+          c.args.words.now
+          c.refuse.result
+          (handed (g.F.Files.state c.args.files.now) (g.D.Door.state c.args.door.now) (g.E.Sink.state c.args.err.now) (g.K.Clock.state c.args.clock.now))
+          (handed (g.F.Files.state c.args.files.now) (g.D.Door.state c.args.door.now) (g.E.Sink.state c.refuse.new.err) (g.K.Clock.state c.args.clock.now))
+          c.refuse.ensures.line.0
+          another
+          c.refuse.ensures.same
+          refl
+          refl
+          c.refuse.ensures.line.1),
+    )
+
+pub returns-then-names_another-clause-read_fault : goal.returns-then-names_another-clause-read_fault
+returns-then-names_another-clause-read_fault g c =
+    rw c.refuse.ensures.same
+    (files_failed false
+    (handed (g.F.Files.state c.args.files.now) (g.D.Door.state c.args.door.now) (g.E.Sink.state c.args.err.now) (g.K.Clock.state c.args.clock.now))
+    (handed (g.F.Files.state c.args.files.now) (g.D.Door.state c.args.door.now) (g.E.Sink.state c.refuse.new.err) (g.K.Clock.state c.args.clock.now))
+    refl refl refl)
