@@ -2,6 +2,7 @@
 
 mod coming;
 mod hours;
+mod minute_transcript;
 mod replies;
 mod serving;
 

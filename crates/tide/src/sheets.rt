@@ -43,7 +43,5 @@ pub fn respond_with_sheets<F: Files, D: Door, O: Sink, E: Sink, K: Clock>(
     sheets.push(Box::new(alloc, Ranges::new(alloc, MOST_COUNTED))?)?;
     sheets.push(Box::new(alloc, FirstLines::new(alloc, MOST_FIRST))?)?;
     sheets.push(Box::new(alloc, IcalSheet::new(alloc, MOST_IN_CALENDAR))?)?;
-    Ok(respond(
-        alloc, words, files, door, out, err, clock, sheets,
-    ))
+    Ok(respond(alloc, words, files, door, out, err, clock, sheets))
 }

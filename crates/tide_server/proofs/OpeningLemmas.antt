@@ -1,15 +1,18 @@
 -- What a server serves from, and why it serves nobody.
 use Rattle.std.proofs.Common.{◌≡◌, ℕ, Bool, true, false, List, [], Option, Some, None, Result, Ok, Err, ap, inl, inr, sym, subst, refl, ◌∙◌}
+use Rattle.std.specs.Bool.{IsTrue}
 use Rattle.std.specs.Prelude.{codes}
-use Rattle.question.specs.declared.fault.AskFault.TheVariants.{MissingKey}
+use Rattle.question.specs.declared.fault.AskFault.TheVariants.{MissingKey, UnknownCommand}
 use Rattle.question.specs.declared.key.Key.TheVariants as keys
 use Rattle.question.specs.declared.question.Question.{Question}
+use Rattle.question.specs.Words.{pairs_of}
 use Rattle.tide_fault.specs.declared.fault.Fault.{Fault}
 use Rattle.tide_fault.specs.declared.fault.Fault.TheVariants.{Ask, Refused}
 use Rattle.tide_fault.specs.declared.refusal.Refusal.TheVariants as refusals
 use Rattle.tide_fault.specs.declared.slot.Slot.TheVariants as slots
 use Rattle.tide_fault.specs.declared.status.Status.{Status}
-use Rattle.tide_fault.specs.declared.status.Status.TheVariants.{NoMemory}
+use Rattle.tide_fault.specs.declared.status.Status.TheVariants.{NoMemory, Words}
+use Rattle.tide_fault.specs.Faults.{ask_line, line_of as fault_line_of}
 use Rattle.decimal_text.specs.Expected.{Excuses, Meets}
 use Rattle.tide_edge.specs.Faults.{faults_after}
 use Rattle.tide_edge.specs.FileStates.{FilesState}
@@ -22,7 +25,7 @@ use Rattle.named_files.specs.NoAnswers.{source_of, line_of}
 use Rattle.named_files.specs.Readings.{Folders, allowed_for, limit_of}
 use Rattle.named_files.specs.Telling.{Tells}
 use Rattle.tide_server.specs.declared.stock.Stock.{Stock}
-use Rattle.tide_server.specs.Openings.{EndedBy, Handed, IsRefused, files_asked, stock_by, stock_named}
+use Rattle.tide_server.specs.Openings.{EndedBy, Handed, IsRefused, asks_another, files_asked, service_of, stock_by, stock_from, stock_named}
 
 -- ---- By the name of a file
 
@@ -148,6 +151,34 @@ refused_full firm expected status before after failed full door clock wrote = re
   line = codes "no memory\n";
   said = inr (full, refl);
   wrote = wrote_one before.err after.err failed (codes "no memory\n") wrote;
+  door = door;
+  clock = clock;
+}
+
+-- ---- Another command
+
+-- the words have no question then
+pub another_asked : (words : List (List ℕ)) → IsTrue (asks_another (pairs_of words)) → service_of words ≡ Err (Ask UnknownCommand)
+unfolding service_of
+another_asked words is = rw is refl
+
+another_stock : (folders : Folders) (words : List (List ℕ)) → service_of words ≡ Err (Ask UnknownCommand)
+    → stock_from folders words ≡ Err (Told (Ask UnknownCommand))
+unfolding stock_from
+another_stock folders words is = rw is refl
+
+-- nobody was served, since the words have another command
+pub refused_another : (firm : Type 0) (folders : Folders) (words : List (List ℕ)) (status : Status) (before after : Handed) (failed : Bool)
+    → IsTrue (asks_another (pairs_of words)) → status ≡ Words → after.door ≡ before.door → after.clock ≡ before.clock
+    → Wrote before.err after.err failed (codes "words: unknown command\n")
+    → IsRefused firm (stock_from folders words) status before after
+unfolding ask_line fault_line_of
+refused_another firm folders words status before after failed another is door clock wrote = record {
+  why = Told (Ask UnknownCommand);
+  excused = another_stock folders words (another_asked words another);
+  line = codes "words: unknown command\n";
+  said = inl (is, refl);
+  wrote = wrote_one before.err after.err failed (codes "words: unknown command\n") wrote;
   door = door;
   clock = clock;
 }

@@ -24,7 +24,7 @@ use Rattle.named_files.proofs.SettledLemmas.{told_settles}
 use Rattle.named_files.specs.Telling.{Tells}
 use Rattle.tide_server.proofs.OpeningLemmas.{refused_for}
 use Rattle.tide_server.specs.declared.stock.Stock.{Stock}
-use Rattle.tide_server.specs.Openings.{EndsAs, Handed, service_of, stock_by, stock_from, stock_named}
+use Rattle.tide_server.specs.Openings.{EndsAs, Handed, IsRefused, service_of, stock_by, stock_from, stock_named}
 use Rattle.tide_server.specs.Shown.{EndsAsShown, names_by, names_served, stock_by_openings, stock_names}
 
 -- ---- The names up to a fault
@@ -208,3 +208,14 @@ shown_refused words none status before after shown door clock told =
       last = λ other. (shown.unopened, rw (told_settles expected none status before.err after.err shown.answer told other) shown.names);
       ends = inl (refused_for (Unit {0}) expected none status before after shown.answer door clock told);
     }
+
+pub shown_another : (words : List (List ℕ)) (status : Status) (before after : Handed) → after.files ≡ before.files
+    → IsRefused (Unit {0}) (stock_by_openings words []) status before after → EndsAsShown words status before after
+shown_another words status before after same refused = record {
+  openings = [];
+  all = ap (λ files. openings_of files.openings) same ∙ sym (append-nil (openings_of before.files.openings));
+  unopened = names_served (service_of words) None;
+  names = refl;
+  last = λ other. (names_served (service_of words) (failing_file (stock_by_openings words [])), refl);
+  ends = inl refused;
+}

@@ -14,13 +14,13 @@ use Rattle.tide_fault.specs.declared.fault.Fault.{Fault}
 use Rattle.tide_fault.specs.declared.fault.Fault.TheVariants.{Ask}
 use Rattle.tide_fault.specs.declared.slot.Slot.TheVariants as slots
 use Rattle.tide_fault.specs.declared.status.Status.{Status}
-use Rattle.tide_fault.specs.declared.status.Status.TheVariants.{Done, ReadFault, NoMemory}
+use Rattle.tide_fault.specs.declared.status.Status.TheVariants.{Done, Words, ReadFault, NoMemory}
 use Rattle.tide_edge.specs.Clocks.{ClockState}
 use Rattle.tide_edge.specs.Doors.{Doorway, DoorState}
 use Rattle.decimal_text.specs.Expected.{Excuses}
 use Rattle.tide_edge.specs.Faults.{faults_after}
 use Rattle.tide_edge.specs.FileStates.{FilesState, Folder}
-use Rattle.tide_edge.specs.SinkStates.{SinkState, WroteBoth}
+use Rattle.tide_edge.specs.SinkStates.{SinkState, Wrote, WroteBoth}
 use Rattle.tide_edge.specs.Whole.{Allowance, both, no_file}
 use Rattle.named_files.specs.declared.no_answer.NoAnswer.{NoAnswer}
 use Rattle.named_files.specs.declared.no_answer.NoAnswer.TheVariants.{Told}
@@ -87,6 +87,11 @@ notice_at port door = if door.listens then notice_of port else []
 -- a fault has its status and its line, unless telling it wanted memory
 abbrev pub IsSaid : NoAnswer → Status → List ℕ → Type 0
 IsSaid why status line = ((status ≡ status_of why) × (line ≡ line_of why)) ⊎ ((status ≡ NoMemory) × (line ≡ codes "no memory\n"))
+
+-- another command is refused by its own status and line, also without memory
+abbrev pub RefusesCommand : Status → SinkState → SinkState → Type 0
+RefusesCommand status before after =
+    (status ≡ Words) × (failed : Bool) × Wrote before after failed (codes "words: unknown command\n")
 
 -- ---- How a server ends
 

@@ -1,5 +1,6 @@
 -- What a server promises, whatever the objects are that it works on (this project).
 use Rattle.std.specs.Prelude.{◌≡◌, ℕ, Bool, false, List, IsTrue, IsOk, None}
+use Rattle.question.specs.Words.{pairs_of}
 use Rattle.named_files.specs.NoAnswers.{is_read_fault}
 use Rattle.tide_edge.specs.Clocks.{ClockState}
 use Rattle.tide_edge.specs.Doors.{DoorState}
@@ -8,7 +9,7 @@ use Rattle.tide_edge.specs.SinkStates.{SinkState}
 use Rattle.tide_edge.specs.Whole.{ReadWithin}
 use Rattle.tide_fault.specs.declared.status.Status.{Status}
 use Rattle.tide_fault.specs.declared.status.Status.TheVariants.{Done}
-use Rattle.tide_server.specs.Openings.{EndedBy, EndsAs, Handed, TookNone, files_asked, handed, service_of, stock_of}
+use Rattle.tide_server.specs.Openings.{EndedBy, EndsAs, Handed, RefusesCommand, TookNone, asks_another, files_asked, handed, service_of, stock_of}
 use Rattle.tide_server.specs.Serving.{IsOver}
 use Rattle.tide_server.specs.Shown.{EndsAsShown}
 
@@ -39,6 +40,7 @@ handed_of s o = handed (s.files o.files) (s.door o.door) (s.err o.err) (s.clock 
 --
 -- shown: the server ends as by what it serves from, by the files that it opened, as far as their bytes came; it opened what the words name.
 -- own_files: over observable files it ends as by what they hold, unless reading has failed.
+-- another: another command is refused by its own status and line.
 -- done, fault: when it is done, and where a fault of reading comes from.
 -- reads, reads_first: how much was read, and that all of it came before the door was asked to listen.
 -- unopened, unlistened, unread: when files, door and clock stay untouched; closed: no connection stays open.
@@ -48,6 +50,7 @@ pub record ServesAs {F D E K : Type 0} (s : ServiceStates F D E K) (words : List
   pub own_files : IsTrue (s.files before.files).store.is_observable
       → EndsAs (IsTrue (s.files before.files).store.is_steady) (stock_of (s.files before.files).store.folder words) status
       (handed_of s before) (handed_of s after)
+  pub another : IsTrue (asks_another (pairs_of words)) → RefusesCommand status (s.err before.err) (s.err after.err)
   pub done : status ≡ Done → IsOver (s.door after.door).doorway
   pub fault : EndedBy (is_read_fault status) (handed_of s before) (handed_of s after)
   pub reads : (failed : Bool) × ReadWithin (files_asked (service_of words)) failed (s.files before.files) (s.files after.files)

@@ -7,8 +7,9 @@ ghost use Rattle.tide_edge.specs.SinkStates.{Wrote};
 ghost use Rattle.tide_edge.specs.Whole.{ReadWithin};
 ghost use Rattle.tide_fault.specs.declared.status.Status.{Status};
 ghost use Rattle.named_files.specs.NoAnswers.{is_read_fault};
-ghost use Rattle.tide_server.specs.Openings.{EndedBy, EndsAs, TookNone, files_asked, handed, notice_of, service_of, stock_of};
+ghost use Rattle.tide_server.specs.Openings.{EndedBy, EndsAs, RefusesCommand, TookNone, asks_another, files_asked, handed, notice_of, service_of, stock_of};
 ghost use Rattle.tide_server.specs.Promises.{ServesAs, service_states, services};
+ghost use Rattle.question.specs.Words.{pairs_of};
 ghost use Rattle.tide_server.specs.Serving.{IsOver};
 ghost use Rattle.tide_server.specs.Shown.{EndsAsShown};
 ghost use Rattle.tide_server.specs.Workings.Ends.{Ended, unread};
@@ -16,7 +17,7 @@ ghost use Rattle.tide_server.specs.Workings.Ends.{Ended, unread};
 use crate::connections::serve_all;
 use crate::request::Request;
 use crate::stock::SoundStock;
-use crate::stock_reading::read_stock;
+use crate::stock_reading::{names_another, read_stock};
 use arrayvec::ArrayString;
 use decimal_text::Words;
 use itoa::Buffer;
@@ -63,6 +64,7 @@ fn serve_words<F: Files, D: Door, E: Sink, K: Clock>(
     ensures shown { EndsAsShown words.now result
         (handed (F.state files.old) (D.state door.old) (E.state err.old) (K.state clock.old))
         (handed (F.state files.new) (D.state door.new) (E.state err.new) (K.state clock.new)) }
+    ensures another { IsTrue (asks_another (pairs_of words.now)) → RefusesCommand result (E.state err.old) (E.state err.new) }
     ensures done { result ≡ Status.Done → IsOver (D.state door.new).doorway }
     ensures read_fault { EndedBy (is_read_fault result)
         (handed (F.state files.old) (D.state door.old) (E.state err.old) (K.state clock.old))
@@ -74,6 +76,9 @@ fn serve_words<F: Files, D: Door, E: Sink, K: Clock>(
     ensures unasked { TookNone (D.state door.new).doorway → clock.new ≡ clock.old }
     ensures closed { ¬ ((D.state door.new).doorway.port ≡ None) → (D.state door.new).doorway.is_open ≡ false }
 {
+    if names_another(words) {
+        return refuse(err, Status::Words, b"words: unknown command\n");
+    }
     match read_stock(alloc, words, files) {
         Ok(stock) => match Request::new(alloc) {
             Ok(mut request) => serve_stock(alloc, &stock, &mut request, door, err, clock),

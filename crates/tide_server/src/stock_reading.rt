@@ -17,7 +17,7 @@ ghost use Rattle.tide_server.specs.Shown.{names_served, stock_by_openings, stock
 use crate::stock::{SoundStock, Stock};
 use decimal_text::{Text, Words};
 use named_files::{NoAnswer, read_book, read_table};
-use question::{AskFault, Key, Pairs, Question, pairs_of_words, read_question};
+use question::{AskFault, Key, Question, pairs_of_words, read_question};
 use std::alloc::Global;
 use tide_edge::Files;
 use tide_fault::Fault;
@@ -81,17 +81,18 @@ fn read_service(alloc: Global, words: &Words) -> Result<Question, Fault>
 fn service_in_words(alloc: Global, words: &Words) -> Result<Question, AskFault>
     ensures { Gives ask_wants_memory (service_in (pairs_of words.now)) result }
 {
-    let pairs = pairs_of_words(alloc, words)?;
-    if asks_another(&pairs) {
+    if names_another(words) {
         return Err(AskFault::UnknownCommand);
     }
+    let pairs = pairs_of_words(alloc, words)?;
     read_question(alloc, &pairs)
 }
 
-fn asks_another(pairs: &Pairs) -> bool
-    ensures { result ≡ asks_another pairs.now }
+/// Whether the words have another command than the server's. It takes no memory.
+pub(crate) fn names_another(words: &Words) -> bool
+    ensures { result ≡ asks_another (pairs_of words.now) }
 {
-    match &pairs.command {
+    match words.as_slice().first() {
         Some(word) => word.as_str() != "serve",
         None => false,
     }

@@ -1,6 +1,7 @@
 //! A server whose clock goes on, and one whose reply is long.
 
 use super::coming::Coming;
+use super::minute_transcript::MinuteTranscript;
 use super::serving::{ASKED, NONE, Outcome, serve_by, serve_over};
 use std::alloc::Global;
 use std::process::Abort;
@@ -11,22 +12,25 @@ use tide_edge::{Clock, Failed};
 /// The hours in the test's own clock, which shows one after the other and then stands still.
 const HOURS: u64 = 24;
 
-/// A clock that goes on by an hour at each asking, from 2000-01-10T03:00Z on, and tells which it shows.
+/// A clock that goes on by an hour at each reading, from 2000-01-10T03:00Z on, which is observable.
 #[derive(Debug, Drop)]
 struct HourClock {
     asked: u64,
+    given: MinuteTranscript,
 }
 
 impl Clock for HourClock {
     ghost use Rattle.std.specs.Prelude.{◌≡◌, ◌+◌, ◌*◌, true, min, pos};
     ghost use Rattle.tide_edge.specs.Clocks.{ClockState};
 
-    ghost state = { λ c. record { is_observable = true; minute_at = (λ n. pos (15791160 + 60 * min n 24)); asked = c.asked; faults = 0 } };
+    ghost state = { λ c. record { is_observable = true; minute_at = (λ n. pos (15791160 + 60 * min n 24)); given = c.given.minutes; asked = c.asked; faults = 0 } };
 
     fn minute(&mut self) -> Result<i64, Failed> {
         self.asked = self.asked.saturating_add(1);
         let hours = self.asked.min(HOURS);
-        Ok(15_791_160 + 60 * hours as i64)
+        let minute = 15_791_160 + 60 * hours as i64;
+        self.given = self.given.then(&minute);
+        Ok(minute)
     }
 }
 
@@ -48,7 +52,10 @@ fn assert_says(
 fn each_request_is_answered_at_its_own_minute(rt: HostRuntime) -> Result<(), Fail> {
     let alloc = rt.alloc();
     let requests = [Coming::Whole(NOW), Coming::Whole(""), Coming::Whole(NOW)];
-    let mut clock = HourClock { asked: 0 };
+    let mut clock = HourClock {
+        asked: 0,
+        given: MinuteTranscript::new(),
+    };
     let outcome = serve_by(alloc, ASKED, &requests, 4096, NONE, &mut clock)?;
     assert_eq!(rt; outcome.status, Status::Done);
     for (i, line) in [

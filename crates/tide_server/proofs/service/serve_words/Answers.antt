@@ -1,9 +1,9 @@
-use Rattle.std.proofs.Common.{inl, inr, false, refl}
+use Rattle.std.proofs.Common.{◌∙◌, None, inl, inr, false, refl, sym}
 use Rattle.std.specs.Bool.{IsTrue}
 use Rattle.named_files.specs.NoAnswers.{is_unread}
 use Rattle.tide_server.specs.Openings.{handed, stock_of}
-use Rattle.tide_server.proofs.OpeningLemmas.{files_failed, refused_for, refused_full}
-use Rattle.tide_server.proofs.StockLemmas.{shown_ready, shown_refused}
+use Rattle.tide_server.proofs.OpeningLemmas.{files_failed, refused_another, refused_for, refused_full}
+use Rattle.tide_server.proofs.StockLemmas.{shown_another, shown_ready, shown_refused}
 use Rattle.tide_server.proofs.service.serve_words.Goals as goal
 
 pub returns-in-Ok-clause-own_files : goal.returns-in-Ok-clause-own_files
@@ -11,32 +11,32 @@ returns-in-Ok-clause-own_files g c =
     λ t. inl (refused_full
     (IsTrue (g.F.Files.state c.args.files.now).store.is_steady)
     (stock_of (g.F.Files.state c.args.files.now).store.folder c.args.words.now)
-    c.refuse.result
+    c.refuse-in-Err-new.result
     (handed (g.F.Files.state c.args.files.now) (g.D.Door.state c.args.door.now) (g.E.Sink.state c.args.err.now) (g.K.Clock.state c.args.clock.now))
-    (handed (g.F.Files.state c.read_stock.new.files) (g.D.Door.state c.args.door.now) (g.E.Sink.state c.refuse.new.err) (g.K.Clock.state c.args.clock.now))
-    c.refuse.ensures.line.0
-    c.refuse.ensures.same
+    (handed (g.F.Files.state c.read_stock.new.files) (g.D.Door.state c.args.door.now) (g.E.Sink.state c.refuse-in-Err-new.new.err) (g.K.Clock.state c.args.clock.now))
+    c.refuse-in-Err-new.ensures.line.0
+    c.refuse-in-Err-new.ensures.same
     refl
     refl
-    c.refuse.ensures.line.1)
+    c.refuse-in-Err-new.ensures.line.1)
 
 pub returns-in-Ok-clause-shown : goal.returns-in-Ok-clause-shown
 returns-in-Ok-clause-shown g c =
-    shown_ready c.args.words.now _ c.refuse.result
+    shown_ready c.args.words.now _ c.refuse-in-Err-new.result
     (handed (g.F.Files.state c.args.files.now) (g.D.Door.state c.args.door.now) (g.E.Sink.state c.args.err.now) (g.K.Clock.state c.args.clock.now))
-    (handed (g.F.Files.state c.read_stock.new.files) (g.D.Door.state c.args.door.now) (g.E.Sink.state c.refuse.new.err) (g.K.Clock.state c.args.clock.now))
+    (handed (g.F.Files.state c.read_stock.new.files) (g.D.Door.state c.args.door.now) (g.E.Sink.state c.refuse-in-Err-new.new.err) (g.K.Clock.state c.args.clock.now))
     c.in-Ok.ensures.shown
     (λ expected is. inl (refused_full
     (Unit {0})
     expected
-    c.refuse.result
+    c.refuse-in-Err-new.result
     (handed (g.F.Files.state c.args.files.now) (g.D.Door.state c.args.door.now) (g.E.Sink.state c.args.err.now) (g.K.Clock.state c.args.clock.now))
-    (handed (g.F.Files.state c.read_stock.new.files) (g.D.Door.state c.args.door.now) (g.E.Sink.state c.refuse.new.err) (g.K.Clock.state c.args.clock.now))
-    c.refuse.ensures.line.0
-    c.refuse.ensures.same
+    (handed (g.F.Files.state c.read_stock.new.files) (g.D.Door.state c.args.door.now) (g.E.Sink.state c.refuse-in-Err-new.new.err) (g.K.Clock.state c.args.clock.now))
+    c.refuse-in-Err-new.ensures.line.0
+    c.refuse-in-Err-new.ensures.same
     refl
     refl
-    c.refuse.ensures.line.1))
+    c.refuse-in-Err-new.ensures.line.1))
 
 pub returns-clause-own_files : goal.returns-clause-own_files
 returns-clause-own_files g c =
@@ -61,10 +61,10 @@ returns-clause-shown g c =
 
 pub returns-in-Ok-clause-read_fault : goal.returns-in-Ok-clause-read_fault
 returns-in-Ok-clause-read_fault g c =
-    rw c.refuse.ensures.same
+    rw c.refuse-in-Err-new.ensures.same
     (files_failed false
     (handed (g.F.Files.state c.args.files.now) (g.D.Door.state c.args.door.now) (g.E.Sink.state c.args.err.now) (g.K.Clock.state c.args.clock.now))
-    (handed (g.F.Files.state c.read_stock.new.files) (g.D.Door.state c.args.door.now) (g.E.Sink.state c.refuse.new.err) (g.K.Clock.state c.args.clock.now))
+    (handed (g.F.Files.state c.read_stock.new.files) (g.D.Door.state c.args.door.now) (g.E.Sink.state c.refuse-in-Err-new.new.err) (g.K.Clock.state c.args.clock.now))
     c.in-Ok.ensures.read.faults refl refl)
 
 pub returns-clause-read_fault : goal.returns-clause-read_fault
@@ -105,3 +105,49 @@ returns-in-Ok-new-clause-unasked g c =
     let listened = c.serve_stock.ensures.ended.listened (g.F.Files.state c.args.files.now) (g.F.Files.state c.read_stock.new.files) in
     let asked = listened.asked in
     λ took. elim took [ inl none ↦ absurd (cc) | inr none ↦ c.serve_stock.ensures.unasked none ]
+
+pub returns-then-names_another-clause-own_files : goal.returns-then-names_another-clause-own_files
+returns-then-names_another-clause-own_files g c =
+    let another = sym c.names_another.ensures ∙ c.if-names_another.true in
+    λ t. inl (refused_another
+    (IsTrue (g.F.Files.state c.args.files.now).store.is_steady)
+    (λ slot. (g.F.Files.state c.args.files.now).store.folder)
+    c.args.words.now
+    c.refuse.result
+    (handed (g.F.Files.state c.args.files.now) (g.D.Door.state c.args.door.now) (g.E.Sink.state c.args.err.now) (g.K.Clock.state c.args.clock.now))
+    (handed (g.F.Files.state c.args.files.now) (g.D.Door.state c.args.door.now) (g.E.Sink.state c.refuse.new.err) (g.K.Clock.state c.args.clock.now))
+    c.refuse.ensures.line.0
+    another
+    c.refuse.ensures.same
+    refl
+    refl
+    c.refuse.ensures.line.1)
+
+pub returns-then-names_another-clause-shown : goal.returns-then-names_another-clause-shown
+returns-then-names_another-clause-shown g c =
+    let another = sym c.names_another.ensures ∙ c.if-names_another.true in
+    shown_another c.args.words.now c.refuse.result
+    (handed (g.F.Files.state c.args.files.now) (g.D.Door.state c.args.door.now) (g.E.Sink.state c.args.err.now) (g.K.Clock.state c.args.clock.now))
+    (handed (g.F.Files.state c.args.files.now) (g.D.Door.state c.args.door.now) (g.E.Sink.state c.refuse.new.err) (g.K.Clock.state c.args.clock.now))
+    refl
+    (refused_another
+    (Unit {0})
+    _
+    c.args.words.now
+    c.refuse.result
+    (handed (g.F.Files.state c.args.files.now) (g.D.Door.state c.args.door.now) (g.E.Sink.state c.args.err.now) (g.K.Clock.state c.args.clock.now))
+    (handed (g.F.Files.state c.args.files.now) (g.D.Door.state c.args.door.now) (g.E.Sink.state c.refuse.new.err) (g.K.Clock.state c.args.clock.now))
+    c.refuse.ensures.line.0
+    another
+    c.refuse.ensures.same
+    refl
+    refl
+    c.refuse.ensures.line.1)
+
+pub returns-then-names_another-clause-read_fault : goal.returns-then-names_another-clause-read_fault
+returns-then-names_another-clause-read_fault g c =
+    rw c.refuse.ensures.same
+    (files_failed false
+    (handed (g.F.Files.state c.args.files.now) (g.D.Door.state c.args.door.now) (g.E.Sink.state c.args.err.now) (g.K.Clock.state c.args.clock.now))
+    (handed (g.F.Files.state c.args.files.now) (g.D.Door.state c.args.door.now) (g.E.Sink.state c.refuse.new.err) (g.K.Clock.state c.args.clock.now))
+    refl refl refl)
