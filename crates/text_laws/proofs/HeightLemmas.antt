@@ -11,34 +11,34 @@ use Rattle.listing.specs.declared.row.Row.{Row}
 use Rattle.text_laws.specs.Heights.{minute_at, row_at, row_until, rows_over}
 
 -- so many steps fit into a length
-fits : (n s place : ℕ) → 1 ≤ s → place < n / s + 1 → s * place ≤ n
-fits n s place positive within =
-    let most : place * s ≤ n / s * s = grind (arith, mul-le) in
+fits : (n s index : ℕ) → 1 ≤ s → index < n / s + 1 → s * index ≤ n
+fits n s index positive within =
+    let most : index * s ≤ n / s * s = grind (arith, mul-le) in
     omega (arith, most, div-mul-le_self n s)
 
 -- and one more doesn't
-passes : (n s place : ℕ) → 1 ≤ s → n / s + 1 ≤ place → n < s * place
-passes n s place positive past =
-    let least : (n / s + 1) * s ≤ place * s = grind (arith, mul-le) in
+passes : (n s index : ℕ) → 1 ≤ s → n / s + 1 ≤ index → n < s * index
+passes n s index positive past =
+    let least : (n / s + 1) * s ≤ index * s = grind (arith, mul-le) in
     omega (arith, least, lt-div-mul-add {a = n} {b = s} (omega arith))
 
-pub row_until-is : (level : ℤ → ℤ) (begin end step : ℤ) → begin ≤ℤ end → pos 1 ≤ℤ step → (place : ℕ)
-    → slice_get (rows_over level begin end step) place ≡ row_until level begin end step place
-row_until-is level begin end (pos s) forward positive place =
+pub row_until-is : (level : ℤ → ℤ) (begin end step : ℤ) → begin ≤ℤ end → pos 1 ≤ℤ step → (index : ℕ)
+    → slice_get (rows_over level begin end step) index ≡ row_until level begin end step index
+row_until-is level begin end (pos s) forward positive index =
     let n : ℕ = unsigned_abs (end -ℤ begin) in
     let whole : pos n ≡ end -ℤ begin = omega (arith, ints, forward) in
     let some : 1 ≤ s = omega (arith, ints, positive) in
     let step : ℕ → Row = row_at level begin (pos s) in
     let many = length-map-range_with_len step 0 (n / s + 1) in
-    elim (cases_lt place (n / s + 1)) [
+    elim (cases_lt index (n / s + 1)) [
       | inl within ↦
-          let test : int_le (minute_at begin (pos s) place) end ≡ true = grind (arith, ints, whole, fits n s place some within) in
-          let read = slice_get-get_or (rows_over level begin end (pos s)) place (step 0) (omega (arith, many, within)) in
-          let row = get_or-map-range_with_len step 0 (n / s + 1) place place (step 0) within (omega arith) in
+          let test : int_le (minute_at begin (pos s) index) end ≡ true = grind (arith, ints, whole, fits n s index some within) in
+          let read = slice_get-get_or (rows_over level begin end (pos s)) index (step 0) (omega (arith, many, within)) in
+          let row = get_or-map-range_with_len step 0 (n / s + 1) index index (step 0) within (omega arith) in
           rw (read, row, test) refl
       | inr past ↦
-          let test : int_le (minute_at begin (pos s) place) end ≡ false = grind (arith, ints, whole, passes n s place some past) in
-          let none = slice_get_past (rows_over level begin end (pos s)) place (omega (arith, many, past)) in
+          let test : int_le (minute_at begin (pos s) index) end ≡ false = grind (arith, ints, whole, passes n s index some past) in
+          let none = slice_get_past (rows_over level begin end (pos s)) index (omega (arith, many, past)) in
           rw (none, test) refl
     ]
-row_until-is level begin end (negsuc s) forward positive place = absurd (omega (arith, ints, positive))
+row_until-is level begin end (negsuc s) forward positive index = absurd (omega (arith, ints, positive))

@@ -188,16 +188,16 @@ event-line zone units event small =
     let local = local_in zone event.minute in
     let word = word_text (word_of units event.kind event.level) in
     record {
-      told = height_line_of local event.level units ++ codes "  " ++ word;
+      bytes = height_line_of local event.level units ++ codes "  " ++ word;
       ends = refl;
-      one = both _ word (both (height_line_of local event.level units) (codes "  ") (height-clean local event.level units small) spaces) (word-clean (word_of units event.kind event.level));
+      no_control = both _ word (both (height_line_of local event.level units) (codes "  ") (height-clean local event.level units small) spaces) (word-clean (word_of units event.kind event.level));
     }
 
 pub row-line : (zone : Zone) (units : Units) (row : Row) → IsLevel row.level → IsLine (row_line_in zone units row)
 row-line zone units row small = record {
-  told = height_line_of (local_in zone row.minute) row.level units;
+  bytes = height_line_of (local_in zone row.minute) row.level units;
   ends = refl;
-  one = height-clean (local_in zone row.minute) row.level units small;
+  no_control = height-clean (local_in zone row.minute) row.level units small;
 }
 
 entry-clean : (zone : Zone) (units : Units) (event : Event) → IsLevel event.level → Clean (entry_in zone units event)
@@ -219,9 +219,9 @@ entries-clean zone units (event ∷ events) small =
 
 pub page-line : (zone : Zone) (units : Units) (page : Page) → All (λ event. IsLevel event.level) page.events → IsLine (line_of zone units page)
 page-line zone units page small = record {
-  told = date_text page.day ++ flat_map (entry_in zone units) page.events;
+  bytes = date_text page.day ++ flat_map (entry_in zone units) page.events;
   ends = refl;
-  one = both (date_text page.day) (flat_map (entry_in zone units) page.events) (date-clean page.day) (entries-clean zone units page.events small);
+  no_control = both (date_text page.day) (flat_map (entry_in zone units) page.events) (date-clean page.day) (entries-clean zone units page.events small);
 }
 
 pub event-lines : (zone : Zone) (units : Units) (events : List Event) → All (λ event. IsLevel event.level) events → All IsLine (map (event_line_in zone units) events)

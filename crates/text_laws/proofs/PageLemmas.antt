@@ -17,31 +17,31 @@ use Rattle.text_laws.proofs.LineLemmas.{page-lines}
 use Rattle.text_laws.proofs.ListLemmas.{flat_map-map}
 use Rattle.zone_time.specs.declared.zone.Zone.{Zone}
 
-at-within : (day : ℤ) (n place : ℕ) → place < n → slice_get (days_from day n) place ≡ Some (day +ℤ pos place)
+at-within : (day : ℤ) (n index : ℕ) → index < n → slice_get (days_from day n) index ≡ Some (day +ℤ pos index)
 unfolding days_from
-at-within day zero place within = absurd (omega (arith, within))
+at-within day zero index within = absurd (omega (arith, within))
 at-within day (suc n) zero within = let start : day +ℤ pos 0 ≡ day = omega (arith, ints) in ap (λ (d : ℤ). Some d) (sym start)
-at-within day (suc n) (suc place) within =
-    let later : (day +ℤ pos 1) +ℤ pos place ≡ day +ℤ pos (suc place) = omega (arith, ints) in
-    at-within (day +ℤ pos 1) n place (omega (arith, within)) ∙ ap (λ (d : ℤ). Some d) later
+at-within day (suc n) (suc index) within =
+    let later : (day +ℤ pos 1) +ℤ pos index ≡ day +ℤ pos (suc index) = omega (arith, ints) in
+    at-within (day +ℤ pos 1) n index (omega (arith, within)) ∙ ap (λ (d : ℤ). Some d) later
 
-at-past : (day : ℤ) (n place : ℕ) → n ≤ place → slice_get (days_from day n) place ≡ None
+at-past : (day : ℤ) (n index : ℕ) → n ≤ index → slice_get (days_from day n) index ≡ None
 unfolding days_from
-at-past day zero place past = refl
+at-past day zero index past = refl
 at-past day (suc n) zero past = absurd (omega (arith, past))
-at-past day (suc n) (suc place) past = at-past (day +ℤ pos 1) n place (omega (arith, past))
+at-past day (suc n) (suc index) past = at-past (day +ℤ pos 1) n index (omega (arith, past))
 
--- the day of each place
-each-day : (first last : ℤ) → first ≤ℤ last → (place : ℕ) → slice_get (days_through first last) place ≡ day_until first last place
-each-day first last forward place =
+-- the day of each index
+each-day : (first last : ℤ) → first ≤ℤ last → (index : ℕ) → slice_get (days_through first last) index ≡ day_until first last index
+each-day first last forward index =
     let n : ℕ = unsigned_abs (last -ℤ first) + 1 in
-    elim (cases_lt place n) [
+    elim (cases_lt index n) [
       | inl within ↦
-          let test : int_le (first +ℤ pos place) last ≡ true = grind (arith, ints, within, forward) in
-          rw (at-within first n place within, test) refl
+          let test : int_le (first +ℤ pos index) last ≡ true = grind (arith, ints, within, forward) in
+          rw (at-within first n index within, test) refl
       | inr past ↦
-          let test : int_le (first +ℤ pos place) last ≡ false = grind (arith, ints, past, forward) in
-          rw (at-past first n place past, test) refl
+          let test : int_le (first +ℤ pos index) last ≡ false = grind (arith, ints, past, forward) in
+          rw (at-past first n index past, test) refl
     ]
 
 abbrev page_of : Zone → List Event → ℤ → Page

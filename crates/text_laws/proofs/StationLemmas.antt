@@ -20,13 +20,13 @@ use Rattle.station_table.specs.Bases.{basis_in, basis_of, basis_over}
 use Rattle.text_laws.specs.Stations.{station_lines, FindsRow, FindsStation, SaysUnit}
 use Rattle.text_laws.proofs.ListLemmas.{flat_map-map}
 
--- the first element that passes, and its place
+-- the first element that passes, and its index
 record Found {X : Type 0} (p : X → Bool) (xs : List X) : Type 0 where
-  place : ℕ
+  index : ℕ
   item : X
-  at : slice_get xs place ≡ Some item
+  at : slice_get xs index ≡ Some item
   passes : p item ≡ true
-  placed : position p xs ≡ Some place
+  placed : position p xs ≡ Some index
   found : find p xs ≡ Some item
 
 record Missing {X : Type 0} (p : X → Bool) (xs : List X) : Type 0 where
@@ -41,7 +41,7 @@ cases_first p xs =
           let item = here.0 in
           let placed : position p xs ≡ Some i = rw (lt-ltb _ _ here.1) refl in
           let passes = (position-Some p xs i item placed).1 in
-          inl (record { place = i; item = item; at = here.2; passes = rw here.3 at passes; placed = placed; found = find_at p xs ∙ here.2 })
+          inl (record { index = i; item = item; at = here.2; passes = rw here.3 at passes; placed = placed; found = find_at p xs ∙ here.2 })
       | inr past ↦ inr (record { placed = rw (le-ltb _ _ past.0) refl; found = find_at p xs ∙ past.1 })
     ]
 
@@ -76,7 +76,7 @@ is_named name station = bytes_eq station.name name
 finds_station : (book : Book) (table : List Offsets) (name : List ℕ) → Found (is_named name) book.stations → FindsStation book table name
 unfolding basis_of
 finds_station book table name f = record {
-  place = f.place;
+  index = f.index;
   station = f.item;
   at = f.at;
   named = (bytes_eq-Decides f.item.name name).0 f.passes;
@@ -89,7 +89,7 @@ row_is_named name row = bytes_eq row.name name
 finds_row : (book : Book) (table : List Offsets) (name : List ℕ) → Missing (is_named name) book.stations → Found (row_is_named name) table → FindsRow book table name
 unfolding basis_of basis_in
 finds_row book table name none f = record {
-  place = f.place;
+  index = f.index;
   row = f.item;
   at = f.at;
   named = (bytes_eq-Decides f.item.name name).0 f.passes;
@@ -115,9 +115,9 @@ rows-found book table = λ k d within.
       ]
     ]
 
-pub says_unit : (book : Book) (place : ℕ) (row : Offsets) → SaysUnit book place row (basis_over book place row)
+pub says_unit : (book : Book) (index : ℕ) (row : Offsets) → SaysUnit book index row (basis_over book index row)
 unfolding basis_over
-says_unit book place row =
+says_unit book index row =
     let same = find-agree (λ (station : Station). bytes_eq row.reference station.name) (is_named row.reference) (λ station. bytes_eq-sym row.reference station.name) book.stations in
     elim (cases_first (is_named row.reference) book.stations) [
       | inl f ↦

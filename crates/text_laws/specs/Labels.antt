@@ -12,11 +12,11 @@ abbrev pub ahead_of : Label → ℤ
 ahead_of Utc = pos 0
 ahead_of (Minutes ahead) = ahead
 
--- the minute of universal time that a local time stands for
+-- the minute of universal time that a local time and its label mean
 abbrev pub minute_of : Local → ℤ
 minute_of local = local.minute -ℤ ahead_of local.label
 
--- two lines of one minute, by the clocks of two zones, which say the same after the local time
+-- two lines of one minute by the clocks of two zones, the same but for the local time that begins them
 pub record DifferInLabel (zone other : Zone) (line line_there : List ℕ) : Type 0 where
   pub minute : ℤ
   pub rest : List ℕ

@@ -2,11 +2,11 @@
 use Rattle.std.specs.Prelude.{◌≡◌, ◌≤◌, ◌^◌, ℕ, ℤ, unsigned_abs, List, ◌++◌, All, codes}
 use Rattle.std.specs.List.{flat_map, AllZip}
 
--- bytes that end no line, and then a LF
+-- a line: no byte below 32, and then a LF
 pub record IsLine (line : List ℕ) : Type 0 where
-  pub told : List ℕ
-  pub ends : line ≡ told ++ codes "\n"
-  pub one : All (λ byte. 32 ≤ byte) told
+  pub bytes : List ℕ
+  pub ends : line ≡ bytes ++ codes "\n"
+  pub no_control : All (λ byte. 32 ≤ byte) bytes
 
 -- a level that fits 64 bits
 abbrev pub IsLevel : ℤ → Type 0
@@ -16,7 +16,7 @@ IsLevel level = unsigned_abs level ≤ 2 ^ 63
 abbrev pub listing_of : List ℕ → List (List ℕ) → List ℕ
 listing_of name lines = name ++ codes "\n" ++ flat_map (λ line. line) lines
 
--- two listings below one name: line for line, in order, the lines are so related
+-- two listings of one station with the same number of lines, which are related pair by pair, in order
 pub record AreListings (name : List ℕ) (Related : List ℕ → List ℕ → Type 0) (text other : List ℕ) : Type 0 where
   pub lines : List (List ℕ)
   pub others : List (List ℕ)

@@ -33,9 +33,9 @@ pub record IsGreatest (days : List ℤ) (day : ℤ) : Type 0 where
   pub among : Contains days day
   pub greatest : All (λ other. other ≤ℤ day) days
 
--- the day of a place, counted from 0, where it comes no later than the last one
+-- the day that is `index` days after the first one, if it is no later than the last one
 abbrev pub day_until : ℤ → ℤ → ℕ → Option ℤ
-day_until first last place = if int_le (first +ℤ pos place) last then Some (first +ℤ pos place) else None
+day_until first last index = if int_le (first +ℤ pos index) last then Some (first +ℤ pos index) else None
 
 -- one day after the other, from the least of some dates to the greatest
 pub record RunThrough (dates days : List ℤ) : Type 0 where
@@ -43,13 +43,14 @@ pub record RunThrough (dates days : List ℤ) : Type 0 where
   pub last : ℤ
   pub least : IsLeast dates first
   pub greatest : IsGreatest dates last
-  pub each : (place : ℕ) → slice_get days place ≡ day_until first last place
+  pub each : (index : ℕ) → slice_get days index ≡ day_until first last index
 
 -- no event has an earlier local date than one before it
 abbrev pub DatesAscend : Zone → List Event → Type 0
 DatesAscend zone events = AllPairs (λ event later. day_in zone event.minute ≤ℤ day_in zone later.minute) events
 
--- a text that shows each event once, on the line of its local date
+-- a calendar that has each event once, on the line of its local date: `dated` has the events of each line, in their order, and
+-- `once` says that all lines together have exactly the events
 pub record IsCalendar (name : List ℕ) (units : Units) (zone : Zone) (events : List Event) (begin end : ℤ) (text : List ℕ) : Type 0 where
   pub pages : List Page
   pub text_is : text ≡ listing_of name (map (line_of zone units) pages)

@@ -16,19 +16,19 @@ station_lines book table = map reference_line book.stations ++ map (subordinate_
 
 -- a name finds a station of the book
 pub record FindsStation (book : Book) (table : List Offsets) (name : List ℕ) : Type 0 where
-  pub place : ℕ
+  pub index : ℕ
   pub station : Station
-  pub at : slice_get book.stations place ≡ Some station
+  pub at : slice_get book.stations index ≡ Some station
   pub named : station.name ≡ name
-  pub found : basis_of book table name ≡ Ok (reference_basis place)
+  pub found : basis_of book table name ≡ Ok (reference_basis index)
 
 -- a name finds a row of the table, and what its reference is there
 pub record FindsRow (book : Book) (table : List Offsets) (name : List ℕ) : Type 0 where
-  pub place : ℕ
+  pub index : ℕ
   pub row : Offsets
-  pub at : slice_get table place ≡ Some row
+  pub at : slice_get table index ≡ Some row
   pub named : row.name ≡ name
-  pub found : basis_of book table name ≡ basis_over book place row
+  pub found : basis_of book table name ≡ basis_over book index row
 
 -- the unit that a row's line has
 abbrev pub unit_of_row : Book → Offsets → List ℕ
@@ -43,5 +43,5 @@ pub record HasUnit (book : Book) (row : Offsets) (basis : Basis) : Type 0 where
 
 -- the unit of a row's line, by what its reference is
 abbrev pub SaysUnit : Book → ℕ → Offsets → Result Basis FindFault → Type 0
-SaysUnit book place row (Ok basis) = HasUnit book row basis
-SaysUnit book place row (Err fault) = (fault ≡ NoReference place) × (unit_of_row book row ≡ codes "-")
+SaysUnit book index row (Ok basis) = HasUnit book row basis
+SaysUnit book index row (Err fault) = (fault ≡ NoReference index) × (unit_of_row book row ≡ codes "-")

@@ -1,4 +1,4 @@
-//! What the zone of a listing changes.
+//! The law of zones.
 
 ghost use Rattle.std.specs.Prelude.{◌≡◌, ℕ, ℤ, pos, negsuc, All, List, slice_set};
 ghost use Rattle.curve_law.specs.declared.event.Event.{Event};
@@ -16,7 +16,7 @@ ghost use Rattle.zone_time.specs.Zones.{local_in};
 use zone_time::{Label, Local};
 
 /// By the clocks of two zones a list has the same minutes in the same order. Its lines differ only
-/// in their local times, and the label of each local time says which minute it stands for. A record
+/// in their local times, and the label of each local time says which minute it means. A record
 /// differs only in its third field.
 pub fn zones_only_label()
     ensures minute { (zone : Zone) (minute : ℤ) → minute_of (local_in zone minute) ≡ minute }
@@ -30,7 +30,7 @@ pub fn zones_only_label()
         row_fields name units other row ≡ slice_set (row_fields name units zone row) 2 (time_in other row.minute) }
 {}
 
-/// The minute of universal time that a local time stands for, by its label.
+/// The minute of universal time that a local time and its label mean.
 pub fn minute_of_local(local: Local) -> i64
     requires { IsLocal local }
     ensures { result ≡ minute_of local }

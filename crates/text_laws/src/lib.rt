@@ -1,8 +1,8 @@
-//! What a reader of a listing relies on, as laws over what the listings are.
+//! Laws of listings and calendars: what a reader of the text relies on.
 //!
-//! Each printed text is proved equal to a definition of `listing` or `calendar_sheet`. The laws say
-//! what follows of these definitions: which events and levels a text contains, where they stand and
-//! which of them a reader finds again.
+//! Each printed text is proved equal to a definition of `listing` or `calendar_sheet`. The laws are
+//! over these definitions alone: which events and levels a text has, on which lines, and what a reader
+//! of comma-separated values finds. A law is an empty function, and its clauses are the law.
 #![tactic(auto)]
 
 mod heights;

@@ -1,4 +1,4 @@
-//! What a line of a listing is.
+//! The law of lines.
 
 ghost use Rattle.std.specs.Prelude.{All};
 ghost use Rattle.curve_law.specs.declared.event.Event.{Event};

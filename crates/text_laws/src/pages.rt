@@ -1,4 +1,4 @@
-//! What follows of calendars.
+//! The law of calendars.
 
 ghost use Rattle.std.specs.Prelude.{◌≡◌, ℕ, ℤ, pos, negsuc, ◌+ℤ◌, ◌≤ℤ◌, ◌<ℤ◌, All, List, [], ◌∷◌};
 ghost use Rattle.std.specs.List.{flat_map, AllPairs};
@@ -12,7 +12,7 @@ ghost use Rattle.text_laws.specs.Worked.{goes_back};
 ghost use Rattle.zone_time.specs.declared.zone.Zone.{Zone};
 
 /// The calendar of a span has a line for each local date from the least to the greatest of those of
-/// its first and last minute and of its events. Each event stands on the line of its own date alone,
+/// its first and last minute and of its events. Each event is on the line of its own date alone,
 /// once, and the events of a line keep their order. So all lines together have exactly the events, in
 /// their order unless the clock goes back from one date to the one before. The calendar of no minute
 /// has no line.
@@ -23,16 +23,15 @@ pub fn calendar_shows_each_event_once()
         calendar_text_of name units events zone begin end ≡ listing_of name [] }
 {}
 
-/// Where a clock goes back from one date to the one before, the lines have the event of the second
-/// date first.
+/// If a clock goes back from one date to the date before, the calendar has the later event first.
 pub fn dates_that_go_back_change_the_order()
     ensures { (zone : Zone) (early late : Event) (day : ℤ) →
         day_in zone early.minute ≡ day +ℤ pos 1 → day_in zone late.minute ≡ day →
         flat_map (events_on zone (early ∷ late ∷ [])) (days_through day (day +ℤ pos 1)) ≡ late ∷ early ∷ [] }
 {}
 
-/// The dates of universal time, and of a clock that is always so far ahead of it or behind it, never
-/// go back while the minutes don't.
+/// In universal time, and by a clock with a fixed offset, events in the order of their minutes have
+/// ascending dates.
 pub fn fixed_clocks_keep_the_order()
     ensures universal { (events : List Event) → AllPairs (λ event later. event.minute ≤ℤ later.minute) events → DatesAscend Zone.Utc events }
     ensures fixed { (ahead : ℤ) (events : List Event) → AllPairs (λ event later. event.minute ≤ℤ later.minute) events → DatesAscend (Zone.Fixed ahead) events }
@@ -45,7 +44,7 @@ pub fn worked_dates()
     ensures second { events_on (Zone.Fixed (pos 840)) (low_tide ∷ high_tide ∷ []) (pos 10967) ≡ high_tide ∷ [] }
 {}
 
-/// A zone whose clock goes back to the date before, between two minutes.
+/// A zone whose clock shows a date at one minute and the date before at a later one.
 #[tactic(auto, unfolding(zone_time::specs::ZoneFiles::clock_minute, zone_time::specs::ZoneFiles::ahead_after))]
 pub fn worked_dates_that_go_back()
     ensures early { day_in goes_back (pos 1385) ≡ pos 0 +ℤ pos 1 }

@@ -1,4 +1,4 @@
-//! What comma-separated values have in common with the plain listing.
+//! The law of comma-separated values.
 
 ghost use Rattle.std.specs.Prelude.{◌≡◌, ℕ, List, [], ◌∷◌, All, map, codes};
 ghost use Rattle.curve_law.specs.declared.event.Event.{Event};

@@ -1,4 +1,4 @@
-//! What follows of the list of stations.
+//! The law of the list of stations.
 
 ghost use Rattle.std.specs.Prelude.{◌≡◌, ◌≢◌, ◌⊎◌, ℕ, List, [], ◌∷◌, ◌++◌, All, codes, Err};
 ghost use Rattle.std.specs.List.{flat_map};
@@ -24,7 +24,7 @@ pub fn stations_list_what_can_be_requested()
         All (λ station. FindsStation book table station.name) book.stations }
     ensures rows { (book : Book) (table : List Offsets) →
         All (λ row. FindsStation book table row.name ⊎ FindsRow book table row.name) table }
-    ensures units { (book : Book) (place : ℕ) (row : Offsets) → SaysUnit book place row (basis_over book place row) }
+    ensures units { (book : Book) (index : ℕ) (row : Offsets) → SaysUnit book index row (basis_over book index row) }
     ensures dash { (units : Units) → text_of_unit units ≢ codes "-" }
 {}
 
