@@ -2,12 +2,15 @@
 
 import html
 import itertools
+import json
 import pathlib
 import re
 import shutil
+import subprocess
+import sys
 import urllib.parse
 
-from trial_site import curve_columns, Tab
+from trial_site import curve_columns, Tab, TOP
 
 BOSTON = 'Boston, Boston Harbor, Massachusetts'
 SEATTLE = 'Seattle, Puget Sound, Washington'
@@ -37,6 +40,26 @@ OPENED = [
     ('a sill that is no number', {'station': BOSTON, 'sill': 'deep'}, ['The sill or limit, “deep”, is not a number', 'words: pair']),
 ]
 
+# Comments of a station as XTide's files have them, an element of its XML, and the notes that these yield.
+COMMENTS = """#
+# BEGIN HOT COMMENTS
+# country: USA
+# source: CO-OPS Metadata API
+# station_id_context: NOS
+# station_id: 8443970
+# datum: Unknown
+# !longitude: -71.0503
+# !latitude: 42.3539
+"""
+ELEMENT = """<subordinatestation name="Pier &amp; Dock" latitude="95" longitude="-70.17" timezone=":America/New_York" country="USA"
+  station_id_context="NOS" station_id="8417941" reference="Boston"></subordinatestation>"""
+NOTED = {
+    BOSTON: {'zone': 'America/New_York', 'latitude': 42.3539, 'longitude': -71.0503, 'country': 'USA', 'source': 'CO-OPS Metadata API',
+             'identifier': 'NOS 8443970'},
+    SEATTLE: {'zone': 'America/Los_Angeles'},
+    'Pier & Dock': {'zone': 'America/New_York', 'country': 'USA', 'identifier': 'NOS 8417941'},
+}
+
 
 class PageTrial:
     """The trials of the page, for a class with a site, the words of the command line, `say` and `program`."""
@@ -44,8 +67,8 @@ class PageTrial:
     def pages(self):
         with Tab(self.site, 1280, 900) as tab:
             document = tab.open('tests.html', 'document.getElementById("result").textContent !== "running"')
-        told = re.search(r'\d+ passed, \d+ failed', document)
-        self.say(bool(told) and told[0].endswith(' 0 failed') and not tab.complaints, f'tests.html: {told[0] if told else "no result"}')
+        counts = re.search(r'\d+ passed, \d+ failed', document)
+        self.say(bool(counts) and counts[0].endswith(' 0 failed') and not tab.complaints, f'tests.html: {counts[0] if counts else "no result"}')
         for complaint in tab.complaints + re.findall('<li class="failed">(.*?)</li>', document):
             print(f'     {complaint}')
 
@@ -92,6 +115,17 @@ class PageTrial:
         self.say(all(seen) and width <= 360, f'page by keys alone: {steps}, {width} of 360 points wide')
         self.say(form < 0.4, f'the form fills {form:.0%} of a telephone\'s first screen')
         self.say(not elsewhere, f'{len(tab.requests)} requests of the page, {len(elsewhere)} to other hosts {elsewhere[:3]}')
+
+    def extracted(self):
+        """The notes that tools/stations_from_xtide.py makes, with and without comments."""
+        file, xml = self.site.folder / 'noted.txt', self.site.folder / 'noted.xml'
+        text = (TOP / 'examples/harbours.txt').read_text()
+        file.write_text(text.replace(f'\n{BOSTON}\n', f'\n{COMMENTS}{BOSTON}\n'))
+        xml.write_text(ELEMENT)
+        run = subprocess.run([sys.executable, TOP / 'tools/stations_from_xtide.py', f'file={file}', f'xml={xml}'], capture_output=True, text=True)
+        notes = json.loads(run.stdout)
+        wrong = [name for name, wanted in NOTED.items() if notes.get(name) != wanted]
+        self.say(not wrong and len(notes) == 8, f'stations_from_xtide.py: {run.stderr.strip()}{"".join(f"; wrong: {name}" for name in wrong)}')
 
     def noted(self):
         """The start page by name, a station found by its identifier, and the page without notes."""

@@ -14,7 +14,7 @@ const results = [];
 
 function same(about, found, wanted) {
   const [one, other] = [found, wanted].map(value => JSON.stringify(value));
-  results.push({ about, passed: one === other, told: one === other ? '' : `: ${one} in place of ${other}` });
+  results.push({ about, passed: one === other, reason: one === other ? '' : `: ${one} in place of ${other}` });
 }
 
 const at = text => Date.parse(text);
@@ -87,7 +87,7 @@ same('dates', ['2025-02-28', '2025-02-29', '2025-2-1', '9999-01-01', '0001-12-31
   [true, false, false, false, false, false, false, false]);
 same('zones', ['Europe/London', 'UTC', 'Atlantis', '', null].map(isZone), [true, true, false, false, false]);
 same('the zones to choose', ['UTC', 'America/New_York'].map(zone => zoneNames().includes(zone)), [true, true]);
-same('a date in words', dateText('2025-06-01', { day: 'numeric', month: 'long', year: 'numeric' }), '1 June 2025');
+same('a date as text', dateText('2025-06-01', { day: 'numeric', month: 'long', year: 'numeric' }), '1 June 2025');
 
 const EVENTS = readPoints(`station,moment,local,event,level,units
 "Boston, Boston Harbor, Massachusetts",2025-06-01T01:34Z,2025-06-01 01:34,Low Tide,0.933188,feet
@@ -127,7 +127,7 @@ for (const [reply, kind] of [
   [[429, 'text/html', '<html>'], 'busy'], [[503, 'text/plain; charset=utf-8', 'no memory\n'], 'busy'], [[503, 'text/html', ''], 'busy'],
   [[504, 'text/html', ''], 'busy'], [[502, 'text/html', ''], 'unreachable'], [[404, 'text/html', ''], 'unreachable'], [[200, 'text/html', 'hotel'], 'unreachable'],
 ]) same(`status ${reply[0]} of ${reply[1]}`, noAnswer(...reply)[0], kind);
-const ASKED = { station: 'Atlantis', begin: '2025-06-08T00:00Z', end: '2025-06-01T00:00Z', layout: 'csv', mark: 'deep' };
+const QUESTION = { station: 'Atlantis', begin: '2025-06-08T00:00Z', end: '2025-06-01T00:00Z', layout: 'csv', mark: 'deep' };
 for (const [line, text] of [
   ['refused: no station', 'There is no station “Atlantis” here. Look for a part of its name above.'],
   ['refused: no reference Boston', '“Atlantis” is computed by differences from “Boston”, which the file of constants lacks.'],
@@ -139,7 +139,7 @@ for (const [line, text] of [
   ['words: pair 2 has a bad value', 'The begin, “2025-06-08T00:00Z”, is not of its form.'],
   ['words: pair 9 has a bad value', 'The question is not in order.'],
   ['refused: for a new reason', 'The server has no answer to this question.'],
-]) same(`the text for ${line}`, noAnswer(422, 'text/plain', `${line}\n`, ASKED).slice(1), [text, line]);
+]) same(`the text for ${line}`, noAnswer(422, 'text/plain', `${line}\n`, QUESTION).slice(1), [text, line]);
 
 const NOTES = {
   Olhão: { country: 'Portugal', identifier: 'IH 12' },
@@ -171,7 +171,7 @@ for (const [to, bearing] of [[spot(1, 0), 0], [spot(0, 1), 90], [spot(-1, 0), 18
 }
 same('a bearing', bearingOf(BOSTON, BATTERY), 234);
 same('a bearing that rounds to north', bearingOf(spot(0, 0), spot(1, -0.001)), 0);
-same('distances in words', [[0.04, 0], [1, 69], [166.14, 234], [12.34, 359]].map(pair => distanceText(...pair)),
+same('distances as text', [[0.04, 0], [1, 69], [166.14, 234], [12.34, 359]].map(pair => distanceText(...pair)),
   ['at the same place', '1.0 nautical mile ENE (069°)', '166 nautical miles SW (234°)', '12.3 nautical miles N (359°)']);
 same('coordinates', [BOSTON, spot(-14.28, 170)].map(placeText), ['42.3539° N, 71.0503° W', '14.2800° S, 170.0000° E']);
 same('with coordinates', [BOSTON, {}, undefined, { latitude: 1 }].map(hasPlace), [true, false, false, false]);
@@ -213,9 +213,9 @@ same('a limit', thresholdText({ isCurrent: true, sill: '2', units: 'knots' }), '
 
 const failed = results.filter(({ passed }) => !passed).length;
 document.getElementById('result').textContent = `${results.length - failed} passed, ${failed} failed`;
-for (const { about, passed, told } of results) {
+for (const { about, passed, reason } of results) {
   const line = document.createElement('li');
   line.className = passed ? 'passed' : 'failed';
-  line.textContent = `${passed ? 'passed' : 'FAILED'} ${about}${told}`;
+  line.textContent = `${passed ? 'passed' : 'FAILED'} ${about}${reason}`;
   document.getElementById('tests').append(line);
 }
