@@ -1,6 +1,6 @@
 //! Reading the files of a question.
 
-ghost use Rattle.std.specs.Prelude.{◌≡◌, ◌≤◌, false, IsTrue, length, Some, IfOk, IfErr};
+ghost use Rattle.std.specs.Prelude.{◌≡◌, ◌≤◌, false, IsTrue, [], length, Some, None, Ok, IfOk, IfErr};
 ghost use Rattle.decimal_text.specs.Expected.{Gives};
 ghost use Rattle.harmonics_text.specs.Books.{IsBook};
 ghost use Rattle.question.specs.Asked.{IsZoneWord};
@@ -82,6 +82,7 @@ pub fn read_table<F: Files>(
     ensures own { IsTrue (F.state files.old).store.is_observable
         → Meets source_of (IsTrue (F.state files.old).store.is_steady) (table_named (F.state files.old).store.folder name.now) result }
     ensures opened { Opened Slot.Offsets name.now (λ file. table_named (λ _. file) name.now) (F.state files.old).openings (F.state files.new).openings result }
+    ensures unnamed { name.now ≡ None → result ≡ Ok [] }
     ensures told { IfErr result IsTold }
     ensures read { ReadWithin (allowed_for Slot.Offsets name.now) (reading_failed result) (F.state files.old) (F.state files.new) }
     ensures fault { IfErr result (IsOf Slot.Offsets) }
@@ -118,6 +119,7 @@ fn read_zone_named<F: Files>(
     ensures own { IsTrue (F.state files.old).store.is_observable
         → Meets source_of (IsTrue (F.state files.old).store.is_steady) (zone_named (F.state files.old).store.folder word.now) result }
     ensures opened { Opened Slot.Zone (zone_file word.now) (λ file. zone_named (λ _. file) word.now) (F.state files.old).openings (F.state files.new).openings result }
+    ensures unnamed { zone_file word.now ≡ None → result ≡ zone_named (λ _. None) word.now }
     ensures sound { IfOk result IsZone }
     ensures told { IfErr result IsTold }
     ensures read { ReadWithin (allowed_for Slot.Zone (zone_file word.now)) (reading_failed result) (F.state files.old) (F.state files.new) }
@@ -156,6 +158,7 @@ fn read_certificate<F: Files>(
     ensures own { IsTrue (F.state files.old).store.is_observable
         → Meets source_of (IsTrue (F.state files.old).store.is_steady) (certificate_named (F.state files.old).store.folder name.now) result }
     ensures opened { Opened Slot.Certificate name.now (λ file. certificate_named (λ _. file) name.now) (F.state files.old).openings (F.state files.new).openings result }
+    ensures unnamed { name.now ≡ None → result ≡ Ok [] }
     ensures within { IfOk result (λ bytes. length bytes ≤ MOST_BYTES) }
     ensures told { IfErr result IsTold }
     ensures read { ReadWithin (allowed_for Slot.Certificate name.now) (reading_failed result) (F.state files.old) (F.state files.new) }

@@ -1,7 +1,7 @@
 -- How a reply stands for its answer.
 use Rattle.std.proofs.Common.{◌≡◌, ℕ, Bool, true, false, if◌then◌else◌, IsTrue, List, [], Option, Some, None, Result, Ok, Err, refl}
 use Rattle.std.specs.Prelude.{◌&&◌, is_some}
-use Rattle.std.specs.Option.{ForSome, IsSomeAnd, option_map_or}
+use Rattle.std.specs.Option.{IsSomeAnd, option_map_or}
 use Rattle.decimal_text.specs.Expected.{◌>>=◌, Excused}
 use Rattle.harmonics_text.specs.declared.book.Book.{Book}
 use Rattle.question.specs.declared.command.Command.{Command}
@@ -69,9 +69,10 @@ pub refused_alike : (memory : Bool) (answer : Result Answer Refusal) (ready : Re
 refused_alike true answer ready refusal says excused = tt
 refused_alike false answer ready refusal says excused = rw excused at says
 
-pub streams_answer : (answer : Result Answer Refusal) (stream : Option Answer) (result : Answer) → is_some stream ≡ true → Says answer (Ok (record { stream = stream })) → ForSome stream (λ text. result ≡ text) → answer ≡ Ok result
-streams_answer answer (Some text) result some says found = rw (found text refl) ((says text refl).0)
-streams_answer answer None result some says found = absurd (cc)
+pub streams_answer : (answer : Result Answer Refusal) (stream : Option Answer) → is_some stream ≡ true → Says answer (Ok (record { stream = stream }))
+    → answer ≡ Ok (option_map_or (λ text. text) stream (text_alone []))
+streams_answer answer (Some text) some says = (says text refl).0
+streams_answer answer None some says = absurd (cc)
 
 -- ---- What is written
 

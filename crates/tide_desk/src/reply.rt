@@ -3,7 +3,7 @@
 ghost use Rattle.std.specs.Prelude.{◌≡◌, false, IfOk, is_err};
 ghost use Rattle.std.specs.Option.{ForSome};
 ghost use Rattle.tide_edge.specs.SinkStates.{Wrote};
-ghost use Rattle.tide_desk.specs.Workings.Replies.{Streamed};
+ghost use Rattle.tide_desk.specs.Workings.Replies.{IsReply, Streamed, answer_in};
 
 use crate::body::Body;
 use std::marker::Model;
@@ -38,14 +38,12 @@ impl Reply {
         }
     }
 
-    /// An answer that streams.
-    pub fn found(ready: Ready) -> Reply
-        requires { Streamed ready }
-        ensures { ForSome ready.stream (λ answer. result ≡ answer) }
+    /// An answer as it is to be written.
+    pub fn of(body: Body) -> Reply
+        requires { IsReply body }
+        ensures { result ≡ answer_in body }
     {
-        Reply {
-            body: Body::Stream(ready),
-        }
+        Reply { body }
     }
 
     /// Writes the text, and answers whether it rejects a certificate. Where the text is found, this

@@ -1,13 +1,15 @@
 //! The way in which a question's answer is written.
 
-ghost use Rattle.std.specs.Prelude.{◌≡◌, ◌&&◌, not, IfErr, map};
+ghost use Rattle.std.specs.Prelude.{◌≡◌, ◌&&◌, IfOk, IfErr, map};
 ghost use Rattle.decimal_text.specs.Expected.{Gives};
 ghost use Rattle.tide_answer.specs.Answers.{answered};
 ghost use Rattle.tide_fault.specs.Faults.{wants_memory_of_refusal, IsToldRefusal};
 ghost use Rattle.tide_answer.specs.Givens.{IsGiven};
-ghost use Rattle.tide_answer.specs.Streams.{can_stream, is_plain_layout, is_zone_file};
+ghost use Rattle.tide_answer.specs.Streams.{is_zone_file, prepared};
 ghost use Rattle.tide_desk.specs.Answers.{answered_with, is_report};
+ghost use Rattle.tide_desk.specs.Workings.Replies.{IsReply, answer_by, is_stream, is_streaming, may_stream};
 
+use crate::body::Body;
 use crate::reply::Reply;
 use crate::reporting::report;
 use harmonics_text::SoundBook;
@@ -46,7 +48,7 @@ fn is_report(command: Command) -> bool
     matches!(command, Command::Report)
 }
 
-// The answer to a question that asks for no report. The text is made only where it doesn't stream.
+// The answer to a question that asks for no report.
 fn reply_to(
     alloc: Global,
     book: &SoundBook<'_>,
@@ -58,20 +60,41 @@ fn reply_to(
     ensures exact { Gives wants_memory_of_refusal (answered book.now table.now question.now given.entry.now) result }
     ensures told { IfErr result (IsToldRefusal table.now) }
 {
+    match body_for(alloc, book, table, question, given) {
+        Ok(body) => Ok(Reply::of(body)),
+        Err(refusal) => Err(refusal),
+    }
+}
+
+// What it is written from. It streams exactly if the question may and what was prepared does; its text is made only otherwise.
+fn body_for(
+    alloc: Global,
+    book: &SoundBook<'_>,
+    table: &OffsetTable,
+    question: &SoundQuestion<'_>,
+    given: &Given,
+) -> Result<Body, Refusal>
+    requires given { IsGiven given.now }
+    ensures exact { Gives wants_memory_of_refusal (answered book.now table.now question.now given.entry.now) (answer_by result) }
+    ensures sound { IfOk result IsReply }
+    ensures streams { IfOk result (λ body. is_stream body
+        ≡ (may_stream question.now given.entry.now.zone && is_streaming (prepared book.now table.now question.now given.entry.now))) }
+    ensures told { IfErr result (IsToldRefusal table.now) }
+{
     let book = book.get();
     let question = question.get();
     if may_stream(question, &given.zone) {
         let ready = prepare(alloc, book, table, question, given)?;
         if ready.streams() {
-            return Ok(Reply::found(ready));
+            return Ok(Body::Stream(ready));
         }
     }
-    Ok(Reply::made(answer(alloc, book, table, question, given)?))
+    Ok(Body::Text(answer(alloc, book, table, question, given)?))
 }
 
 // Whether the answer streams at a station that has the events of its reference as they are.
 fn may_stream(question: &Question, zone: &Zone) -> bool
-    ensures { result ≡ (can_stream question.now.command && (is_plain_layout question.now.layout && not (is_zone_file zone.now))) }
+    ensures { result ≡ may_stream question.now zone.now }
 {
     can_stream(question.command) && question.layout == Layout::Plain && !is_zone_file(zone)
 }

@@ -1,5 +1,8 @@
 -- What is written for the words.
-use Rattle.std.specs.Prelude.{◌≡◌, false, []}
+use Rattle.std.specs.Prelude.{◌≡◌, ◌&&◌, not, Bool, true, false, [], Result, Ok, Err, is_some}
+use Rattle.question.specs.declared.question.Question.{Question}
+use Rattle.zone_time.specs.declared.zone.Zone.{Zone}
+use Rattle.tide_answer.specs.Streams.{can_stream, is_plain_layout, is_zone_file}
 use Rattle.std.specs.Option.{IsSomeAnd, option_map_or}
 use Rattle.tide_answer.specs.declared.ready.Ready.{Ready}
 use Rattle.tide_answer.specs.declared.text.Answer.{Answer}
@@ -19,3 +22,21 @@ answer_in (Stream ready) = option_map_or (λ answer. answer) ready.stream (text_
 abbrev pub IsReply : Body → Type 0
 IsReply (Text answer) = Unit {0}
 IsReply (Stream ready) = Streamed ready
+
+abbrev pub answer_by : {E : Type 0} → Result Body E → Result Answer E
+answer_by (Ok body) = Ok (answer_in body)
+answer_by (Err fault) = Err fault
+
+-- whether it is found while it is written
+abbrev pub is_stream : Body → Bool
+is_stream (Text answer) = false
+is_stream (Stream ready) = true
+
+-- a question's answer may be written as it is found, if the station has the events of its reference as they are
+abbrev pub may_stream : Question → Zone → Bool
+may_stream question zone = can_stream question.command && (is_plain_layout question.layout && not (is_zone_file zone))
+
+-- what was prepared streams
+abbrev pub is_streaming : {E : Type 0} → Result Ready E → Bool
+is_streaming (Ok ready) = is_some ready.stream
+is_streaming (Err fault) = false

@@ -70,3 +70,11 @@ unfolding zone_named
 returns-in-Fixed-clause-opened g c =
     rw c.in-Fixed.is
     (opened_none Zone (λ file. zone_named (λ _. file) (words.Fixed c.in-Fixed.minutes)) (g.F.Files.state c.args.files.now).openings _ (λ file. search rules))
+
+pub returns-in-Utc-clause-unnamed : goal.returns-in-Utc-clause-unnamed
+unfolding zone_named
+returns-in-Utc-clause-unnamed g c = λ none. rw c.in-Utc.is refl
+
+pub returns-in-Fixed-clause-unnamed : goal.returns-in-Fixed-clause-unnamed
+unfolding zone_named
+returns-in-Fixed-clause-unnamed g c = λ none. rw c.in-Fixed.is (search rules)

@@ -2,7 +2,7 @@ use Rattle.std.proofs.Common.{sym, ◌∙◌}
 use Rattle.std.proofs.lemmas.Result.{err_from_is_err_and}
 use Rattle.tide_answer.specs.Streams.{can_stream}
 use Rattle.tide_desk.proofs.ReplyLemmas.{first_holds, prepared_says, refused_alike, streams_answer}
-use Rattle.tide_desk.proofs.replying.reply_to.Goals as goal
+use Rattle.tide_desk.proofs.replying.body_for.Goals as goal
 
 pub returns-in_err-ready-clause-exact : goal.returns-in_err-ready-clause-exact
 returns-in_err-ready-clause-exact c =
@@ -14,4 +14,4 @@ pub returns-then-streams-clause-exact : goal.returns-then-streams-clause-exact
 returns-then-streams-clause-exact c =
     let says = prepared_says c.args.book.now c.args.table.now c.args.question.now c.args.given.now (first_holds (can_stream c.args.question.now.command) _ (sym (rw c.get-question.ensures.exact at c.may_stream.ensures) ∙ c.if-may_stream.true)) in
     let some = rw c.streams.ensures at c.if-streams.true in
-    streams_answer _ c.in_ok-ready.ready.stream c.found.result some (rw (rw (c.get-book.ensures.exact, c.get-question.ensures.exact) at c.in_ok-ready.ensures.exact) at says) c.found.ensures
+    streams_answer _ c.in_ok-ready.ready.stream some (rw (rw (c.get-book.ensures.exact, c.get-question.ensures.exact) at c.in_ok-ready.ensures.exact) at says)
