@@ -1,6 +1,6 @@
 //! The names of tracks.
 
-/// A track of a certificate.
+/// Names a track of a certificate.
 #[derive(Clone, Copy, Debug, PartialEq, Eq)]
 pub enum TrackName {
     /// High and low waters, or the greatest and least streams.

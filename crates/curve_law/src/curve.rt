@@ -7,8 +7,8 @@ use crate::kind::Kind;
 
 /// A track that is asked minute by minute, and that knows how fast its value may change.
 ///
-/// Minutes are counted from 1970-01-01T00:00Z. What a curve means never changes; it counts how many
-/// values it was asked for, exact and near ones.
+/// Minutes are counted from 1970-01-01T00:00Z. What a curve means never changes. It counts the calls of
+/// `value` and `near_value`. Not counted are `exact_value`, whose near value was counted, `note` and `rate`.
 pub trait Curve {
     /// The minutes, values, levels, kinds and rates that it tells.
     ghost meaning: { Self → Meaning };
