@@ -215,7 +215,7 @@ def too_long(place):
 
 
 def no_memory(place):
-    """A file for which there is no memory, where a short one is read."""
+    """A table for which there is no memory, since a table is read whole, where a short file is read."""
     with open(place.folder / 'large', 'wb') as file:
         file.truncate(MOST_FILE)
     for megabytes in FEW_MEGABYTES:
@@ -224,7 +224,7 @@ def no_memory(place):
             break
     else:
         raise Skipped(f'the program does not start within {FEW_MEGABYTES[-1]} MB')
-    seen = difference(place.run('stations', 'file=large', limit=limit), 8, b'', b'no memory\n')
+    seen = difference(place.run(*WORDS, 'offsets=large', limit=limit), 8, b'', b'no memory\n')
     return seen or difference(place.run(*WORDS, limit=limit), 0, PIER, b'')
 
 
