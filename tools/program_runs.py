@@ -1,11 +1,13 @@
 """Checks of single runs of a built program: what it prints, its statuses, and the files and streams that it is given."""
 import datetime
 import errno
+import fcntl
 import math
 import os
 import re
 import shlex
 import subprocess
+import termios
 import threading
 import time
 
@@ -185,18 +187,25 @@ def standard_input(place):
 
 
 def fifo(place):
+    """A file that comes in short pieces, each of them only when the one before was read."""
     path = place.folder / 'fifo'
     os.mkfifo(path)
-    data = (place.folder / 'pier.txt').read_bytes()
+    data, ended = (place.folder / 'pier.txt').read_bytes(), threading.Event()
 
     def fill():
         with open(path, 'wb', buffering=0) as end:
             for at in range(0, len(data), 7):
-                end.write(data[at:at + 7])
+                try:
+                    end.write(data[at:at + 7])
+                except OSError:  # nobody reads on
+                    return
+                while any(fcntl.ioctl(end, termios.FIONREAD, bytes(4))) and not ended.wait(0.001):
+                    pass
 
     writer = threading.Thread(target=fill, daemon=True)
     writer.start()
     seen = difference(place.run(WORDS[0], 'file=fifo', *WORDS[2:]), 0, PIER, b'')
+    ended.set()
     if writer.is_alive():  # nobody has opened the other end
         os.close(os.open(path, os.O_RDONLY | os.O_NONBLOCK))
     writer.join(10)

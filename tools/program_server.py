@@ -66,15 +66,19 @@ def unequal(reply, wanted):
 
 
 def clock(place):
+    """The clock is read for each request: the second comes when the next minute has begun."""
     with Server(place, file='daily.txt') as server:
+        answered = None
         for _ in range(2):
+            while now() == answered:
+                time.sleep(0.2)
             begun = now()
             head, _, body = server.reply(request('/clock?station=Pier')).partition(b'\r\n\r\n')
             seen = '' if head.startswith(b'HTTP/1.1 200 OK\r\n') else texted(head)
             seen = seen or clock_lines(body.decode(errors='replace'), begun)
             if seen:
                 return seen
-            time.sleep(1)
+            answered = now()
         return ''
 
 
@@ -122,23 +126,32 @@ def refusals(place):
 
 
 def sends_on(place):
-    """Clients that go on sending a body to a path that isn't there for a second, and read the reply only then."""
-    wanted = response(b'not found\n', '404 Not Found')
+    """Clients that go on sending a body to a path that isn't there for some time, and read the reply only then."""
     with Server(place, file='pier.txt') as server:
         for number in range(3):
-            with server.connect() as link:
-                try:
-                    link.sendall(request('/nowhere', 'POST', b'', 'Content-Length: 1000000\r\n'))
-                    for _ in range(10):
-                        time.sleep(0.03 * number)
-                        link.sendall(b'x' * 20_000)
-                    link.shutdown(socket.SHUT_WR)
-                    reply = received(link)
-                except OSError as fault:
-                    return f'client {number}: {fault}'
-            if reply != wanted:
-                return unequal(reply, wanted)
+            for _ in range(20):
+                begun = time.monotonic()
+                seen = sent_on(server, 0.03 * number)
+                # A client that a busy machine has held up for longer may be cut: it has two seconds.
+                if not seen or time.monotonic() < begun + 1.5:
+                    break
+            if seen:
+                return f'client {number}: {seen}'
     return ''
+
+
+def sent_on(server, pause):
+    with server.connect() as link:
+        try:
+            link.sendall(request('/nowhere', 'POST', b'', 'Content-Length: 1000000\r\n'))
+            for _ in range(10):
+                time.sleep(pause)
+                link.sendall(b'x' * 20_000)
+            link.shutdown(socket.SHUT_WR)
+            reply = received(link)
+        except OSError as fault:
+            return str(fault)
+    return unequal(reply, response(b'not found\n', '404 Not Found'))
 
 
 def farewell(place):
@@ -273,8 +286,20 @@ def parted(step, asked=b'', waits=False):
                         pass
                 time.sleep(0.1)
             taken = time.monotonic() - begun
+            replied = b'' if waits else anything(link)
+        if replied:
+            return f'a reply: {texted(replied)}'
         return '' if EARLIEST <= taken <= LATEST else f'parted after {taken:.1f} s'
     return seconds
+
+
+def anything(link):
+    """What comes from a server that has parted, or may have."""
+    link.settimeout(2)
+    try:
+        return link.recv(1000)
+    except OSError:
+        return b''
 
 
 def sit(_):
@@ -289,19 +314,19 @@ def sip(link):
     link.recv(1024)
 
 
-# Those that measure time.
+# Those that measure time, or wait for a minute.
 TIMED = {
     'a client that sends on after its reply is cut after two seconds': farewell,
     'a silent client is cut after a minute': parted(sit),
     'a slow sender is cut after a minute': parted(drip, b'GET /'),
     'a client that never reads is cut after a minute': parted(sit, request(LONG), waits=True),
     'a slow reader is cut after a minute': parted(sip, request(LONG), waits=True),
+    'serve: the present minute': clock,
 }
 
 QUICK = {
     'serve: bound to 127.0.0.1 alone': address,
     'serve: a request byte by byte': byte_by_byte,
-    'serve: the present minute': clock,
     'serve: the commands, many replies': commands,
     'serve: refusals, many pairs': refusals,
     'serve: the whole reply comes before the close': sends_on,
