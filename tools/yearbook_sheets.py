@@ -231,7 +231,9 @@ def about_lines(year):
 def legend(year):
     words = {event.word for event in year.events}
     signs = ', '.join(f'{sign} {word}' for word, sign in SIGNS.items() if word in words)
-    return '; '.join([signs] + ['clock: from here by this offset'] * bool(year.changes) + ['+N: it ends N days later'] * bool(year.above))
+    times = ' '.join(text for texts in year.above.values() for text in texts)
+    return '; '.join([signs] + ['clock: from here by this offset'] * bool(year.changes) + ['+N: it ends N days later'] * ('+' in times)
+                     + ['..: outside this year'] * ('..' in times))
 
 
 def sheet(year, place):

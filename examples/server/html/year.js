@@ -8,6 +8,7 @@ import { yearSheets } from './year_sheets.js';
 
 const place = id => document.getElementById(id);
 const controls = place('question').elements;
+const PAPERS = ['A4', 'Letter'];
 
 /** A file beside the page, or null if it isn't there. */
 async function beside(file) {
@@ -36,7 +37,16 @@ function question(notes) {
     name: query.get('station'), zone,
     year: Number.isInteger(year) && year >= 2 && year <= 9998 ? year : new Date().getFullYear(),
     sill: query.get('sill')?.trim().replace(',', '.') || null,
+    paper: PAPERS.find(paper => paper === query.get('paper')),
   };
+}
+
+/** Sets the paper for printing, if the address names one. */
+function setPaper(paper) {
+  if (!paper) return;
+  const style = new CSSStyleSheet();
+  style.replaceSync(`@page { size: ${paper}; }`);
+  document.adoptedStyleSheets = [style];
 }
 
 /** The events, without a mark if the station takes none, and why. */
@@ -82,11 +92,12 @@ function showControls({ name, year, zone, sill }) {
   document.title = `${name ?? 'A station'}, ${year}: tides and currents`;
 }
 
-function listen({ name }) {
+function listen({ name, paper }) {
   place('question').addEventListener('submit', submit => {
     submit.preventDefault();
     const query = new URLSearchParams({ station: name ?? '', year: controls.year.value, zone: controls.zone.value });
     if (controls.sill.value) query.set('sill', controls.sill.value);
+    if (paper) query.set('paper', paper);
     location.search = `?${query}`;
   });
   controls.print.addEventListener('click', () => window.print());
@@ -98,6 +109,7 @@ async function start() {
   const asking = question(noted(all, station));
   showControls(asking);
   listen(asking);
+  setPaper(asking.paper);
   if (station === null) {
     place('trouble').append('Choose a station on the page of the week.');
     return;

@@ -1,6 +1,6 @@
 import { isStrongest } from './events.js';
 import { element } from './sheets.js';
-import { dateOf, dayOf, daysIn, heightOf, MONTHS, SIGNS, sizeFor } from './year_days.js';
+import { aboveText, dateOf, dayOf, daysIn, heightOf, MONTHS, SIGNS, sizeFor } from './year_days.js';
 
 const WEEKDAYS = ['Sun', 'Mon', 'Tue', 'Wed', 'Thu', 'Fri', 'Sat'];
 const weekdayOf = date => WEEKDAYS[new Date(`${date}T00:00Z`).getUTCDay()];
@@ -69,10 +69,12 @@ function aboutLines({ isCurrent, units, datum, reference, sill, zone, offset, ch
   ];
 }
 
-function legendOf({ events, above, changes }) {
+function legendOf({ events, above, changes, zone }) {
   const signs = Object.entries(SIGNS).filter(([word]) => events.some(({ event }) => event === word));
+  const times = above.map(time => aboveText(time, zone));
   return [signs.map(([word, sign]) => `${sign} ${word}`).join(', '), ...(changes.length > 0 ? ['clock: from here by this offset'] : []),
-    ...(above.length > 0 ? ['+N: it ends N days later'] : [])].join('; ');
+    ...(times.some(text => text.includes('+')) ? ['+N: it ends N days later'] : []),
+    ...(times.some(text => text.includes('..')) ? ['..: outside this year'] : [])].join('; ');
 }
 
 /** How many lines the fullest half of a month has. */
