@@ -41,7 +41,7 @@ bytes_held slot (Some held) bytes ok =
     let read = read_within slot (nat_le (length held) (limit_of slot)) held bytes ok in
     (ap Some read.1, subst (λ (bs : List ℕ). length bs ≤ limit_of slot) read.1 (leb-true (length held) (limit_of slot) read.0))
 
-bytes_whole : (slot : Slot) (file : Option (List ℕ)) (bytes : List ℕ) → file ≡ Some bytes → length bytes ≤ limit_of slot → bytes_of slot file ≡ Ok bytes
+pub bytes_whole : (slot : Slot) (file : Option (List ℕ)) (bytes : List ℕ) → file ≡ Some bytes → length bytes ≤ limit_of slot → bytes_of slot file ≡ Ok bytes
 bytes_whole slot file bytes held few = rw (held, le-leb (length bytes) (limit_of slot) few) refl
 
 -- ---- the book and the table
@@ -103,7 +103,7 @@ files_read folder question name read ok =
     subst (WasRead folder question name) same
     (record { book = book.1; table = table.1; zone = zone.1; certificate = certificate.1 })
 
-read_whole : (folder : Folder) (question : Question) (name : List ℕ) (read : Materials) → WasRead folder question name read → files_in (λ slot. folder) question name ≡ Ok read
+pub read_whole : (folder : Folder) (question : Question) (name : List ℕ) (read : Materials) → WasRead folder question name read → files_in (λ slot. folder) question name ≡ Ok read
 unfolding files_in
 read_whole folder question name read was = rw (was.book, was.table, was.zone, was.certificate) refl
 
@@ -116,7 +116,7 @@ pub record WasAnswered (folder : Folder) (minute : ℤ) (question : Question) (a
   pub files : WasRead folder question name read
   pub text : text_by question.command read.book read.table question (given_with read (minute_for question.command minute)) ≡ Ok answer
 
-unrefused : (table : List Row) (result : Result Answer Refusal) (answer : Answer) → refused_over table result ≡ Ok answer → result ≡ Ok answer
+pub unrefused : (table : List Row) (result : Result Answer Refusal) (answer : Answer) → refused_over table result ≡ Ok answer → result ≡ Ok answer
 unrefused table (Ok found) answer ok = cc
 unrefused table (Err refusal) answer ok = absurd cc
 

@@ -32,7 +32,7 @@ peak_reads question is = record { alone = λ seed. rw is refl; plain = ap is_rep
 check_reads : (question : Question) → question.command ≡ PeakCheck → ReadsFiles question
 check_reads question is = record { alone = λ seed. rw is refl; plain = ap is_report is }
 
-utc_named : (folder : Folder) (zone : ZoneWord) → zone ≡ word.Utc → zone_named folder zone ≡ Ok Utc
+pub utc_named : (folder : Folder) (zone : ZoneWord) → zone ≡ word.Utc → zone_named folder zone ≡ Ok Utc
 unfolding zone_named
 utc_named folder zone is = rw is refl
 

@@ -1,8 +1,11 @@
 pub mod Answers
+pub mod Completeness
 pub mod InMemory
 pub mod Laws
 pub mod Outcomes
+pub mod PassedOn
 pub mod PeakLaws
 pub mod Promises
 pub mod Shown
+pub mod Worked
 pub mod Workings

@@ -8,6 +8,11 @@ ghost use Rattle.report_sheets.specs.Listings.{first_sheet};
 ghost use Rattle.report_sheets.specs.Pages.{missing_of};
 ghost use Rattle.tide_fault.specs.declared.fault.Fault.{Fault};
 ghost use Rattle.tide_desk.specs.Answers.{asked_of, known_in, minute_for};
+ghost use Rattle.tide_answer.specs.Answers.{text_alone};
+ghost use Rattle.tide_desk.specs.Completeness.{HasAnswer, NothingFailed, folder_held};
+ghost use Rattle.tide_desk.specs.Worked.{in_memory, pier, pier_words};
+
+use harmonics_text::worked_files;
 
 /// The minute that commands are given.
 pub fn worked_minutes()
@@ -25,3 +30,12 @@ pub fn worked_sheets()
     ensures none_wanted { asked_of [] (codes "stations" ∷ codes "file=f" ∷ []) ≡ Ok (record (bare Command.Stations) { file = Some (codes "f") }) }
     ensures words_first { asked_of [] (codes "report" ∷ codes "file=f" ∷ codes "sheets=first,first" ∷ []) ≡ Err (Fault.Ask (AskFault.BadValue 2)) }
 {}
+
+/// A run in memory of words that list the stations of a small file: it has an answer, and nothing has failed.
+pub fn worked_runs()
+    ensures answer { HasAnswer [] (folder_held in_memory pier) (pos 15791220) pier_words (text_alone (codes "Ref feet Pier\n")) }
+    ensures nothing_failed { NothingFailed in_memory [] pier_words pier pier }
+{
+    worked_files();
+    worked_sheets();
+}

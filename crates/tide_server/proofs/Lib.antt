@@ -1,4 +1,5 @@
 pub mod AnswerLemmas
+pub mod CompletenessLemmas
 pub mod ConnectionLemmas
 pub mod EndLemmas
 pub mod HeadLemmas

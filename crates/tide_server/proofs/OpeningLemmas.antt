@@ -67,14 +67,18 @@ wrote_first before after failed text wrote = (after, failed, false, wrote, put_n
 
 -- ---- What has failed
 
+pub never : {G : Type 0} → false ≡ true → G
+never is = cc
+
 pub files_failed : (failed : Bool) (before after : Handed) → after.files.faults ≡ faults_after failed before.files.faults
-    → after.door ≡ before.door → after.clock ≡ before.clock → EndedBy failed before after
-files_failed true before after files door clock = record {
+    → before.door.doorway.port ≡ None → after.door ≡ before.door → after.clock ≡ before.clock → EndedBy failed before after
+files_failed true before after files unasked door clock = record {
   files = true;
   clock = false;
   door = false;
   one = refl;
   files_count = files;
+  files_first = λ is. ap (λ d. d.doorway.port) door ∙ unasked;
   door_count = ap (λ d. d.faults) door;
   door_tells = ap (λ d. d.is_observable) door;
   door_pieces = ap (λ d. d.keeps_pieces) door;
@@ -82,12 +86,13 @@ files_failed true before after files door clock = record {
   asked = before.clock.asked;
   clock_state = clock;
 }
-files_failed false before after files door clock = record {
+files_failed false before after files unasked door clock = record {
   files = false;
   clock = false;
   door = false;
   one = refl;
   files_count = files;
+  files_first = λ is. never is;
   door_count = ap (λ d. d.faults) door;
   door_tells = ap (λ d. d.is_observable) door;
   door_pieces = ap (λ d. d.keeps_pieces) door;
@@ -105,6 +110,7 @@ ended_behind failed before after files count same ended = record {
   door = ended.door;
   one = ended.one;
   files_count = ended.files_count ∙ ap (faults_after ended.files) count;
+  files_first = ended.files_first;
   door_count = ended.door_count;
   door_tells = ended.door_tells;
   door_pieces = ended.door_pieces;

@@ -17,7 +17,7 @@ use Rattle.tide_server.specs.Openings.{EndedBy, notice_of}
 use Rattle.tide_server.specs.Serving.{Exchange, IsOver, Served, exchange}
 use Rattle.tide_server.specs.Workings.Ends.{Ended, unread, with_files}
 use Rattle.tide_server.specs.Workings.Steps.{IsKept, is_clock, is_door}
-use Rattle.tide_server.proofs.OpeningLemmas.{wrote_first, wrote_one}
+use Rattle.tide_server.proofs.OpeningLemmas.{never, wrote_first, wrote_one}
 use Rattle.tide_server.proofs.StepLemmas.{all_passed, nobody, none_passed}
 
 -- ---- The door listens
@@ -50,6 +50,7 @@ served_done stock door door_after err err_after clock clock_after failed serves 
     door = false;
     one = refl;
     files_count = same;
+    files_first = λ is. never is;
     door_count = kept.faults;
     door_tells = kept.is_observable;
     door_pieces = kept.pieces;
@@ -70,6 +71,7 @@ by_outage outages.Door door door_after err err_after clock clock_after files lef
   door = true;
   one = refl;
   files_count = same;
+  files_first = λ is. never is;
   door_count = kept.faults;
   door_tells = kept.is_observable;
   door_pieces = kept.pieces;
@@ -83,6 +85,7 @@ by_outage outages.Clock door door_after err err_after clock clock_after files le
   door = false;
   one = refl;
   files_count = same;
+  files_first = λ is. never is;
   door_count = kept.faults;
   door_tells = kept.is_observable;
   door_pieces = kept.pieces;
@@ -166,6 +169,7 @@ ended_listening value stock status door opened door_after err err_after clock cl
             door = by.door;
             one = by.one;
             files_count = by.files_count;
+            files_first = by.files_first;
             door_count = by.door_count;
             door_tells = by.door_tells;
             door_pieces = by.door_pieces;
@@ -198,6 +202,7 @@ unlistening T stock failed_to door err err_after clock failed wrote = record {
     door = true;
     one = refl;
     files_count = same;
+    files_first = λ is. never is;
     door_count = refl;
     door_tells = refl;
     door_pieces = refl;

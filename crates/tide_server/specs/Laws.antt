@@ -1,10 +1,11 @@
 -- What a server comes to over objects in memory (this project).
-use Rattle.std.specs.Prelude.{◌≡◌, ◌<◌, ◌-◌, ◌^◌, ℕ, ℤ, List, [], ◌∷◌, ◌++◌, length}
+use Rattle.std.specs.Prelude.{◌≡◌, ◌⊎◌, ◌<◌, ◌-◌, ◌^◌, ℕ, suc, ℤ, Bool, true, false, All, List, [], ◌∷◌, ◌++◌, length, map}
 use Rattle.std.specs.List.{concat}
+use Rattle.tide_edge.specs.Faults.{faults_after}
 use Rattle.tide_edge.specs.Memory.{HeldClock, HeldDoor, HeldFiles, HeldSink, clock_state, door_state, files_state, sink_state}
 use Rattle.tide_server.specs.declared.stock.Stock.{Stock}
 use Rattle.tide_server.specs.Openings.{Handed}
-use Rattle.tide_server.specs.Serving.{Answers}
+use Rattle.tide_server.specs.Serving.{Answers, MayLeave, RoseBy}
 
 pub record InMemory : Type 0 where
   pub files : HeldFiles
@@ -29,12 +30,34 @@ AreAnswered stock minute (request ∷ requests) [] = ⊥
 AreAnswered stock minute (request ∷ requests) (reply ∷ more) =
     Answers stock minute (concat request) reply × AreAnswered stock minute requests more
 
--- The requests that waited were taken in their order, and each has a reply. Unless a line has failed, each reply answers its request.
-pub record HasAnswered (stock : Stock) (before after : InMemory) : Type 0 where
+-- the same of all but so many of them, or fewer
+abbrev pub AreAnsweredBut : ℕ → Stock → ℤ → List (List (List ℕ)) → List (List ℕ) → Type 0
+AreAnsweredBut failed stock minute [] [] = Unit {0}
+AreAnsweredBut failed stock minute [] (reply ∷ more) = ⊥
+AreAnsweredBut failed stock minute (request ∷ requests) [] = ⊥
+AreAnsweredBut failed stock minute (request ∷ requests) (reply ∷ more) =
+    (Answers stock minute (concat request) reply × AreAnsweredBut failed stock minute requests more)
+    ⊎ ((fewer : ℕ) × (failed ≡ suc fewer) × AreAnsweredBut fewer stock minute requests more)
+
+-- whether a connection was left
+abbrev pub is_left : List (List (List ℕ)) → Bool
+is_left [] = false
+is_left (request ∷ more) = true
+
+-- The requests that waited were taken in their order, and each has a reply; but after a read fault of the clock the last one taken is left:
+-- it has a byte, and its reply is empty. Unless a line has failed, each reply answers its request. Those that don't are no more than the
+-- count of the lines' faults rose by, unless that count is at its last value.
+pub record HasAnswered (stock : Stock) (has_failed : Bool) (before after : InMemory) : Type 0 where
   pub requests : List (List (List ℕ))
   pub replies : List (List ℕ)
-  pub taken : before.door.waiting ≡ requests ++ after.door.waiting
-  pub given : after.door.replies ≡ before.door.replies ++ replies
+  pub left : List (List (List ℕ))
+  pub taken : before.door.waiting ≡ requests ++ left ++ after.door.waiting
+  pub given : after.door.replies ≡ before.door.replies ++ replies ++ map (λ request. []) left
   pub each : length replies ≡ length requests
   pub answered : after.door.line_faults ≡ before.door.line_faults → before.door.line_faults < 2 ^ 64 - 1
       → AreAnswered stock before.clock.minute requests replies
+  pub unanswered : (failed : ℕ) × RoseBy failed before.door.line_faults after.door.line_faults
+      × AreAnsweredBut failed stock before.clock.minute requests replies
+  pub last : MayLeave has_failed left
+  pub bytes : All (λ request. ¬ (concat request ≡ [])) left
+  pub clock : after.clock.calls.faults ≡ faults_after (is_left left) before.clock.calls.faults

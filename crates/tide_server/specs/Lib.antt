@@ -1,3 +1,4 @@
+pub mod Completeness
 pub mod Conversations
 pub mod Heads
 pub mod Laws
@@ -10,4 +11,5 @@ pub mod Responses
 pub mod Rows
 pub mod Serving
 pub mod Shown
+pub mod Worked
 pub mod Workings

@@ -140,13 +140,14 @@ EndsAs firm expected status before after =
 -- ---- Where a fault of reading comes from
 
 -- A server ends with a fault of reading exactly where the files, the clock or the door has failed, one of them and once: its count is
--- one more, and the others are as before. What door and clock tell of themselves stays.
+-- one more, and the others are as before; the files only if the door wasn't asked to listen. What door and clock tell of themselves stays.
 pub record EndedBy (has_failed : Bool) (before after : Handed) : Type 0 where
   pub files : Bool
   pub clock : Bool
   pub door : Bool
   pub one : count_by (λ failed. failed) (files ∷ clock ∷ door ∷ []) ≡ (if has_failed then 1 else 0)
   pub files_count : after.files.faults ≡ faults_after files before.files.faults
+  pub files_first : IsTrue files → after.door.doorway.port ≡ None
   pub door_count : after.door.faults ≡ faults_after door before.door.faults
   pub door_tells : after.door.is_observable ≡ before.door.is_observable
   pub door_pieces : after.door.keeps_pieces ≡ before.door.keeps_pieces

@@ -2,6 +2,7 @@
 
 ghost use Rattle.std.specs.Prelude.{◌≡◌, ℕ, ℤ, ◌≤◌, false, List, ◌++◌, length, Option, Some, None, Ok, IsTrue};
 ghost use Rattle.harmonics_text.specs.declared.book.Book.{Book};
+ghost use Rattle.named_files.specs.NoAnswers.{is_read_fault};
 ghost use Rattle.question.specs.Questions.{question_of};
 ghost use Rattle.question.specs.declared.origin.Origin.{Origin};
 ghost use Rattle.question.specs.declared.pairs.Item.{Item};
@@ -59,13 +60,15 @@ pub fn queries_name_no_file()
         → names_file question.zone ≡ false }
 {}
 
-/// Over files, a door, a sink and a clock in memory: where [`serve`](crate::serve) has listened and is
-/// done, the door holds a reply for each request that was taken, in their order, each the reply to the
-/// bytes of its request at the clock's minute, unless a line has failed.
+/// Over files, a door, a sink and a clock in memory: if [`serve`](crate::serve) has listened, the door
+/// holds a reply for each request that was taken, in their order, each the reply to the bytes of its
+/// request at the clock's minute, unless a line has failed. If the server has ended with a read fault, so
+/// it is for all of them but the last one: if the clock failed for that one, its reply is empty.
 pub fn serve_in_memory()
-    ensures { (words : List (List ℕ)) (before after : InMemory)
+    ensures { (words : List (List ℕ)) (status : Status) (before after : InMemory)
         → before.door.doorway.port ≡ None → ¬ (after.door.doorway.port ≡ None)
-        → EndsAs (IsTrue (handed_in before).files.store.is_steady) (stock_of (folder_of before.files.files) words) Status.Done
+        → EndsAs (IsTrue (handed_in before).files.store.is_steady) (stock_of (folder_of before.files.files) words) status
         (handed_in before) (handed_in after)
-        → (stock : Stock) × (stock_of (folder_of before.files.files) words ≡ Ok stock) × HasAnswered stock before after }
+        → (stock : Stock) × (stock_of (folder_of before.files.files) words ≡ Ok stock)
+        × HasAnswered stock (is_read_fault status) before after }
 {}

@@ -8,6 +8,7 @@
 
 mod asked;
 mod code;
+mod completeness;
 mod connection;
 mod connections;
 mod deciding;
@@ -31,6 +32,7 @@ mod target;
 mod worked;
 
 pub use code::Code;
+pub use completeness::{servers_are_complete, worked_servers};
 pub use deciding::{enough, fixed_reply, unavailable_reply};
 pub use http_reply::reply;
 pub use laws::{

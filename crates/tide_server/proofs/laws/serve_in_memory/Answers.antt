@@ -4,5 +4,5 @@ use Rattle.tide_server.proofs.MemoryLemmas.{holds_replies}
 use Rattle.tide_server.proofs.laws.serve_in_memory.Goals as goal
 
 pub returns : goal.returns
-returns c = λ words before after unasked asked ends.
-    holds_replies (IsTrue (handed_in before).files.store.is_steady) words before after unasked asked ends
+returns c = λ words status before after unasked asked ends.
+    holds_replies (IsTrue (handed_in before).files.store.is_steady) words status before after unasked asked ends

@@ -65,7 +65,7 @@ returns-in-Ok-clause-read_fault g c =
     (files_failed false
     (handed (g.F.Files.state c.args.files.now) (g.D.Door.state c.args.door.now) (g.E.Sink.state c.args.err.now) (g.K.Clock.state c.args.clock.now))
     (handed (g.F.Files.state c.read_stock.new.files) (g.D.Door.state c.args.door.now) (g.E.Sink.state c.refuse-in-Err-new.new.err) (g.K.Clock.state c.args.clock.now))
-    c.in-Ok.ensures.read.faults refl refl)
+    c.in-Ok.ensures.read.faults c.requires refl refl)
 
 pub returns-clause-read_fault : goal.returns-clause-read_fault
 returns-clause-read_fault g c =
@@ -73,7 +73,7 @@ returns-clause-read_fault g c =
     (files_failed (is_unread c.in-Err.none)
     (handed (g.F.Files.state c.args.files.now) (g.D.Door.state c.args.door.now) (g.E.Sink.state c.args.err.now) (g.K.Clock.state c.args.clock.now))
     (handed (g.F.Files.state c.read_stock.new.files) (g.D.Door.state c.args.door.now) (g.E.Sink.state c.tell.new.err) (g.K.Clock.state c.args.clock.now))
-    c.in-Err.ensures.read.faults refl refl)
+    c.in-Err.ensures.read.faults c.requires refl refl)
 
 pub returns-in-Ok-new-clause-own_files : goal.returns-in-Ok-new-clause-own_files
 returns-in-Ok-new-clause-own_files g c =
@@ -150,4 +150,4 @@ returns-then-names_another-clause-read_fault g c =
     (files_failed false
     (handed (g.F.Files.state c.args.files.now) (g.D.Door.state c.args.door.now) (g.E.Sink.state c.args.err.now) (g.K.Clock.state c.args.clock.now))
     (handed (g.F.Files.state c.args.files.now) (g.D.Door.state c.args.door.now) (g.E.Sink.state c.refuse.new.err) (g.K.Clock.state c.args.clock.now))
-    refl refl refl)
+    refl c.requires refl refl)

@@ -1,0 +1,183 @@
+-- Over an outside that doesn't fail a run ends by its answer, with the whole text, or out of memory (this project).
+use Rattle.std.specs.Prelude.{◌≡◌, ◌⊎◌, ℕ, ℤ, Bool, false, IsTrue, if◌then◌else◌, List, [], Some, None, Result, Ok, Err}
+use Rattle.cert_text.specs.declared.certificate.Certificate.{Certificate}
+use Rattle.cert_text.specs.Readings.{certificate_of}
+use Rattle.event_list.specs.Shifts.{widened_of}
+use Rattle.harmonics_text.specs.declared.book.Book.{Book}
+use Rattle.highest_water.specs.declared.certificate.PeakCertificate.{PeakCertificate}
+use Rattle.highest_water.specs.declared.verdict.PeakVerdict.TheVariants.{Accepted}
+use Rattle.highest_water.specs.PeakReadings.{peak_of}
+use Rattle.named_files.specs.declared.materials.Materials.{Materials}
+use Rattle.named_files.specs.declared.no_answer.NoAnswer.{NoAnswer}
+use Rattle.named_files.specs.NoAnswers.{status_of}
+use Rattle.named_files.specs.Readings.{book_named, certificate_named, files_in, table_named, zone_named}
+use Rattle.question.specs.declared.command.Command.TheVariants.{Check, PeakCheck}
+use Rattle.question.specs.declared.question.Question.{Question}
+use Rattle.report_sheets.specs.Sheets.{SheetMeaning}
+use Rattle.station_cells.specs.Rejections.{rejection_of}
+use Rattle.station_span.specs.Following.{followed_by}
+use Rattle.station_span.specs.Peaks.{highest_site, highest_verdict}
+use Rattle.station_span.specs.Sites.{Site, site_in}
+use Rattle.station_span.specs.declared.reach.Reach.TheVariants.{Events}
+use Rattle.station_table.specs.declared.offsets.Offsets.{Offsets}
+use Rattle.tide_answer.specs.declared.text.Answer.{Answer}
+use Rattle.tide_answer.specs.Answers.{checked, peak_checked, version_of}
+use Rattle.tide_answer.specs.Asking.{asked_in, asked_of_peak}
+use Rattle.tide_edge.specs.Clocks.{next_minute}
+use Rattle.tide_edge.specs.Faults.{Rose}
+use Rattle.tide_edge.specs.FileStates.{Folder}
+use Rattle.tide_edge.specs.SinkStates.{SinkState, Wrote, put}
+use Rattle.tide_fault.specs.declared.status.Status.{Status}
+use Rattle.tide_fault.specs.declared.status.Status.TheVariants.{Done, Rejected, NoMemory}
+use Rattle.zone_time.specs.declared.zone.Zone.{Zone}
+use Rattle.tide_desk.specs.Answers.{AsksClock, answer_of, answered_with, asked_of, given_with, is_report, minute_for}
+use Rattle.tide_desk.specs.Laws.{Asks, IsTrueAnswer}
+use Rattle.tide_desk.specs.Outcomes.{IsFirm, refusal_line, text_with}
+use Rattle.tide_desk.specs.PeakLaws.{IsTruePeakAnswer}
+use Rattle.tide_desk.specs.Promises.{AnswersAs, Objects, States, sources_of}
+use Rattle.tide_desk.specs.Shown.{answer_by}
+
+-- ---- An outside that doesn't fail
+
+abbrev pub folder_held : {F O E K : Type 0} → States F O E K → Objects F O E K → Folder
+folder_held s o = (s.files o.files).store.folder
+
+-- The answer to the words over what the objects hold.
+abbrev pub answer_held : {F O E K : Type 0} → States F O E K → List SheetMeaning → List (List ℕ) → Objects F O E K
+    → Result Answer NoAnswer
+answer_held s sheets words o = answer_of sheets (folder_held s o) (next_minute (s.clock o.clock)) words
+
+-- What the files hold is observable, and so is the clock if the words read it. The files are steady, the clock hasn't failed if it was
+-- to be read, and no write of the answer has failed. (A count of faults that was at its last value counts as one that rose.)
+pub record NothingFailed {F O E K : Type 0} (s : States F O E K) (sheets : List SheetMeaning) (words : List (List ℕ))
+    (before after : Objects F O E K) : Type 0 where
+  pub observable : IsTrue (s.files before.files).store.is_observable
+  pub readable : AsksClock (asked_of sheets words) → IsTrue (s.clock before.clock).is_observable
+  pub firm : IsFirm (AsksClock (asked_of sheets words)) (sources_of s before) (sources_of s after)
+  pub written : ¬ (Rose (s.out before.out).faults (s.out after.out).faults)
+
+-- ---- How a run ends then
+
+abbrev pub status_with : Result Answer NoAnswer → Status
+status_with (Ok answer) = if answer.rejected then Rejected else Done
+status_with (Err none) = status_of none
+
+-- Its status is that of the answer, its output the whole text, and none if there is no answer; then the line says why.
+pub record EndsWhole {F O E K : Type 0} (s : States F O E K) (expected : Result Answer NoAnswer) (status : Status)
+    (before after : Objects F O E K) : Type 0 where
+  pub ends : status ≡ status_with expected
+  pub text : s.out after.out ≡ put (text_with expected) (s.out before.out)
+  pub line : (failed : Bool) × Wrote (s.err before.err) (s.err after.err) failed (refusal_line expected)
+
+-- out of memory, and nothing was written
+pub record RanOut {F O E K : Type 0} (status : Status) (before after : Objects F O E K) : Type 0 where
+  pub ends : status ≡ NoMemory
+  pub unwritten : after.out ≡ before.out
+
+-- Over an outside that doesn't fail a run ends by the answer to its words, or out of memory: with a fault of reading only if a file is
+-- missing that the words name, and with one of writing never.
+abbrev pub EndsByItsAnswer : {F O E K : Type 0} → States F O E K → Type 0
+EndsByItsAnswer {F} {O} {E} {K} s = (sheets : List SheetMeaning) (words : List (List ℕ)) (status : Status)
+    (before after : Objects F O E K) →
+    AnswersAs s sheets words status before after → NothingFailed s sheets words before after →
+    EndsWhole s (answer_held s sheets words before) status before after ⊎ RanOut status before after
+
+-- The same over objects of any kind, the machine's too, by the bytes that came of what was opened and the minute that the clock gave: unless
+-- a write of the answer has failed. So it ends with a fault of reading only if no minute, or not a whole file, came.
+abbrev pub EndsByWhatCame : {F O E K : Type 0} → States F O E K → Type 0
+EndsByWhatCame {F} {O} {E} {K} s = (sheets : List SheetMeaning) (words : List (List ℕ)) (status : Status) (before after : Objects F O E K)
+    (answers : AnswersAs s sheets words status before after) → ¬ (Rose (s.out before.out).faults (s.out after.out).faults) →
+    EndsWhole s (answer_by sheets words answers.shown.openings (s.clock before.clock) (s.clock after.clock)) status before after
+    ⊎ RanOut status before after
+
+-- ---- A question that nothing refuses
+
+-- The words ask a question, of which each file is there, within its limit and of its form. Over what they hold the question has this
+-- answer: its station is known and has a curve, its span is in the file's years, and no limit is exceeded.
+pub record HasAnswer (sheets : List SheetMeaning) (folder : Folder) (minute : ℤ) (words : List (List ℕ)) (answer : Answer)
+    : Type 0 where
+  pub question : Question
+  pub asked : asked_of sheets words ≡ Ok question
+  pub name : List ℕ
+  pub file : question.file ≡ Some name
+  pub read : Materials
+  pub files : files_in (λ slot. folder) question name ≡ Ok read
+  pub unrefused : answered_with (is_report question.command) sheets read.book read.table question
+      (given_with read (minute_for question.command minute)) ≡ Ok answer
+
+-- done, or rejected if that is the answer to a certificate, with the whole text and nothing beside it
+pub record WroteAll {F O E K : Type 0} (s : States F O E K) (answer : Answer) (status : Status) (before after : Objects F O E K)
+    : Type 0 where
+  pub ends : status ≡ (if answer.rejected then Rejected else Done)
+  pub text : s.out after.out ≡ put answer.text (s.out before.out)
+  pub silent : after.err ≡ before.err
+
+-- Over steady files that hold what the words name, within their limits, and with no fault of clock or output: a question that nothing
+-- refuses is done with the whole text, or out of memory.
+abbrev pub IsComplete : {F O E K : Type 0} → States F O E K → Type 0
+IsComplete {F} {O} {E} {K} s = (sheets : List SheetMeaning) (words : List (List ℕ)) (status : Status) (before after : Objects F O E K)
+    (answer : Answer) →
+    AnswersAs s sheets words status before after → NothingFailed s sheets words before after →
+    HasAnswer sheets (folder_held s before) (next_minute (s.clock before.clock)) words answer →
+    WroteAll s answer status before after ⊎ RanOut status before after
+
+-- ---- A certificate that is valid
+
+-- done with an answer of this kind, or out of memory
+abbrev pub EndsAccepting : {F O E K : Type 0} → States F O E K → (Answer → Type 0) → Status → Objects F O E K → Objects F O E K
+    → Type 0
+EndsAccepting s accepts status before after =
+    ((answer : Answer) × accepts answer × (status ≡ Done) × (s.out after.out ≡ put answer.text (s.out before.out)))
+    ⊎ RanOut status before after
+
+-- The text is a certificate's, whose own question nothing refuses. It has a slack track exactly if one is requested, and each of its
+-- tracks is accepted by its curve over the minutes of the reference.
+pub record IsValid (book : Book) (table : List Offsets) (text : List ℕ) : Type 0 where
+  pub certificate : Certificate
+  pub site : Site
+  pub written : certificate_of text ≡ Ok certificate
+  pub unrefused : site_in Events book table certificate.station (asked_in certificate) ≡ Ok site
+  pub accepted : rejection_of (followed_by (version_of certificate) book site certificate.mark)
+      (widened_of site.basis certificate.begin certificate.end) certificate.tracks ≡ None
+
+-- The text is a certificate of a highest water, whose own question nothing refuses, and which is accepted by the level's curve.
+pub record IsValidPeak (book : Book) (table : List Offsets) (text : List ℕ) : Type 0 where
+  pub certificate : PeakCertificate
+  pub site : Site
+  pub written : peak_of text ≡ Ok certificate
+  pub unrefused : highest_site book table certificate.station (asked_of_peak certificate) ≡ Ok site
+  pub accepted : highest_verdict book site (asked_of_peak certificate) certificate.peak ≡ Accepted
+
+-- and only a valid one is accepted
+abbrev pub IsValidIfAccepted : Type 0
+IsValidIfAccepted = (book : Book) (table : List Offsets) (text : List ℕ) (zone : Zone) (answer : Answer) →
+    checked book table text zone ≡ Ok answer → answer.rejected ≡ false → IsValid book table text
+
+abbrev pub IsValidPeakIfAccepted : Type 0
+IsValidPeakIfAccepted = (book : Book) (table : List Offsets) (text : List ℕ) (answer : Answer) →
+    peak_checked book table text ≡ Ok answer → answer.rejected ≡ false → IsValidPeak book table text
+
+-- what a folder has under the names of a question of a certificate
+pub record HoldsFiles (folder : Folder) (question : Question) (book : Book) (table : List Offsets) (text : List ℕ) : Type 0 where
+  pub name : List ℕ
+  pub file : question.file ≡ Some name
+  pub constants : book_named folder name ≡ Ok book
+  pub offsets : table_named folder question.offsets ≡ Ok table
+  pub certificate : certificate_named folder question.certificate ≡ Ok text
+
+-- A check of a valid certificate over an outside that doesn't fail is done, accepts it with the listing of its own question, or runs
+-- out of memory.
+abbrev pub AcceptsValid : {F O E K : Type 0} → States F O E K → Type 0
+AcceptsValid {F} {O} {E} {K} s = (sheets : List SheetMeaning) (words : List (List ℕ)) (check : Question) (book : Book)
+    (table : List Offsets) (text : List ℕ) (zone : Zone) (status : Status) (before after : Objects F O E K) →
+    Asks sheets words Check check → HoldsFiles (folder_held s before) check book table text →
+    zone_named (folder_held s before) check.zone ≡ Ok zone →
+    IsValid book table text → AnswersAs s sheets words status before after → NothingFailed s sheets words before after →
+    EndsAccepting s (IsTrueAnswer sheets (folder_held s before) check) status before after
+
+abbrev pub AcceptsValidPeaks : {F O E K : Type 0} → States F O E K → Type 0
+AcceptsValidPeaks {F} {O} {E} {K} s = (sheets : List SheetMeaning) (words : List (List ℕ)) (check : Question) (book : Book)
+    (table : List Offsets) (text : List ℕ) (status : Status) (before after : Objects F O E K) →
+    Asks sheets words PeakCheck check → HoldsFiles (folder_held s before) check book table text →
+    IsValidPeak book table text → AnswersAs s sheets words status before after → NothingFailed s sheets words before after →
+    EndsAccepting s (IsTruePeakAnswer sheets (folder_held s before) check) status before after

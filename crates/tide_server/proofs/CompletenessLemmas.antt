@@ -1,0 +1,144 @@
+-- A server over an outside that doesn't fail ends by what it serves from, or out of memory.
+use Rattle.std.proofs.Common.{◌≡◌, ◌⊎◌, ◌∙◌, ℕ, Bool, true, false, List, [], ◌∷◌, codes, Some, None, Result, Ok, Err, inl, inr, refl, subst, sym, ap, arith, le_refl}
+use Rattle.std.specs.Bool.{IsTrue}
+use Rattle.std.specs.Prelude.{count_by}
+use Rattle.decimal_text.specs.Expected.{Excuses}
+use Rattle.harmonics_text.specs.declared.fault.BookFault.TheVariants as form
+use Rattle.harmonics_text.specs.Reading.{book_of}
+use Rattle.harmonics_text.specs.Worked.{file_of, pier_book, pier_lines}
+use Rattle.named_files.specs.declared.no_answer.NoAnswer.{NoAnswer}
+use Rattle.named_files.specs.declared.no_answer.NoAnswer.TheVariants.{Unread, Told}
+use Rattle.named_files.specs.declared.no_answer.NoAnswer.TheVariants as none_of
+use Rattle.named_files.specs.NoAnswers.{is_read_fault, source_of, status_of}
+use Rattle.named_files.specs.Readings.{book_named, table_named}
+use Rattle.question.specs.declared.command.Command.TheVariants.{Serve}
+use Rattle.question.specs.declared.fault.AskFault.TheVariants as ask
+use Rattle.question.specs.Forms.{some_text}
+use Rattle.question.specs.Questions.{question_of, with_item, with_items}
+use Rattle.question.specs.Worked.{bare}
+use Rattle.station_table.specs.declared.fault.OffsetFault.TheVariants as table
+use Rattle.tide_edge.specs.Clocks.{ClockState}
+use Rattle.tide_edge.specs.Faults.{Rose, counted, faults_after}
+use Rattle.tide_fault.specs.declared.fault.Fault.TheVariants.{Ask, NoSheet, TooLong, Book, Offsets, BadZone, Refused}
+use Rattle.tide_fault.specs.declared.refusal.Refusal.TheVariants as refusals
+use Rattle.tide_fault.specs.declared.status.Status.{Status}
+use Rattle.tide_fault.specs.declared.status.Status.TheVariants.{Done, ReadFault, NoMemory}
+use Rattle.tide_server.specs.declared.stock.Stock.{Stock}
+use Rattle.tide_server.specs.Completeness.{EndedBefore, EndsBy, IsComplete, NothingFailed, ServedAll}
+use Rattle.tide_server.specs.Conversations.{HasServed}
+use Rattle.tide_server.specs.Openings.{EndedBy, Handed, HasListened, IsRefused, service_of, stock_from, stock_named, stock_of}
+use Rattle.tide_server.specs.Promises.{ServesAs, ServiceStates, Services, handed_of}
+use Rattle.tide_server.specs.Serving.{exchange}
+use Rattle.tide_server.specs.Worked.{in_memory, pier, pier_stock, pier_words}
+
+-- ---- Nobody was served
+
+-- a fault that is excused is the expected one, unless it is out of memory
+said_for : {A : Type 0} (expected : Result A NoAnswer) (why : NoAnswer) (firm : Type 0) → firm → Excuses (source_of why) firm expected why
+    → (expected ≡ Err why) ⊎ (status_of why ≡ NoMemory)
+said_for expected Unread firm stood excused = inl (excused stood)
+said_for expected (Told (Ask ask.NoMemory)) firm stood excused = inr refl
+said_for expected (Told (Ask _)) firm stood excused = inl excused
+said_for expected (Told (NoSheet word)) firm stood excused = inl excused
+said_for expected (Told (TooLong slot)) firm stood excused = inl excused
+said_for expected (Told (Book form.NoMemory)) firm stood excused = inr refl
+said_for expected (Told (Book (form.At line why))) firm stood excused = inl excused
+said_for expected (Told (Offsets table.NoMemory)) firm stood excused = inr refl
+said_for expected (Told (Offsets (table.At row why))) firm stood excused = inl excused
+said_for expected (Told BadZone) firm stood excused = inl excused
+said_for expected (Told (Refused refusals.NoMemory)) firm stood excused = inr refl
+said_for expected (Told (Refused _)) firm stood excused = inl excused
+said_for expected (none_of.Refused refusals.NoMemory rows) firm stood excused = inr refl
+said_for expected (none_of.Refused _ rows) firm stood excused = inl excused
+
+-- its door was never asked to listen
+before_listening : {F D E K : Type 0} (s : ServiceStates F D E K) (words : List (List ℕ)) (status is : Status) (before after : Services F D E K)
+    → ServesAs s words status before after → (s.door after.door).doorway.port ≡ None → status ≡ is → EndedBefore status is before after
+before_listening s words status is before after serves unasked ends =
+    record { ends = ends; door = serves.unlistened unasked; clock = serves.unread (inl unasked) }
+
+by_why : {F D E K : Type 0} (s : ServiceStates F D E K) (words : List (List ℕ)) (expected : Result Stock NoAnswer) (why : NoAnswer) (status : Status) (before after : Services F D E K)
+    → ServesAs s words status before after → (s.door after.door).doorway.port ≡ None → status ≡ status_of why
+    → (expected ≡ Err why) ⊎ (status_of why ≡ NoMemory) → EndsBy s expected status before after ⊎ EndedBefore status NoMemory before after
+by_why s words expected why status before after serves unasked ends said =
+    elim said [
+      | inl is ↦ inl (rw is (before_listening s words status (status_of why) before after serves unasked ends))
+      | inr out ↦ inr (before_listening s words status NoMemory before after serves unasked (ends ∙ out))
+    ]
+
+by_refusal : {F D E K : Type 0} (s : ServiceStates F D E K) (words : List (List ℕ)) (firm : Type 0) (expected : Result Stock NoAnswer) (status : Status) (before after : Services F D E K)
+    → firm → (s.door before.door).doorway.port ≡ None → ServesAs s words status before after
+    → IsRefused firm expected status (handed_of s before) (handed_of s after)
+    → EndsBy s expected status before after ⊎ EndedBefore status NoMemory before after
+by_refusal s words firm expected status before after stood unasked serves refused =
+    let still : (s.door after.door).doorway.port ≡ None = ap (λ d. d.doorway.port) refused.door ∙ unasked in
+    elim refused.said [
+      | inl said ↦ by_why s words expected refused.why status before after serves still said.0 (said_for expected refused.why firm stood refused.excused)
+      | inr out ↦ inr (before_listening s words status NoMemory before after serves still out.0)
+    ]
+
+-- ---- Connections were served
+
+one_failed : (files clock door : Bool) → count_by (λ failed. failed) (files ∷ clock ∷ door ∷ []) ≡ 1
+    → ¬ (IsTrue files) → ¬ (IsTrue clock) → ¬ (IsTrue door) → ⊥
+one_failed true clock door one files_not clock_not door_not = files_not refl
+one_failed false true door one files_not clock_not door_not = clock_not refl
+one_failed false false true one files_not clock_not door_not = door_not refl
+one_failed false false false one files_not clock_not door_not = absurd (cc)
+
+-- a count that was raised by a fault rose
+risen : (failed : Bool) (before after : ℕ) → after ≡ faults_after failed before → IsTrue failed → Rose before after
+risen true before after is failed = rw is (le_refl (counted before))
+risen false before after is failed = absurd (cc)
+
+unfailing : {F D E K : Type 0} (s : ServiceStates F D E K) (stock : Stock) (before after : Services F D E K) → NothingFailed s before after
+    → (s.door after.door).doorway.port ≡ Some stock.port → EndedBy true (handed_of s before) (handed_of s after) → ⊥
+unfailing s stock before after nothing asked ended =
+    one_failed ended.files ended.clock ended.door ended.one
+    (λ is. let none = ended.files_first is in absurd (cc))
+    (λ is. nothing.clock (risen ended.clock (s.clock before.clock).faults (s.clock after.clock).faults (ap (λ (c : ClockState). c.faults) ended.clock_state) is))
+    (λ is. nothing.door (risen ended.door (s.door before.door).faults (s.door after.door).faults ended.door_count is))
+
+served_all : {F D E K : Type 0} (s : ServiceStates F D E K) (words : List (List ℕ)) (stock : Stock) (status : Status) (before after : Services F D E K)
+    → ServesAs s words status before after → NothingFailed s before after → HasListened stock status (handed_of s before) (handed_of s after)
+    → ServedAll s stock status before after
+served_all s words stock status before after serves nothing listened =
+    elim listened.ends [
+      | inl done ↦ record {
+        ends = done;
+        port = listened.asked;
+        over = serves.done done;
+        passed = rw done at listened.passed;
+      }
+      | inr failed ↦ absurd (unfailing s stock before after nothing listened.asked (rw failed at serves.fault))
+    ]
+
+pub serves_completely : {F D E K : Type 0} (s : ServiceStates F D E K) → IsComplete s
+serves_completely s words status before after unasked serves nothing =
+    let expected = stock_of (s.files before.files).store.folder words in
+    elim (serves.own_files nothing.observable) [
+      | inl refused ↦ by_refusal s words (IsTrue (s.files before.files).store.is_steady) expected status before after nothing.steady unasked serves refused
+      | inr listened ↦ inl (rw listened.1 (served_all s words listened.0 status before after serves nothing listened.2))
+    ]
+
+-- ---- A server that is worked out
+
+pier_named : book_of (file_of pier_lines) ≡ Ok pier_book
+    → stock_named (λ slot. (in_memory.files pier.files).store.folder) (record (bare Serve) { file = Some (codes "f") }) (codes "f") ≡ Ok pier_stock
+unfolding stock_named book_named table_named
+pier_named is = rw is refl
+
+pub pier_asked : service_of pier_words ≡ Ok (record (bare Serve) { file = Some (codes "f") })
+unfolding service_of question_of with_items with_item some_text
+pier_asked = refl
+
+pub pier_served : book_of (file_of pier_lines) ≡ Ok pier_book
+    → stock_of (in_memory.files pier.files).store.folder pier_words ≡ Ok pier_stock
+unfolding stock_from
+pier_served is = rw pier_asked (pier_named is)
+
+one_below : ¬ (Rose 0 0)
+one_below rose = absurd (omega (arith, rose))
+
+pub pier_unfailed : NothingFailed in_memory pier pier
+pier_unfailed = record { observable = refl; steady = refl; clock = one_below; door = one_below }

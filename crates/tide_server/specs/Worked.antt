@@ -1,0 +1,47 @@
+-- A server in memory that is worked out: its files hold constants under the name `f`, and no call on it fails (this project).
+use Rattle.std.specs.Prelude.{ℕ, pos, false, List, [], ◌∷◌, codes}
+use Rattle.harmonics_text.specs.Worked.{file_of, pier_book, pier_lines}
+use Rattle.tide_edge.specs.Calls.{HeldCalls}
+use Rattle.tide_edge.specs.Doors.{no_connections, unasked}
+use Rattle.tide_edge.specs.FileStates.{no_openings}
+use Rattle.tide_edge.specs.Memory.{HeldClock, HeldDoor, HeldFiles, HeldSink, clock_state, door_state, files_state, sink_state}
+use Rattle.tide_server.specs.declared.stock.Stock.{Stock}
+use Rattle.tide_server.specs.Promises.{ServiceStates, Services, service_states, services}
+
+abbrev pub no_calls : HeldCalls
+no_calls = record { fails = []; made = 0; faults = 0 }
+
+abbrev pub pier_files : HeldFiles
+pier_files = record {
+  files = record { name = codes "f"; bytes = file_of pier_lines } ∷ [];
+  rest = [];
+  openings = no_openings;
+  reads = record { opens = 0; ends = 0; bytes = 0 };
+  calls = no_calls;
+}
+
+-- at which no request waits
+abbrev pub quiet_door : HeldDoor
+quiet_door = record {
+  doorway = unasked;
+  connections = no_connections;
+  waiting = [];
+  coming = [];
+  replies = [];
+  room = 1000;
+  calls = no_calls;
+  line_faults = 0;
+}
+
+abbrev pub in_memory : ServiceStates HeldFiles HeldDoor HeldSink HeldClock
+in_memory = service_states files_state door_state sink_state clock_state
+
+abbrev pub pier : Services HeldFiles HeldDoor HeldSink HeldClock
+pier = services pier_files quiet_door (record { taken = []; most = 10; room = 1000; calls = no_calls })
+    (record { minute = pos 15791220; given = []; calls = no_calls })
+
+abbrev pub pier_words : List (List ℕ)
+pier_words = codes "serve" ∷ codes "file=f" ∷ []
+
+abbrev pub pier_stock : Stock
+pier_stock = record { book = pier_book; table = []; port = 8080 }

@@ -1,0 +1,28 @@
+//! Whether a server serves, over an outside that doesn't fail.
+
+ghost use Rattle.std.specs.Prelude.{◌≡◌, Some, None, Ok, codes};
+ghost use Rattle.question.specs.declared.command.Command.{Command};
+ghost use Rattle.question.specs.Worked.{bare};
+ghost use Rattle.tide_server.specs.Completeness.{IsComplete, NothingFailed};
+ghost use Rattle.tide_server.specs.Openings.{service_of, stock_of};
+ghost use Rattle.tide_server.specs.Promises.{service_states};
+ghost use Rattle.tide_server.specs.Worked.{in_memory, pier, pier_stock, pier_words};
+
+use harmonics_text::worked_files;
+use tide_edge::{Clock, Door, Files, Sink};
+
+/// Over steady files that hold what the words name, within their limits, and with no fault of the clock
+/// or of the door itself, a server that returns is done, or ran out of memory before it listened.
+pub fn servers_are_complete<F: Files, D: Door, E: Sink, K: Clock>()
+    ensures { IsComplete (service_states F.state D.state E.state K.state) }
+{}
+
+/// A server in memory: what its words serve from, and that nothing has failed.
+pub fn worked_servers()
+    ensures words { service_of pier_words ≡ Ok (record (bare Command.Serve) { file = Some (codes "f") }) }
+    ensures stock { stock_of (in_memory.files pier.files).store.folder pier_words ≡ Ok pier_stock }
+    ensures unasked { (in_memory.door pier.door).doorway.port ≡ None }
+    ensures nothing_failed { NothingFailed in_memory pier pier }
+{
+    worked_files();
+}
