@@ -1,4 +1,4 @@
--- The levels of a station's events: those of the station at their minutes, where highs and lows have one offset.
+-- The levels of a station's events: those of the station at their minutes, if highs and lows have one offset.
 use Rattle.std.proofs.Common.{◌≡◌, ℕ, zero, suc, ℤ, pos, ◌+ℤ◌, ◌-ℤ◌, ◌≤ℤ◌, ◌<ℤ◌, Bool, true, false, ◌&&◌, List, [], ◌∷◌, ◌++◌, Option, Some, None, refl, sym, ap, subst, ◌∙◌, arith}
 use Rattle.std.specs.Prelude.{All, IsTrue, flat_map, option_map, option_to_list, is_some}
 use Rattle.std.specs.Option.{ForSome}

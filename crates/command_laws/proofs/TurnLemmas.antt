@@ -216,7 +216,7 @@ first_kept t o begin end a (suc n) above from side =
     rw without (rw (kept-past t o begin end later n (omega (arith, ints, past))) (no_first (IsOfSide t above))))))
     (λ still. rw (no-more t a n still) (first_kept t o begin end later n above (omega (arith, ints)) (same_side t a still ∙ side)))
 
--- ---- where highs and lows have one offset
+-- ---- if highs and lows have one offset
 
 turn_offset : (book : Book) (site : Site) (m : ℤ) → IsTrue (is_equal site.basis) → moved site.basis (event_at (turn_of book site).track m) ≡ moved_by site.basis.high (event_at (turn_of book site).track m)
 turn_offset book site m equal =

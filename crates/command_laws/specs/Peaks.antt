@@ -34,7 +34,7 @@ has_own_time basis kind = is_slack kind && is_some basis.slack
 abbrev pub IsEventBelow : Basis → ℤ → Event → Type 0
 IsEventBelow basis level event = has_own_time basis event.kind ≡ false → event.level ≤ℤ level
 
--- a row before the end of the question
+-- a row before the end of the question, if it isn.t above a level
 abbrev pub IsRowBelow : Question → ℤ → Row → Type 0
 IsRowBelow question level row = (end : ℤ) → question.end ≡ Some end → row.minute <ℤ end → row.level ≤ℤ level
 

@@ -21,7 +21,7 @@ use Rattle.command_laws.proofs.peaks.worked_highest.Goals as goal
 
 pub returns-clause-met : goal.returns-clause-met
 unfolding answered asks_span asked_by highest highest_site site_in site_at span_in lacks_minute length_in basis_of basis_in curve_of first_fault year_fault tide_of waves_of rounded_of year_start_of days_from_civil day_count days_of_years days_of_months
-returns-clause-met c = tt
+returns-clause-met c = refl
 
 pub returns-clause-slack : goal.returns-clause-slack
 unfolding events_of followed_by station_events plain_list minutes ordered with_event predicted_level predicted_millionths predicted_slope predicted_year_level predicted_year_slope rounded_of place_of place_in year_at weight_of weight_slope_of year_start_of days_from_civil day_count days_of_years days_of_months icos_of isin_of half_of quarter_of scaled_between sine_at correction sines
