@@ -1,11 +1,8 @@
 -- The answer of `clock` beside those of `predict` and `heights`.
-use Rattle.std.proofs.Common.{◌≡◌, ℕ, zero, suc, ◌+◌, ◌/◌, ◌≤◌, nat_lt, ℤ, pos, negsuc, ◌+ℤ◌, ◌-ℤ◌, ◌*ℤ◌, ◌≤ℤ◌, int_lt, int_le, unsigned_abs, Bool, true, false, ◌&&◌, List, [], ◌∷◌, ◌++◌, codes, map, append-nil, Some, None, Result, Ok, refl, sym, ap, ◌∙◌, arith}
+use Rattle.std.proofs.Common.{◌≡◌, ℕ, zero, suc, ℤ, pos, negsuc, ◌+ℤ◌, ◌-ℤ◌, ◌*ℤ◌, ◌≤ℤ◌, int_lt, true, false, List, [], ◌∷◌, ◌++◌, codes, append-nil, Some, None, Ok, refl, sym, ap, ◌∙◌, arith}
 use Rattle.std.specs.Prelude.{IsTrue}
-use Rattle.std.specs.List.{flat_map, range_with_len}
+use Rattle.std.specs.List.{flat_map}
 use Rattle.std.proofs.lemmas.Int.{ints}
-use Rattle.curve_law.specs.declared.event.Event.{Event}
-use Rattle.curve_law.proofs.CoverLemmas.{by_test}
-use Rattle.event_list.specs.Shifts.{widened_of}
 use Rattle.event_text.specs.Lines.{event_line_in, height_line_of}
 use Rattle.harmonics_text.specs.declared.book.Book.{Book}
 use Rattle.harmonics_text.specs.declared.book.Units.{Units}
@@ -18,7 +15,7 @@ use Rattle.station_span.specs.declared.asked.Asked.{Asked}
 use Rattle.station_span.specs.declared.reach.Reach.TheVariants.{Events, Levels}
 use Rattle.station_span.specs.Following.{events_of}
 use Rattle.station_span.specs.Levels.{is_rising_at, level_at, level_in}
-use Rattle.station_span.specs.Sites.{Site, has_minute, has_span, lacks_minute, length_in, mark_in, moved, site_in, span_in}
+use Rattle.station_span.specs.Sites.{Site, has_minute, lacks_minute, length_in, site_in, span_in}
 use Rattle.station_span.proofs.FoundLemmas.{found_by, found_whole}
 use Rattle.station_span.proofs.LevelLemmas.{level_equal}
 use Rattle.station_span.proofs.SiteLemmas.{then_ok}
@@ -27,16 +24,14 @@ use Rattle.station_table.specs.declared.offsets.Offsets.{Offsets}
 use Rattle.station_table.specs.Bases.{is_equal}
 use Rattle.tide_answer.specs.declared.given.Given.{Given}
 use Rattle.tide_answer.specs.declared.text.Answer.{Answer}
-use Rattle.tide_answer.specs.Answers.{answered, asks_name, asks_span, heights, named_by, on_clock, predicted, row_at, row_count, rows_in, rows_of, text_alone, text_of_events, text_over}
-use Rattle.tide_answer.specs.Asking.{asked_by, asked_from}
-use Rattle.tide_fault.specs.declared.refusal.Refusal.{Refusal}
+use Rattle.tide_answer.specs.Answers.{answered, asks_name, heights, named_by, on_clock, predicted, row_count, rows_in, rows_of, text_alone, text_of_events, text_over}
+use Rattle.tide_answer.specs.Asking.{asked_from}
 use Rattle.tide_fault.specs.declared.refusal.Refusal.TheVariants.{NoStation}
-use Rattle.year_blend.specs.Years.{year_start_of}
 use Rattle.zone_time.specs.declared.zone.Zone.{Zone}
 use Rattle.zone_time.specs.Zones.{local_in}
-use Rattle.command_laws.specs.Clock.{AsksDay, AsksLevel, IsClock, ShowsThePresentAndTheNextDay}
+use Rattle.command_laws.specs.Clock.{AsksDay, AsksLevel, ShowsThePresentAndTheNextDay}
 use Rattle.command_laws.proofs.QuestionLemmas.{answers_heights, answers_predict, asks_of}
-use Rattle.command_laws.proofs.SiteLemmas.{HasPassed, has_passed, reaches_span, some_of}
+use Rattle.command_laws.proofs.SiteLemmas.{has_passed, reaches_span, some_of}
 use Rattle.command_laws.proofs.TurnLemmas.{adds, first_turn}
 
 -- ---- the level of a minute alone

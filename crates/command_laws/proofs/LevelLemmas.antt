@@ -1,7 +1,6 @@
 -- The levels of a station's events: those of the station at their minutes, if highs and lows have one offset.
-use Rattle.std.proofs.Common.{◌≡◌, ℕ, zero, suc, ℤ, pos, ◌+ℤ◌, ◌-ℤ◌, ◌≤ℤ◌, ◌<ℤ◌, Bool, true, false, ◌&&◌, List, [], ◌∷◌, ◌++◌, Option, Some, None, refl, sym, ap, subst, ◌∙◌, arith}
+use Rattle.std.proofs.Common.{◌≡◌, ℕ, ℤ, ◌+ℤ◌, ◌-ℤ◌, ◌≤ℤ◌, ◌<ℤ◌, Bool, true, false, ◌&&◌, List, [], ◌∷◌, ◌++◌, Option, Some, None, refl, sym, ap, subst, ◌∙◌, arith}
 use Rattle.std.specs.Prelude.{All, IsTrue, flat_map, option_map, option_to_list, is_some}
-use Rattle.std.specs.Option.{ForSome}
 use Rattle.std.proofs.lemmas.Bool.Decides.{Decides-int_eq}
 use Rattle.std.proofs.lemmas.Int.{ints}
 use Rattle.std.proofs.lemmas.List.Elements.{All-nil, All-cons, All-head, All-tail, All-append}
@@ -12,15 +11,12 @@ use Rattle.curve_law.specs.Meaning.{Meaning}
 use Rattle.curve_law.specs.Track.{Track, plain_list}
 use Rattle.curve_law.proofs.CoverLemmas.{by_test}
 use Rattle.event_list.specs.declared.span.Span.{Span}
-use Rattle.event_list.specs.Events.{Followed, events_over, minutes_in, station_events}
-use Rattle.event_list.specs.Order.{ordered}
+use Rattle.event_list.specs.Events.{events_over, minutes_in}
 use Rattle.event_list.specs.Shifts.{is_within, moved, moved_by, moved_within, offset_of, scaled, widened_of}
 use Rattle.event_list.proofs.EventLemmas.{events_of as all_events, events-parts}
 use Rattle.event_list.proofs.OrderLemmas.{All-ordered}
-use Rattle.event_list.proofs.PlainLemmas.{LiesIn, within-lies}
+use Rattle.event_list.proofs.PlainLemmas.{within-lies}
 use Rattle.harmonics_text.specs.declared.book.Book.{Book}
-use Rattle.harmonics_text.specs.declared.book.Units.{Units}
-use Rattle.harmonics_text.specs.declared.book.Units.TheVariants.{Feet, Meters, Knots, KnotsSquared}
 use Rattle.station_curve.specs.Schureman.{predicted_millionths}
 use Rattle.station_span.specs.declared.asked.Asked.{Asked}
 use Rattle.station_span.specs.Following.{asks_slack, events_of, followed, followed_by, if_asked}

@@ -21,7 +21,7 @@ use Rattle.station_table.specs.declared.offsets.Offsets.{Offsets}
 use Rattle.station_table.specs.Bases.{is_equal}
 use Rattle.tide_answer.specs.declared.given.Given.{Given}
 use Rattle.tide_answer.specs.declared.text.Answer.{Answer}
-use Rattle.tide_answer.specs.Answers.{answered, events_text, heights, heights_text, predicted, row_at, row_count, rows_in, rows_of, text_alone, text_over}
+use Rattle.tide_answer.specs.Answers.{answered, events_text, heights, heights_text, row_at, row_count, rows_in, rows_of, text_alone, text_over}
 use Rattle.zone_time.specs.declared.zone.Zone.{Zone}
 use Rattle.tide_answer.specs.PeakLaws.{TellsTheHighest}
 use Rattle.command_laws.specs.Peaks.{AskOneSpan, IsRowBelow, ListsEventsBelow, ListsRowsBelow, NothingIsHigher}

@@ -1,16 +1,16 @@
 -- The events of a subordinate station are its reference's, moved.
-use Rattle.std.proofs.Common.{◌≡◌, ℕ, zero, suc, ◌+◌, ◌*◌, ◌≤◌, ◌^◌, ℤ, pos, negsuc, ◌+ℤ◌, ◌-ℤ◌, ◌*ℤ◌, ◌≤ℤ◌, int_lt, Bool, true, false, not, ◌&&◌, ◌||◌, List, [], ◌∷◌, ◌++◌, map, Option, Some, None, Ok, append-nil, refl, sym, ap, mul-le-mul_right, ◌∙◌, arith}
-use Rattle.std.specs.Prelude.{All, IsTrue, filter, flat_map, is_none, is_some, option_map, option_to_list}
+use Rattle.std.proofs.Common.{◌≡◌, ℕ, zero, suc, ◌+◌, ◌*◌, ◌≤◌, ℤ, pos, negsuc, ◌+ℤ◌, ◌-ℤ◌, ◌*ℤ◌, ◌≤ℤ◌, int_lt, Bool, true, false, not, ◌||◌, List, [], ◌∷◌, ◌++◌, map, Option, Some, None, append-nil, refl, sym, ap, mul-le-mul_right, ◌∙◌, arith}
+use Rattle.std.specs.Prelude.{filter, flat_map, option_map, option_to_list}
 use Rattle.std.specs.Ordering.{int_eq}
 use Rattle.std.proofs.lemmas.Bool.Decides.{Decides-int_eq}
 use Rattle.std.proofs.lemmas.Int.{ints}
-use Rattle.std.proofs.lemmas.List.Elements.{All-nil, All-append, filter-append}
+use Rattle.std.proofs.lemmas.List.Elements.{filter-append}
 use borrow.Author.Differences.{up, down}
 use Rattle.curve_law.specs.declared.event.Event.{Event}
 use Rattle.curve_law.specs.declared.kind.Kind.{Kind}
 use Rattle.curve_law.specs.declared.kind.Kind.TheVariants.{High, Low, FloodBegins, EbbBegins, MarkRising, MarkFalling}
 use Rattle.curve_law.specs.Meaning.{Meaning}
-use Rattle.curve_law.specs.Track.{Track, event_at, has_event, plain_list, side_at}
+use Rattle.curve_law.specs.Track.{Track, event_at, plain_list, side_at}
 use Rattle.curve_law.proofs.CoverLemmas.{by_test}
 use Rattle.curve_law.proofs.TrackLemmas.{plain_list-one, plain_list-suc, plain_list-zero}
 use Rattle.event_list.specs.declared.span.Span.{Span}
@@ -33,9 +33,8 @@ use Rattle.station_span.specs.declared.asked.Asked.{Asked}
 use Rattle.station_span.specs.Following.{asks_slack, events_of, followed, followed_by, if_asked, slack_plus, slack_times}
 use Rattle.station_span.specs.Sites.{Site}
 use Rattle.station_table.specs.declared.basis.Basis.{Basis}
-use Rattle.station_table.specs.declared.offset.Offset.{Offset}
 use Rattle.station_table.specs.declared.offset.Slack.{Slack}
-use Rattle.station_table.specs.Bases.{is_equal, reference_basis, usual}
+use Rattle.station_table.specs.Bases.{reference_basis, usual}
 use Rattle.command_laws.specs.Clock.{turns_in}
 use Rattle.command_laws.specs.Subordinates.{MeansOneMark, has_own_slack, has_too, second_step}
 use Rattle.command_laws.proofs.TurnLemmas.{adds, turn_of, turns_of}

@@ -1,13 +1,11 @@
 -- The lists of a subordinate station and of its reference.
-use Rattle.std.proofs.Common.{◌≡◌, ℕ, ℤ, pos, ◌-ℤ◌, ◌≤ℤ◌, int_lt, true, false, List, Option, Some, None, Ok, refl, sym, ap, subst, ◌∙◌, arith}
+use Rattle.std.proofs.Common.{◌≡◌, ℕ, ℤ, ◌-ℤ◌, ◌≤ℤ◌, int_lt, true, false, List, Option, Some, None, Ok, refl, sym, ap, subst, ◌∙◌, arith}
 use Rattle.std.specs.Prelude.{slice_get}
 use Rattle.std.specs.Option.{ok_or}
 use Rattle.std.proofs.lemmas.Int.{ints}
-use Rattle.event_list.specs.declared.span.Span.{Span}
 use Rattle.event_list.specs.Shifts.{widened_of}
 use Rattle.event_list.proofs.PlainLemmas.{plain-span}
 use Rattle.harmonics_text.specs.declared.book.Book.{Book}
-use Rattle.harmonics_text.specs.declared.book.Station.{Station}
 use Rattle.question.specs.declared.command.Command.TheVariants.{Predict}
 use Rattle.question.specs.declared.question.Layout.{Layout}
 use Rattle.question.specs.declared.question.Question.{Question}
@@ -26,7 +24,7 @@ use Rattle.tide_answer.specs.declared.given.Given.{Given}
 use Rattle.tide_answer.specs.declared.text.Answer.{Answer}
 use Rattle.tide_answer.specs.Answers.{answered, events_text, predicted, text_of_events, text_over}
 use Rattle.zone_time.specs.declared.zone.Zone.{Zone}
-use Rattle.command_laws.specs.Subordinates.{AreTwoSteps, AsksReference, AsksSubordinate, ListsInTwoSteps, ReferenceIsAnswered}
+use Rattle.command_laws.specs.Subordinates.{AreTwoSteps, AsksReference, ListsInTwoSteps, ReferenceIsAnswered}
 use Rattle.command_laws.proofs.QuestionLemmas.{WasPredicted, answers_predict, asks_of, predicts}
 use Rattle.command_laws.proofs.SiteLemmas.{has_passed, reached_span, reaches_span, same_some, some_of}
 use Rattle.command_laws.proofs.StepLemmas.{all-steps, forward_span, over_span, reference_of, turn-steps}
@@ -155,7 +153,9 @@ reference_answered book table question reference given there row basis begin end
     of_reference book table row.reference was.site.basis.station (at_reference ∙ ap (λ (b : Basis). Some b.station) (sym same)) in
     let site = reference_site book table asks.name row.reference asked reference.mark was.site was.found is (rw same short) in
     let s = widened_of basis begin end in
-    let there_is = rw same at site in
-    (_, answers_predict book table reference there asks_first.command
-    ∙ asks_of reference (text_over Predict book table reference there.zone) row.reference s.begin s.end reference.mark asks_first.named asks_first.begins asks_first.ends refl
-    ∙ predicted_by book table row.reference (over_span s reference.mark) reference.layout there.zone _ there_is)
+    let there_is = rw same at site in (
+      _,
+      answers_predict book table reference there asks_first.command
+          ∙ asks_of reference (text_over Predict book table reference there.zone) row.reference s.begin s.end reference.mark asks_first.named asks_first.begins asks_first.ends refl
+          ∙ predicted_by book table row.reference (over_span s reference.mark) reference.layout there.zone _ there_is,
+    )
