@@ -1,0 +1,9 @@
+mod ClockLemmas
+mod LevelLemmas
+mod ListLemmas
+mod PeakLemmas
+mod QuestionLemmas
+mod SiteLemmas
+mod StepLemmas
+mod SubordinateLemmas
+mod TurnLemmas

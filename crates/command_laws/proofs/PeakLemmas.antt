@@ -1,0 +1,124 @@
+-- Nothing that other commands print of a span is above its highest water.
+use Rattle.std.proofs.Common.{◌≡◌, ℕ, ◌<◌, ℤ, pos, negsuc, ◌+ℤ◌, ◌*ℤ◌, ◌≤ℤ◌, List, map, Some, Ok, refl, sym, ap, ◌∙◌, arith}
+use Rattle.std.specs.Prelude.{All, IsTrue}
+use Rattle.std.specs.List.{range_with_len}
+use Rattle.std.proofs.lemmas.Int.{ints}
+use Rattle.std.proofs.lemmas.List.Elements.{All-from_get_or}
+use Rattle.std.proofs.lemmas.List.FromFn.{get_or-map-range_with_len, length-map-range_with_len}
+use Rattle.harmonics_text.specs.declared.book.Book.{Book}
+use Rattle.listing.specs.declared.row.Row.{Row}
+use Rattle.question.specs.declared.command.Command.TheVariants.{Predict, Heights, Highest}
+use Rattle.question.specs.declared.question.Layout.{Layout}
+use Rattle.question.specs.declared.question.Question.{Question}
+use Rattle.station_span.specs.declared.asked.Asked.{Asked}
+use Rattle.station_span.specs.declared.reach.Reach.TheVariants.{Events, Levels, Highest as HighestReach}
+use Rattle.station_span.specs.Following.{events_of}
+use Rattle.station_span.specs.Levels.{level_at, level_in}
+use Rattle.station_span.specs.Sites.{Site, site_in}
+use Rattle.station_span.proofs.PeakLemmas.{highest_parts}
+use Rattle.station_span.proofs.SiteLemmas.{then_ok}
+use Rattle.station_table.specs.declared.offsets.Offsets.{Offsets}
+use Rattle.station_table.specs.Bases.{is_equal}
+use Rattle.tide_answer.specs.declared.given.Given.{Given}
+use Rattle.tide_answer.specs.declared.text.Answer.{Answer}
+use Rattle.tide_answer.specs.Answers.{answered, events_text, heights, heights_text, row_at, row_count, rows_in, rows_of, text_alone, text_over}
+use Rattle.zone_time.specs.declared.zone.Zone.{Zone}
+use Rattle.tide_answer.specs.PeakLaws.{TellsTheHighest}
+use Rattle.command_laws.specs.Peaks.{AskOneSpan, IsRowBelow, ListsEventsBelow, ListsRowsBelow, NothingIsHigher}
+use Rattle.command_laws.proofs.LevelLemmas.{IsMost, events-below}
+use Rattle.command_laws.proofs.SiteLemmas.{has_passed, one_site, same_some}
+use Rattle.command_laws.proofs.QuestionLemmas.{answers_heights, answers_highest, asks_of, has_span, predicts}
+
+-- ---- the rows of heights
+
+later : (begin step : ℤ) (index : ℕ) → pos 1 ≤ℤ step → begin ≤ℤ (begin +ℤ (step *ℤ pos index))
+later begin (pos step) index some = omega (arith, ints)
+later begin (negsuc step) index some = absurd (omega (arith, ints))
+
+rows-below : (book : Book) (site : Site) (question : Question) (asked : Asked) (step level : ℤ) → question.end ≡ Some asked.end → pos 1 ≤ℤ step → IsMost book site asked level → All (IsRowBelow question level) (rows_of book site asked.begin asked.end step)
+rows-below book site question asked step level ends some most =
+    let row : ℕ → Row = row_at book site asked.begin step in
+    let count = row_count asked.begin asked.end step in
+    All-from_get_or (IsRowBelow question level) (map row (range_with_len 0 count)) (row 0) (λ index within.
+    let below : index < count = omega (arith, length-map-range_with_len row 0 count, within) in
+    let is = get_or-map-range_with_len row 0 count index index (row 0) below (omega arith) in
+    rw is (λ end ends_there before.
+    let same = same_some question.end end asked.end ends_there ends in
+    most (asked.begin +ℤ (step *ℤ pos index)) (later asked.begin step index some) (rw same at before)))
+
+-- ---- what is listed of the span
+
+-- a station that has a highest water, with the span that is asked of it
+record HasHighest (book : Book) (table : List Offsets) (question : Question) (name : List ℕ) (asked : Asked) (site : Site) (level : ℤ) : Type 0 where
+  pub station : question.station ≡ Some name
+  pub begins : question.begin ≡ Some asked.begin
+  pub ends : question.end ≡ Some asked.end
+  pub found : site_in HighestReach book table name asked ≡ Ok site
+  pub equal : IsTrue (is_equal site.basis)
+  pub most : IsMost book site asked level
+
+lists-events : (book : Book) (table : List Offsets) (question predict : Question) (there : Given) (listing : Answer) (name : List ℕ) (asked : Asked) (site : Site) (level : ℤ) → HasHighest book table question name asked site level → predict.command ≡ Predict → AskOneSpan question predict → answered book table predict there ≡ Ok listing → ListsEventsBelow predict there name site.station.units site.basis level listing
+lists-events book table question predict there listing name asked site level has command same ok =
+    let over : Asked = record { begin = asked.begin; end = asked.end; mark = predict.mark } in
+    let was = predicts book table predict there listing name asked.begin asked.end command (same.station ∙ has.station) (same.begin ∙ has.begins) (same.end ∙ has.ends) ok in
+    let one = one_site HighestReach Events book table name asked over site was.site has.found was.found in
+    record {
+      events = events_of book site over;
+      text = was.text ∙ ap (λ (s : Site). events_text predict.layout name s.station.units (events_of book s over) there.zone) one;
+      below = events-below book site over level has.equal has.most;
+    }
+
+-- the levels that a question lists are those of the station that its name finds
+record WereListed (book : Book) (table : List Offsets) (name : List ℕ) (asked : Asked) (step : ℤ) (layout : Layout) (zone : Zone) (answer : Answer) : Type 0 where
+  pub site : Site
+  pub found : site_in Levels book table name asked ≡ Ok site
+  pub text : answer.text ≡ heights_text layout name site.station.units (rows_of book site asked.begin asked.end step) zone
+
+were_listed : (book : Book) (table : List Offsets) (name : List ℕ) (asked : Asked) (step : ℤ) (layout : Layout) (zone : Zone) (answer : Answer) → heights book table name asked step layout zone ≡ Ok answer → WereListed book table name asked step layout zone answer
+unfolding heights
+were_listed book table name asked step layout zone answer ok =
+    let site = then_ok (site_in Levels book table name asked) _ answer ok in
+    let equal = then_ok (level_in site.0.basis) _ answer site.2 in
+    let few = then_ok (rows_in asked.begin asked.end step) _ answer equal.2 in
+    let is : text_alone (heights_text layout name site.0.station.units (rows_of book site.0 asked.begin asked.end step) zone) ≡ answer = (let last = few.2 in cc) in
+    record { site = site.0; found = site.1; text = ap (λ (a : Answer). a.text) (sym is) }
+
+lists-rows : (book : Book) (table : List Offsets) (question levels : Question) (there : Given) (listing : Answer) (name : List ℕ) (asked : Asked) (site : Site) (level : ℤ) → HasHighest book table question name asked site level → levels.command ≡ Heights → AskOneSpan question levels → pos 1 ≤ℤ levels.step → answered book table levels there ≡ Ok listing → ListsRowsBelow levels there name site.station.units level listing
+lists-rows book table question levels there listing name asked site level has command same some ok =
+    let over : Asked = record { begin = asked.begin; end = asked.end; mark = levels.mark } in
+    let was = were_listed book table name over levels.step levels.layout there.zone listing
+    (sym (asks_of levels (text_over Heights book table levels there.zone) name asked.begin asked.end levels.mark (same.station ∙ has.station) (same.begin ∙ has.begins) (same.end ∙ has.ends) refl)
+    ∙ sym (answers_heights book table levels there command) ∙ ok) in
+    let one = one_site HighestReach Levels book table name asked over site was.site has.found was.found in
+    record {
+      rows = rows_of book site asked.begin asked.end levels.step;
+      text = was.text ∙ ap (λ (s : Site). heights_text levels.layout name s.station.units (rows_of book s asked.begin asked.end levels.step) there.zone) one;
+      below = rows-below book site levels asked levels.step level (same.end ∙ has.ends) some has.most;
+    }
+
+-- ---- the law
+
+pub nothing_higher : TellsTheHighest → NothingIsHigher
+nothing_higher tells book table question given answer rows command ok =
+    let span = has_span question (text_over Highest book table question given.zone) answer (sym (answers_highest book table question given command) ∙ ok) in
+    let name = span.name in
+    let asked : Asked = record { begin = span.begin; end = span.end; mark = question.mark } in
+    let told = tells book table name asked given.zone answer rows span.answered in
+    let site = told.site in
+    let minute = told.at +ℤ site.basis.high.add in
+    let level = level_at book site minute in
+    let parts = highest_parts book table name asked site told.found in
+    let has : HasHighest book table question name asked site level =
+    record { station = span.station; begins = span.begins; ends = span.ends; found = parts.0; equal = parts.1; most = told.water.level } in
+    record {
+      name = name;
+      basis = site.basis;
+      units = site.station.units;
+      minute = minute;
+      level = level;
+      named = span.station;
+      found = (has_passed HighestReach book table name asked site parts.0).basis;
+      text = ap (λ (a : Answer). a.text) told.told;
+      events = λ predict there listing command same ok. lists-events book table question predict there listing name asked site level has command same ok;
+      rows = λ levels there listing command same some ok. lists-rows book table question levels there listing name asked site level has command same some ok;
+    }

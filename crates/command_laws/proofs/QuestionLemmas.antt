@@ -1,0 +1,93 @@
+-- What a question that has an answer names: a station and a span.
+use Rattle.std.proofs.Common.{◌≡◌, ℕ, ℤ, List, Option, Some, None, Result, Ok, refl, sym, ap, ◌∙◌}
+use Rattle.question.specs.declared.question.Question.{Question}
+use Rattle.station_span.specs.declared.asked.Asked.{Asked}
+use Rattle.station_span.specs.declared.reach.Reach.TheVariants.{Events}
+use Rattle.station_span.specs.Following.{events_of}
+use Rattle.station_span.specs.Sites.{Site, site_in}
+use Rattle.station_span.proofs.SiteLemmas.{then_ok}
+use Rattle.zone_time.specs.declared.zone.Zone.{Zone}
+use Rattle.question.specs.declared.question.Layout.{Layout}
+use Rattle.tide_answer.specs.declared.text.Answer.{Answer}
+use Rattle.harmonics_text.specs.declared.book.Book.{Book}
+use Rattle.question.specs.declared.command.Command.TheVariants.{Predict, Heights, Highest}
+use Rattle.station_table.specs.declared.offsets.Offsets.{Offsets}
+use Rattle.tide_answer.specs.declared.given.Given.{Given}
+use Rattle.tide_answer.specs.Answers.{answered, asks_span, events_text, named_by, predicted, text_of_events, text_over}
+use Rattle.tide_answer.specs.Asking.{asked_by}
+use Rattle.tide_fault.specs.declared.refusal.Refusal.{Refusal}
+use Rattle.tide_fault.specs.declared.refusal.Refusal.TheVariants.{NoStation}
+use Rattle.command_laws.proofs.SiteLemmas.{some_of}
+
+-- a question names a station and a span, over which a step has this answer
+pub record HasSpan (question : Question) (next : List ℕ → Asked → Result Answer Refusal) (answer : Answer) : Type 0 where
+  pub name : List ℕ
+  pub begin : ℤ
+  pub end : ℤ
+  pub station : question.station ≡ Some name
+  pub begins : question.begin ≡ Some begin
+  pub ends : question.end ≡ Some end
+  pub answered : next name (record { begin = begin; end = end; mark = question.mark }) ≡ Ok answer
+
+span_of : (question : Question) (asked : Asked) → (begin end : Option ℤ) → question.begin ≡ begin → question.end ≡ end → asked_by question ≡ Some asked → (a : ℤ) × (b : ℤ) × (question.begin ≡ Some a) × (question.end ≡ Some b) × (asked ≡ record { begin = a; end = b; mark = question.mark })
+unfolding asked_by
+span_of question asked (Some a) (Some b) begins ends is = (a, b, begins, ends, (let read = rw (begins, ends) at is in cc))
+span_of question asked (Some a) None begins ends is = absurd (let read = rw (begins, ends) at is in cc)
+span_of question asked None end begins ends is = absurd (let read = rw begins at is in cc)
+
+pub has_span : (question : Question) (next : List ℕ → Asked → Result Answer Refusal) (answer : Answer) → asks_span question next ≡ Ok answer → HasSpan question next answer
+unfolding asks_span
+has_span question next answer ok =
+    let name = then_ok (named_by question.station) _ answer ok in
+    let asked = then_ok (named_by (asked_by question)) _ answer name.2 in
+    let span = span_of question asked.0 _ _ refl refl (some_of _ NoStation asked.0 asked.1) in
+    record {
+      name = name.0;
+      begin = span.0;
+      end = span.1;
+      station = some_of _ NoStation name.0 name.1;
+      begins = span.2;
+      ends = span.3;
+      answered = ap (next name.0) (sym span.4) ∙ asked.2;
+    }
+
+-- ---- the answers of commands that are asked of a span
+
+pub answers_predict : (book : Book) (table : List Offsets) (question : Question) (given : Given) → question.command ≡ Predict → answered book table question given ≡ asks_span question (text_over Predict book table question given.zone)
+unfolding answered
+answers_predict book table question given is = rw is refl
+
+pub answers_heights : (book : Book) (table : List Offsets) (question : Question) (given : Given) → question.command ≡ Heights → answered book table question given ≡ asks_span question (text_over Heights book table question given.zone)
+unfolding answered
+answers_heights book table question given is = rw is refl
+
+pub answers_highest : (book : Book) (table : List Offsets) (question : Question) (given : Given) → question.command ≡ Highest → answered book table question given ≡ asks_span question (text_over Highest book table question given.zone)
+unfolding answered
+answers_highest book table question given is = rw is refl
+
+-- what a question names is what its step is given
+pub asks_of : (question : Question) (next : List ℕ → Asked → Result Answer Refusal) (name : List ℕ) (begin end : ℤ) (mark : Option ℤ) → question.station ≡ Some name → question.begin ≡ Some begin → question.end ≡ Some end → question.mark ≡ mark → asks_span question next ≡ next name (record { begin = begin; end = end; mark = mark })
+unfolding asks_span asked_by
+asks_of question next name begin end mark station begins ends marked = rw (station, begins, ends, marked) refl
+
+-- ---- a prediction
+
+-- a prediction has the events of the station that its name finds
+pub record WasPredicted (book : Book) (table : List Offsets) (name : List ℕ) (asked : Asked) (layout : Layout) (zone : Zone) (answer : Answer) : Type 0 where
+  pub site : Site
+  pub found : site_in Events book table name asked ≡ Ok site
+  pub text : answer.text ≡ events_text layout name site.station.units (events_of book site asked) zone
+
+was_predicted : (book : Book) (table : List Offsets) (name : List ℕ) (asked : Asked) (layout : Layout) (zone : Zone) (answer : Answer) → predicted book table name asked layout zone ≡ Ok answer → WasPredicted book table name asked layout zone answer
+unfolding predicted
+was_predicted book table name asked layout zone answer ok =
+    let site = then_ok (site_in Events book table name asked) _ answer ok in
+    let text = events_text layout name site.0.station.units (events_of book site.0 asked) zone in
+    let is : text_of_events book site.0 asked text ≡ answer = (let last = site.2 in cc) in
+    record { site = site.0; found = site.1; text = ap (λ (a : Answer). a.text) (sym is) }
+
+pub predicts : (book : Book) (table : List Offsets) (question : Question) (given : Given) (answer : Answer) (name : List ℕ) (begin end : ℤ) → question.command ≡ Predict → question.station ≡ Some name → question.begin ≡ Some begin → question.end ≡ Some end → answered book table question given ≡ Ok answer → WasPredicted book table name (record { begin = begin; end = end; mark = question.mark }) question.layout given.zone answer
+predicts book table question given answer name begin end command station begins ends ok =
+    was_predicted book table name (record { begin = begin; end = end; mark = question.mark }) question.layout given.zone answer
+    (sym (asks_of question (text_over Predict book table question given.zone) name begin end question.mark station begins ends refl)
+    ∙ sym (answers_predict book table question given command) ∙ ok)

@@ -1,0 +1,76 @@
+-- What `clock` prints, beside what `predict` and `heights` print of the same minutes (this project).
+use Rattle.std.specs.Prelude.{◌≡◌, ℕ, ℤ, pos, ◌+ℤ◌, ◌≤ℤ◌, Bool, true, false, if◌then◌else◌, List, ◌++◌, codes, filter, slice_get, Some, None, Ok}
+use Rattle.std.specs.List.{flat_map}
+use Rattle.std.specs.Option.{ForSome}
+use Rattle.curve_law.specs.declared.event.Event.{Event}
+use Rattle.curve_law.specs.declared.kind.Kind.{Kind}
+use Rattle.curve_law.specs.declared.kind.Kind.TheVariants.{High, Low}
+use Rattle.event_text.specs.Lines.{event_line_in}
+use Rattle.harmonics_text.specs.declared.book.Book.{Book}
+use Rattle.harmonics_text.specs.declared.book.Units.{Units}
+use Rattle.listing.specs.Listings.{direction_of}
+use Rattle.question.specs.declared.command.Command.TheVariants.{Clock, Heights, Predict}
+use Rattle.question.specs.declared.question.Layout.TheVariants.{Plain}
+use Rattle.question.specs.declared.question.Question.{Question}
+use Rattle.station_table.specs.declared.offsets.Offsets.{Offsets}
+use Rattle.tide_answer.specs.declared.given.Given.{Given}
+use Rattle.tide_answer.specs.declared.text.Answer.{Answer}
+use Rattle.tide_answer.specs.Answers.{answered, text_alone}
+
+-- ---- the questions
+
+-- `predict` about the station of another question, from a minute for 1,440 minutes, in plain lines
+pub record AsksDay (clock : Question) (now : ℤ) (predict : Question) : Type 0 where
+  pub command : predict.command ≡ Predict
+  pub station : predict.station ≡ clock.station
+  pub begin : predict.begin ≡ Some now
+  pub end : predict.end ≡ Some (now +ℤ pos 1440)
+  pub no_mark : predict.mark ≡ None
+  pub layout : predict.layout ≡ Plain
+
+-- `heights` about it at this minute alone; no step is shorter than a minute
+pub record AsksLevel (clock : Question) (now : ℤ) (heights : Question) : Type 0 where
+  pub command : heights.command ≡ Heights
+  pub station : heights.station ≡ clock.station
+  pub begin : heights.begin ≡ Some now
+  pub end : heights.end ≡ Some now
+  pub no_mark : heights.mark ≡ None
+  pub step : pos 1 ≤ℤ heights.step
+  pub layout : heights.layout ≡ Plain
+
+-- ---- the texts
+
+-- a high or a low water; of a current a greatest or a least flood or ebb
+abbrev pub is_turn : Kind → Bool
+is_turn High = true
+is_turn Low = true
+is_turn _ = false
+
+abbrev pub turns_in : List Event → List Event
+turns_in events = filter (λ event. is_turn event.kind) events
+
+-- the kind of the next turn, by whether the level rises
+abbrev pub next_turn : Bool → Kind
+next_turn rising = if rising then High else Low
+
+-- the answer of `clock`: `line` is the line that `heights` has of the level, and `lines` are those that `predict` has of the events
+pub record IsClock (book : Book) (table : List Offsets) (clock : Question) (given : Given) (answer : Answer) : Type 0 where
+  pub name : List ℕ
+  pub line : List ℕ
+  pub lines : List ℕ
+  pub rising : Bool
+  pub units : Units
+  pub events : List Event
+  pub text : answer.text ≡ name ++ codes "\n"
+      ++ (codes "Now " ++ line ++ codes "  " ++ direction_of rising ++ codes "\n") ++ lines
+  pub day : (predict : Question) (there : Given) → AsksDay clock given.now predict → there.zone ≡ given.zone →
+      answered book table predict there ≡ Ok (record answer { text = name ++ codes "\n" ++ lines })
+  pub level : (heights : Question) (there : Given) → AsksLevel clock given.now heights → there.zone ≡ given.zone →
+      answered book table heights there ≡ Ok (text_alone (name ++ codes "\n" ++ (line ++ codes "\n")))
+  pub lines_are : lines ≡ flat_map (event_line_in given.zone units) events
+  pub first_turn : ForSome (slice_get (turns_in events) 0) (λ turn. turn.kind ≡ next_turn rising)
+
+-- each answer of `clock` is made so
+abbrev pub ShowsThePresentAndTheNextDay : Type 0
+ShowsThePresentAndTheNextDay = (book : Book) (table : List Offsets) (clock : Question) (given : Given) (answer : Answer) →
+    clock.command ≡ Clock → answered book table clock given ≡ Ok answer → IsClock book table clock given answer

@@ -1,0 +1,105 @@
+-- The events of a subordinate station in two steps: those of its reference, and then its offsets (this project).
+use Rattle.std.specs.Prelude.{◌≡◌, ℕ, ℤ, pos, ◌-ℤ◌, ◌*ℤ◌, ◌≤ℤ◌, Bool, false, not, ◌&&◌, ◌||◌, is_none, List, filter, slice_get, Option, Some, None, Ok}
+use Rattle.std.specs.Ordering.{int_eq}
+use Rattle.curve_law.specs.declared.event.Event.{Event}
+use Rattle.event_list.specs.Order.{ordered}
+use Rattle.event_list.specs.Shifts.{moved_within, widened_of}
+use Rattle.event_text.specs.Words.{is_slack}
+use Rattle.harmonics_text.specs.declared.book.Book.{Book}
+use Rattle.harmonics_text.specs.declared.book.Units.{Units}
+use Rattle.harmonics_text.specs.declared.book.Units.TheVariants.{Knots}
+use Rattle.question.specs.declared.command.Command.TheVariants.{Predict}
+use Rattle.question.specs.declared.question.Question.{Question}
+use Rattle.station_curve.specs.Worked.{small_station}
+use Rattle.station_span.specs.Following.{asks_slack}
+use Rattle.station_span.specs.Sites.{Site, span_limit}
+use Rattle.station_table.specs.declared.basis.Basis.{Basis}
+use Rattle.station_table.specs.declared.offset.Offset.{Offset}
+use Rattle.station_table.specs.declared.offsets.Offsets.{Offsets}
+use Rattle.station_table.specs.Bases.{basis_of}
+use Rattle.station_table.specs.Offsets.{IsTable}
+use Rattle.tide_answer.specs.declared.given.Given.{Given}
+use Rattle.tide_answer.specs.declared.text.Answer.{Answer}
+use Rattle.tide_answer.specs.Answers.{answered, events_text}
+use Rattle.command_laws.specs.Clock.{turns_in}
+
+-- ---- the two questions
+
+-- a question is `predict` about a station whose name finds this row of the table, from one minute to another
+pub record AsksSubordinate (book : Book) (table : List Offsets) (row : Offsets) (basis : Basis) (begin end : ℤ) (question : Question) : Type 0 where
+  pub name : List ℕ
+  pub index : ℕ
+  pub command : question.command ≡ Predict
+  pub named : question.station ≡ Some name
+  pub begins : question.begin ≡ Some begin
+  pub ends : question.end ≡ Some end
+  pub found : basis_of book table name ≡ Ok basis
+  pub is_row : basis.row ≡ Some index
+  pub at : slice_get table index ≡ Some row
+
+-- another one is `predict` about the reference of the row, over the span that its offsets widen
+pub record AsksReference (row : Offsets) (basis : Basis) (begin end : ℤ) (question : Question) : Type 0 where
+  pub command : question.command ≡ Predict
+  pub named : question.station ≡ Some row.reference
+  pub begins : question.begin ≡ Some (widened_of basis begin end).begin
+  pub ends : question.end ≡ Some (widened_of basis begin end).end
+
+-- the station's level, which is the reference's times the factor and then the plus, passes its mark together with the reference's
+abbrev pub MeansOneMark : Basis → Option ℤ → Option ℤ → Type 0
+MeansOneMark basis None None = Unit {0}
+MeansOneMark basis None (Some there) = ⊥
+MeansOneMark basis (Some mark) None = ⊥
+MeansOneMark basis (Some mark) (Some there) = there *ℤ basis.high.times ≡ (mark -ℤ basis.high.plus) *ℤ pos 1000000
+
+-- ---- the two lists
+
+-- the events of the reference that the station has too: all, but slack water only if the station has it
+abbrev pub has_too : Units → Basis → Event → Bool
+has_too units basis event = asks_slack units basis || not (is_slack event.kind)
+
+-- the station's slack water is where its own level passes 0, and this isn't where the reference's does
+abbrev pub has_own_slack : Units → Basis → Bool
+has_own_slack units basis = asks_slack units basis && is_none basis.slack && not (int_eq basis.high.plus (pos 0))
+
+-- the events of the reference, each moved and scaled by the offset of its kind, those within the span kept, in order
+abbrev pub second_step : Units → Basis → ℤ → ℤ → List Event → List Event
+second_step units basis begin end events = ordered (moved_within basis begin end (filter (has_too units basis) events))
+
+-- both answers, by their events
+pub record AreTwoSteps (question reference : Question) (given there : Given) (row : Offsets) (basis : Basis) (begin end : ℤ) (answer first : Answer) : Type 0 where
+  pub name : List ℕ
+  pub units : Units
+  pub events : List Event
+  pub of_reference : List Event
+  pub named : question.station ≡ Some name
+  pub text : answer.text ≡ events_text question.layout name units events given.zone
+  pub first_text : first.text ≡ events_text reference.layout row.reference units of_reference there.zone
+  pub turns : turns_in events ≡ ordered (moved_within basis begin end (turns_in of_reference))
+  pub all : has_own_slack units basis ≡ false → MeansOneMark basis question.mark reference.mark →
+      events ≡ second_step units basis begin end of_reference
+
+-- the list of a subordinate station is that of its reference, moved
+abbrev pub ListsInTwoSteps : Type 0
+ListsInTwoSteps = (book : Book) (table : List Offsets) (question reference : Question) (given there : Given) (row : Offsets) (basis : Basis) (begin end : ℤ) (answer first : Answer) →
+    IsTable table → AsksSubordinate book table row basis begin end question → AsksReference row basis begin end reference →
+    answered book table question given ≡ Ok answer → answered book table reference there ≡ Ok first →
+    AreTwoSteps question reference given there row basis begin end answer first
+
+-- the first question has an answer if the second one has, and the widened span isn't too long
+abbrev pub ReferenceIsAnswered : Type 0
+ReferenceIsAnswered = (book : Book) (table : List Offsets) (question reference : Question) (given there : Given) (row : Offsets) (basis : Basis) (begin end : ℤ) (answer : Answer) →
+    AsksSubordinate book table row basis begin end question → AsksReference row basis begin end reference →
+    answered book table question given ≡ Ok answer →
+    ((widened_of basis begin end).end -ℤ (widened_of basis begin end).begin) ≤ℤ span_limit →
+    (first : Answer) × (answered book table reference there ≡ Ok first)
+
+-- ---- a small station
+
+-- a current whose levels are 0.5 above its reference's, and whose slack waters have no times of their own
+abbrev pub stream : Site
+stream =
+    let higher : Offset = record { add = pos 0; times = pos 1000000; plus = pos 500000 } in
+    record {
+      basis = record { station = 0; row = Some 0; high = higher; low = higher; slack = None };
+      station = small_station (pos 1000000) Knots;
+    }

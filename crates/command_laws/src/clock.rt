@@ -1,0 +1,34 @@
+//! The law of `clock`.
+
+ghost use Rattle.std.specs.Prelude.{◌≡◌, pos, true, IsOk, [], ◌∷◌, codes, Some, None};
+ghost use Rattle.curve_law.specs.declared.kind.Kind.{Kind};
+ghost use Rattle.harmonics_text.specs.declared.book.Units.{Units};
+ghost use Rattle.harmonics_text.specs.Worked.{pier_book as pier_file};
+ghost use Rattle.question.specs.declared.command.Command.{Command};
+ghost use Rattle.question.specs.Worked.{bare};
+ghost use Rattle.station_curve.specs.Worked.{pier, pier_book};
+ghost use Rattle.station_span.specs.Following.{events_of};
+ghost use Rattle.station_span.specs.Levels.{is_rising_at};
+ghost use Rattle.station_table.specs.Bases.{reference_basis};
+ghost use Rattle.tide_answer.specs.Answers.{answered};
+ghost use Rattle.zone_time.specs.declared.zone.Zone.{Zone};
+ghost use Rattle.command_laws.specs.Clock.{ShowsThePresentAndTheNextDay};
+
+/// What `clock` prints is the line that `heights` has of the present minute, and then the lines that
+/// `predict` has of the 1,440 minutes from there on. Both questions have an answer if `clock` has one.
+/// If there is a turn among the events, the first one is a high water exactly if the level is said to
+/// rise.
+pub fn clock_shows_the_present_and_the_next_day()
+    ensures { ShowsThePresentAndTheNextDay }
+{}
+
+/// A question that has an answer; and the minute before a high water, at which the level rises and the
+/// next turn is the high one.
+pub fn worked_clock()
+    ensures met { IsOk (answered pier_file [] (record (bare Command.Clock) { station = Some (codes "Pier") })
+        (record { zone = Zone.Utc; certificate = []; now = pos 15791759 })) }
+    ensures rises { is_rising_at pier_book (record { basis = reference_basis 0; station = pier }) (pos 15791759) ≡ true }
+    ensures high { events_of pier_book (record { basis = reference_basis 0; station = pier })
+        (record { begin = pos 15791759; end = pos 15791761; mark = None })
+        ≡ record { minute = pos 15791759; kind = Kind.High; level = pos 999962 } ∷ [] }
+{}
