@@ -62,7 +62,8 @@ pub record IsAboveAll (book : Book) (table : List Offsets) (highest : Question) 
   pub text : answer.text ≡ highest_text_of name site.station.units minute (level_at book site minute) given.zone
   pub events : (predict : Question) (there : Given) (listing : Answer) →
       predict.command ≡ Predict → AskOneSpan highest predict → answered book table predict there ≡ Ok listing →
-      ListsEventsBelow predict there name site (level_at book site minute) (events_of book site (record { begin = begin; end = end; mark = predict.mark })) listing
+      ListsEventsBelow predict there name site (level_at book site minute)
+      (events_of book site (record { begin = begin; end = end; mark = predict.mark })) listing
   pub rows : (heights : Question) (there : Given) (listing : Answer) →
       heights.command ≡ Heights → AskOneSpan highest heights → pos 1 ≤ℤ heights.step → answered book table heights there ≡ Ok listing →
       ListsRowsBelow heights there name site end (level_at book site minute) (rows_of book site begin end heights.step) listing

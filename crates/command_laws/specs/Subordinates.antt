@@ -82,14 +82,16 @@ pub record AreTwoSteps (book : Book) (table : List Offsets) (question reference 
 
 -- the list of a subordinate station is that of its reference, moved
 abbrev pub ListsInTwoSteps : Type 0
-ListsInTwoSteps = (book : Book) (table : List Offsets) (question reference : Question) (given there : Given) (row : Offsets) (basis : Basis) (begin end : ℤ) (answer first : Answer) →
+ListsInTwoSteps = (book : Book) (table : List Offsets) (question reference : Question) (given there : Given) →
+    (row : Offsets) (basis : Basis) (begin end : ℤ) (answer first : Answer) →
     IsTable table → AsksSubordinate book table row basis begin end question → AsksReference row basis begin end reference →
     answered book table question given ≡ Ok answer → answered book table reference there ≡ Ok first →
     AreTwoSteps book table question reference given there row basis begin end answer first
 
 -- the first question has an answer if the second one has, and the widened span isn't too long
 abbrev pub ReferenceIsAnswered : Type 0
-ReferenceIsAnswered = (book : Book) (table : List Offsets) (question reference : Question) (given there : Given) (row : Offsets) (basis : Basis) (begin end : ℤ) (answer : Answer) →
+ReferenceIsAnswered = (book : Book) (table : List Offsets) (question reference : Question) (given there : Given) →
+    (row : Offsets) (basis : Basis) (begin end : ℤ) (answer : Answer) →
     AsksSubordinate book table row basis begin end question → AsksReference row basis begin end reference →
     answered book table question given ≡ Ok answer →
     ((widened_of basis begin end).end -ℤ (widened_of basis begin end).begin) ≤ℤ span_limit →
