@@ -30,7 +30,7 @@ use Rattle.tide_fault.specs.declared.refusal.Refusal.TheVariants.{NoStation}
 use Rattle.zone_time.specs.declared.zone.Zone.{Zone}
 use Rattle.zone_time.specs.Zones.{local_in}
 use Rattle.command_laws.specs.Clock.{AsksDay, AsksLevel, ShowsThePresentAndTheNextDay}
-use Rattle.command_laws.proofs.QuestionLemmas.{answers_heights, answers_predict, asks_of}
+use Rattle.command_laws.proofs.QuestionLemmas.{answers_heights, answers_predict, asks_of, lists_of}
 use Rattle.command_laws.proofs.SiteLemmas.{has_passed, reaches_span, some_of}
 use Rattle.command_laws.proofs.TurnLemmas.{adds, first_turn}
 
@@ -156,6 +156,8 @@ clock_shows book table clock given answer command ok =
       text = ap (λ (a : Answer). a.text) was.answer_is;
       day = day_answer book table clock given answer was;
       level = level_answer book table clock given answer was;
+      events_are = λ predict asks.
+          lists_of book table predict was.name now (now +ℤ pos 1440) None site (asks.station ∙ was.named) asks.begin asks.end asks.no_mark was.found;
       lines_are = refl;
       first_turn = first_turn book site (asked_from now) (level_equal site.basis was.level) (omega (arith, ints));
     }

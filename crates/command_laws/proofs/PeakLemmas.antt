@@ -26,7 +26,7 @@ use Rattle.zone_time.specs.declared.zone.Zone.{Zone}
 use Rattle.tide_answer.specs.PeakLaws.{TellsTheHighest}
 use Rattle.command_laws.specs.Peaks.{AskOneSpan, IsRowBelow, ListsEventsBelow, ListsRowsBelow, NothingIsHigher}
 use Rattle.command_laws.proofs.LevelLemmas.{IsMost, events-below}
-use Rattle.command_laws.proofs.SiteLemmas.{has_passed, one_site, same_some}
+use Rattle.command_laws.proofs.SiteLemmas.{one_site}
 use Rattle.command_laws.proofs.QuestionLemmas.{answers_heights, answers_highest, asks_of, has_span, predicts}
 
 -- ---- the rows of heights
@@ -35,16 +35,14 @@ later : (begin step : ℤ) (index : ℕ) → pos 1 ≤ℤ step → begin ≤ℤ 
 later begin (pos step) index some = omega (arith, ints)
 later begin (negsuc step) index some = absurd (omega (arith, ints))
 
-rows-below : (book : Book) (site : Site) (question : Question) (asked : Asked) (step level : ℤ) → question.end ≡ Some asked.end → pos 1 ≤ℤ step → IsMost book site asked level → All (IsRowBelow question level) (rows_of book site asked.begin asked.end step)
-rows-below book site question asked step level ends some most =
+rows-below : (book : Book) (site : Site) (asked : Asked) (step level : ℤ) → pos 1 ≤ℤ step → IsMost book site asked level → All (IsRowBelow asked.end level) (rows_of book site asked.begin asked.end step)
+rows-below book site asked step level some most =
     let row : ℕ → Row = row_at book site asked.begin step in
     let count = row_count asked.begin asked.end step in
-    All-from_get_or (IsRowBelow question level) (map row (range_with_len 0 count)) (row 0) (λ index within.
+    All-from_get_or (IsRowBelow asked.end level) (map row (range_with_len 0 count)) (row 0) (λ index within.
     let below : index < count = omega (arith, length-map-range_with_len row 0 count, within) in
     let is = get_or-map-range_with_len row 0 count index index (row 0) below (omega arith) in
-    rw is (λ end ends_there before.
-    let same = same_some question.end end asked.end ends_there ends in
-    most (asked.begin +ℤ (step *ℤ pos index)) (later asked.begin step index some) (rw same at before)))
+    rw is (λ before. most (asked.begin +ℤ (step *ℤ pos index)) (later asked.begin step index some) before))
 
 -- ---- what is listed of the span
 
@@ -57,13 +55,12 @@ record HasHighest (book : Book) (table : List Offsets) (question : Question) (na
   pub equal : IsTrue (is_equal site.basis)
   pub most : IsMost book site asked level
 
-lists-events : (book : Book) (table : List Offsets) (question predict : Question) (there : Given) (listing : Answer) (name : List ℕ) (asked : Asked) (site : Site) (level : ℤ) → HasHighest book table question name asked site level → predict.command ≡ Predict → AskOneSpan question predict → answered book table predict there ≡ Ok listing → ListsEventsBelow predict there name site.station.units site.basis level listing
+lists-events : (book : Book) (table : List Offsets) (question predict : Question) (there : Given) (listing : Answer) (name : List ℕ) (asked : Asked) (site : Site) (level : ℤ) → HasHighest book table question name asked site level → predict.command ≡ Predict → AskOneSpan question predict → answered book table predict there ≡ Ok listing → ListsEventsBelow predict there name site level (events_of book site (record { begin = asked.begin; end = asked.end; mark = predict.mark })) listing
 lists-events book table question predict there listing name asked site level has command same ok =
     let over : Asked = record { begin = asked.begin; end = asked.end; mark = predict.mark } in
     let was = predicts book table predict there listing name asked.begin asked.end command (same.station ∙ has.station) (same.begin ∙ has.begins) (same.end ∙ has.ends) ok in
     let one = one_site HighestReach Events book table name asked over site was.site has.found was.found in
     record {
-      events = events_of book site over;
       text = was.text ∙ ap (λ (s : Site). events_text predict.layout name s.station.units (events_of book s over) there.zone) one;
       below = events-below book site over level has.equal has.most;
     }
@@ -83,7 +80,7 @@ were_listed book table name asked step layout zone answer ok =
     let is : text_alone (heights_text layout name site.0.station.units (rows_of book site.0 asked.begin asked.end step) zone) ≡ answer = (let last = few.2 in cc) in
     record { site = site.0; found = site.1; text = ap (λ (a : Answer). a.text) (sym is) }
 
-lists-rows : (book : Book) (table : List Offsets) (question levels : Question) (there : Given) (listing : Answer) (name : List ℕ) (asked : Asked) (site : Site) (level : ℤ) → HasHighest book table question name asked site level → levels.command ≡ Heights → AskOneSpan question levels → pos 1 ≤ℤ levels.step → answered book table levels there ≡ Ok listing → ListsRowsBelow levels there name site.station.units level listing
+lists-rows : (book : Book) (table : List Offsets) (question levels : Question) (there : Given) (listing : Answer) (name : List ℕ) (asked : Asked) (site : Site) (level : ℤ) → HasHighest book table question name asked site level → levels.command ≡ Heights → AskOneSpan question levels → pos 1 ≤ℤ levels.step → answered book table levels there ≡ Ok listing → ListsRowsBelow levels there name site asked.end level (rows_of book site asked.begin asked.end levels.step) listing
 lists-rows book table question levels there listing name asked site level has command same some ok =
     let over : Asked = record { begin = asked.begin; end = asked.end; mark = levels.mark } in
     let was = were_listed book table name over levels.step levels.layout there.zone listing
@@ -91,9 +88,8 @@ lists-rows book table question levels there listing name asked site level has co
     ∙ sym (answers_heights book table levels there command) ∙ ok) in
     let one = one_site HighestReach Levels book table name asked over site was.site has.found was.found in
     record {
-      rows = rows_of book site asked.begin asked.end levels.step;
       text = was.text ∙ ap (λ (s : Site). heights_text levels.layout name s.station.units (rows_of book s asked.begin asked.end levels.step) there.zone) one;
-      below = rows-below book site levels asked levels.step level (same.end ∙ has.ends) some has.most;
+      below = rows-below book site asked levels.step level some has.most;
     }
 
 -- ---- the law
@@ -112,12 +108,14 @@ nothing_higher tells book table question given answer rows command ok =
     record { station = span.station; begins = span.begins; ends = span.ends; found = parts.0; equal = parts.1; most = told.water.level } in
     record {
       name = name;
-      basis = site.basis;
-      units = site.station.units;
+      begin = span.begin;
+      end = span.end;
+      site = site;
       minute = minute;
-      level = level;
       named = span.station;
-      found = (has_passed HighestReach book table name asked site parts.0).basis;
+      begins = span.begins;
+      ends = span.ends;
+      found = told.found;
       text = ap (λ (a : Answer). a.text) told.told;
       events = λ predict there listing command same ok. lists-events book table question predict there listing name asked site level has command same ok;
       rows = λ levels there listing command same some ok. lists-rows book table question levels there listing name asked site level has command same some ok;

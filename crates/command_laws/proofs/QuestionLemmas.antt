@@ -13,7 +13,7 @@ use Rattle.harmonics_text.specs.declared.book.Book.{Book}
 use Rattle.question.specs.declared.command.Command.TheVariants.{Predict, Heights, Highest}
 use Rattle.station_table.specs.declared.offsets.Offsets.{Offsets}
 use Rattle.tide_answer.specs.declared.given.Given.{Given}
-use Rattle.tide_answer.specs.Answers.{answered, asks_span, events_text, named_by, predicted, text_of_events, text_over}
+use Rattle.tide_answer.specs.Answers.{answered, asks_span, events_text, listed, named_by, predicted, text_of_events, text_over}
 use Rattle.tide_answer.specs.Asking.{asked_by}
 use Rattle.tide_fault.specs.declared.refusal.Refusal.{Refusal}
 use Rattle.tide_fault.specs.declared.refusal.Refusal.TheVariants.{NoStation}
@@ -73,21 +73,33 @@ asks_of question next name begin end mark station begins ends marked = rw (stati
 -- ---- a prediction
 
 -- a prediction has the events of the station that its name finds
-pub record WasPredicted (book : Book) (table : List Offsets) (name : List ℕ) (asked : Asked) (layout : Layout) (zone : Zone) (answer : Answer) : Type 0 where
+pub record WasPredicted (book : Book) (table : List Offsets) (question : Question) (given : Given) (name : List ℕ) (asked : Asked) (answer : Answer) : Type 0 where
   pub site : Site
   pub found : site_in Events book table name asked ≡ Ok site
-  pub text : answer.text ≡ events_text layout name site.station.units (events_of book site asked) zone
+  pub events_are : listed book table question ≡ Ok (record { name = name; units = site.station.units; events = events_of book site asked })
+  pub text : answer.text ≡ events_text question.layout name site.station.units (events_of book site asked) given.zone
 
-was_predicted : (book : Book) (table : List Offsets) (name : List ℕ) (asked : Asked) (layout : Layout) (zone : Zone) (answer : Answer) → predicted book table name asked layout zone ≡ Ok answer → WasPredicted book table name asked layout zone answer
+was_predicted : (book : Book) (table : List Offsets) (name : List ℕ) (asked : Asked) (layout : Layout) (zone : Zone) (answer : Answer) → predicted book table name asked layout zone ≡ Ok answer → (site : Site) × (site_in Events book table name asked ≡ Ok site) × (answer.text ≡ events_text layout name site.station.units (events_of book site asked) zone)
 unfolding predicted
 was_predicted book table name asked layout zone answer ok =
     let site = then_ok (site_in Events book table name asked) _ answer ok in
     let text = events_text layout name site.0.station.units (events_of book site.0 asked) zone in
     let is : text_of_events book site.0 asked text ≡ answer = (let last = site.2 in cc) in
-    record { site = site.0; found = site.1; text = ap (λ (a : Answer). a.text) (sym is) }
+    (site.0, site.1, ap (λ (a : Answer). a.text) (sym is))
 
-pub predicts : (book : Book) (table : List Offsets) (question : Question) (given : Given) (answer : Answer) (name : List ℕ) (begin end : ℤ) → question.command ≡ Predict → question.station ≡ Some name → question.begin ≡ Some begin → question.end ≡ Some end → answered book table question given ≡ Ok answer → WasPredicted book table name (record { begin = begin; end = end; mark = question.mark }) question.layout given.zone answer
+pub lists_of : (book : Book) (table : List Offsets) (question : Question) (name : List ℕ) (begin end : ℤ) (mark : Option ℤ) (site : Site) → question.station ≡ Some name → question.begin ≡ Some begin → question.end ≡ Some end → question.mark ≡ mark → site_in Events book table name (record { begin = begin; end = end; mark = mark }) ≡ Ok site → listed book table question ≡ Ok (record { name = name; units = site.station.units; events = events_of book site (record { begin = begin; end = end; mark = mark }) })
+unfolding listed asked_by
+lists_of book table question name begin end mark site station begins ends marked found = rw (station, begins, ends, marked, found) refl
+
+pub predicts : (book : Book) (table : List Offsets) (question : Question) (given : Given) (answer : Answer) (name : List ℕ) (begin end : ℤ) → question.command ≡ Predict → question.station ≡ Some name → question.begin ≡ Some begin → question.end ≡ Some end → answered book table question given ≡ Ok answer → WasPredicted book table question given name (record { begin = begin; end = end; mark = question.mark }) answer
 predicts book table question given answer name begin end command station begins ends ok =
-    was_predicted book table name (record { begin = begin; end = end; mark = question.mark }) question.layout given.zone answer
+    let asked : Asked = record { begin = begin; end = end; mark = question.mark } in
+    let was = was_predicted book table name asked question.layout given.zone answer
     (sym (asks_of question (text_over Predict book table question given.zone) name begin end question.mark station begins ends refl)
-    ∙ sym (answers_predict book table question given command) ∙ ok)
+    ∙ sym (answers_predict book table question given command) ∙ ok) in
+    record {
+      site = was.0;
+      found = was.1;
+      events_are = lists_of book table question name begin end question.mark was.0 station begins ends refl was.1;
+      text = was.2;
+    }

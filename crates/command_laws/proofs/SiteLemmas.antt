@@ -68,6 +68,10 @@ has_passed reach book table name asked site ok =
       mark = mark.1;
     })
 
+pub same_site : (site found : Site) → found.basis ≡ site.basis → found.station ≡ site.station → found ≡ site
+same_site site found basis station =
+    ap (λ b. record { basis = b; station = found.station }) basis ∙ ap (λ s. record { basis = site.basis; station = s }) station
+
 -- a name finds one station
 pub one_site : (reach other : Reach) (book : Book) (table : List Offsets) (name : List ℕ) (asked there : Asked) (site found : Site) → site_in reach book table name asked ≡ Ok site → site_in other book table name there ≡ Ok found → found ≡ site
 one_site reach other book table name asked there site found ok ok_there =
@@ -76,7 +80,7 @@ one_site reach other book table name asked there site found ok ok_there =
     let basis : found.basis ≡ site.basis = (let left = here.basis in let right = again.basis in cc) in
     let station : found.station ≡ site.station =
     same_some (slice_get book.stations site.basis.station) found.station site.station (ap (λ (b : Basis). slice_get book.stations b.station) (sym basis) ∙ again.station) here.station in
-    ap (λ b. record { basis = b; station = found.station }) basis ∙ ap (λ s. record { basis = site.basis; station = s }) station
+    same_site site found basis station
 
 -- ---- the span
 

@@ -26,7 +26,7 @@ use Rattle.tide_answer.specs.Answers.{answered, events_text, predicted, text_of_
 use Rattle.zone_time.specs.declared.zone.Zone.{Zone}
 use Rattle.command_laws.specs.Subordinates.{AreTwoSteps, AsksReference, ListsInTwoSteps, ReferenceIsAnswered}
 use Rattle.command_laws.proofs.QuestionLemmas.{WasPredicted, answers_predict, asks_of, predicts}
-use Rattle.command_laws.proofs.SiteLemmas.{has_passed, reached_span, reaches_span, same_some, some_of}
+use Rattle.command_laws.proofs.SiteLemmas.{has_passed, reached_span, reaches_span, same_site, same_some, some_of}
 use Rattle.command_laws.proofs.StepLemmas.{all-steps, forward_span, over_span, reference_of, turn-steps}
 
 -- ---- the reference of a row
@@ -75,9 +75,9 @@ finds_reference book table name reference asked there site found ok is ok_there 
     let basis : found.basis ≡ reference_basis site.basis.station = (let left = first.basis in cc) in
     let station : found.station ≡ site.station =
     same_some (slice_get book.stations site.basis.station) found.station site.station (ap (λ (b : Basis). slice_get book.stations b.station) (sym basis) ∙ first.station) here.station in
-    ap (λ b. record { basis = b; station = found.station }) basis ∙ ap (λ s. record { basis = reference_basis site.basis.station; station = s }) station
+    same_site (reference_of site) found basis station
 
-two_steps : (book : Book) (table : List Offsets) (question reference : Question) (given there : Given) (row : Offsets) (name : List ℕ) (begin end : ℤ) (answer first : Answer) (was : WasPredicted book table name (record { begin = begin; end = end; mark = question.mark }) question.layout given.zone answer) → IsTable table → question.station ≡ Some name → basis_of book table row.reference ≡ Ok (reference_basis was.site.basis.station) → AsksReference row was.site.basis begin end reference → answered book table reference there ≡ Ok first → AreTwoSteps question reference given there row was.site.basis begin end answer first
+two_steps : (book : Book) (table : List Offsets) (question reference : Question) (given there : Given) (row : Offsets) (name : List ℕ) (begin end : ℤ) (answer first : Answer) (was : WasPredicted book table question given name (record { begin = begin; end = end; mark = question.mark }) answer) → IsTable table → question.station ≡ Some name → basis_of book table row.reference ≡ Ok (reference_basis was.site.basis.station) → AsksReference row was.site.basis begin end reference → answered book table reference there ≡ Ok first → AreTwoSteps book table question reference given there row was.site.basis begin end answer first
 two_steps book table question reference given there row name begin end answer first was rows named is asks ok =
     let site = was.site in
     let asked : Asked = record { begin = begin; end = end; mark = question.mark } in
@@ -92,6 +92,8 @@ two_steps book table question reference given there row name begin end answer fi
       events = events_of book site asked;
       of_reference = events_of book (reference_of site) over;
       named = named;
+      events_are = was.events_are;
+      first_are = was_first.events_are ∙ ap (λ (s : Site). Ok (record { name = row.reference; units = s.station.units; events = events_of book s over })) one;
       text = was.text;
       first_text = was_first.text ∙ ap (λ (s : Site). events_text reference.layout row.reference s.station.units (events_of book s over) there.zone) one;
       turns = turn-steps book site asked reference.mark forward;
@@ -106,7 +108,7 @@ lists_in_two_steps book table question reference given there row basis begin end
     let at_reference = reference_at book table asks.name basis asks.index row asks.found asks.is_row asks.at in
     let is : basis_of book table row.reference ≡ Ok (reference_basis was.site.basis.station) =
     of_reference book table row.reference was.site.basis.station (at_reference ∙ ap (λ (b : Basis). Some b.station) (sym same)) in
-    subst (λ b. AsksReference row b begin end reference → AreTwoSteps question reference given there row b begin end answer first) same
+    subst (λ b. AsksReference row b begin end reference → AreTwoSteps book table question reference given there row b begin end answer first) same
     (λ asks_there. two_steps book table question reference given there row asks.name begin end answer first was rows asks.named is asks_there ok_first)
     asks_first
 

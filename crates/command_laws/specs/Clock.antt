@@ -15,7 +15,7 @@ use Rattle.question.specs.declared.question.Question.{Question}
 use Rattle.station_table.specs.declared.offsets.Offsets.{Offsets}
 use Rattle.tide_answer.specs.declared.given.Given.{Given}
 use Rattle.tide_answer.specs.declared.text.Answer.{Answer}
-use Rattle.tide_answer.specs.Answers.{answered, text_alone}
+use Rattle.tide_answer.specs.Answers.{answered, listed, text_alone}
 
 -- ---- the questions
 
@@ -67,6 +67,8 @@ pub record IsClock (book : Book) (table : List Offsets) (clock : Question) (give
       answered book table predict there ≡ Ok (record answer { text = name ++ codes "\n" ++ lines })
   pub level : (heights : Question) (there : Given) → AsksLevel clock given.now heights → there.zone ≡ given.zone →
       answered book table heights there ≡ Ok (text_alone (name ++ codes "\n" ++ (line ++ codes "\n")))
+  pub events_are : (predict : Question) → AsksDay clock given.now predict →
+      listed book table predict ≡ Ok (record { name = name; units = units; events = events })
   pub lines_are : lines ≡ flat_map (event_line_in given.zone units) events
   pub first_turn : ForSome (slice_get (turns_in events) 0) (λ turn. turn.kind ≡ next_turn rising)
 

@@ -4,22 +4,23 @@ use Rattle.curve_law.specs.declared.event.Event.{Event}
 use Rattle.curve_law.specs.declared.kind.Kind.{Kind}
 use Rattle.event_text.specs.Words.{is_slack}
 use Rattle.harmonics_text.specs.declared.book.Book.{Book}
-use Rattle.harmonics_text.specs.declared.book.Units.{Units}
 use Rattle.harmonics_text.specs.declared.book.Units.TheVariants.{Knots}
 use Rattle.listing.specs.declared.row.Row.{Row}
 use Rattle.listing.specs.Listings.{highest_text_of}
 use Rattle.question.specs.declared.command.Command.TheVariants.{Predict, Heights, Highest}
 use Rattle.question.specs.declared.question.Question.{Question}
 use Rattle.station_curve.specs.Worked.{small_station}
+use Rattle.station_span.specs.Following.{events_of}
+use Rattle.station_span.specs.Levels.{level_at}
+use Rattle.station_span.specs.Peaks.{highest_site}
 use Rattle.station_span.specs.Sites.{Site}
 use Rattle.station_table.specs.declared.basis.Basis.{Basis}
 use Rattle.station_table.specs.declared.offset.Offset.{Offset}
 use Rattle.station_table.specs.declared.offsets.Offsets.{Offsets}
-use Rattle.station_table.specs.Bases.{basis_of}
 use Rattle.station_table.specs.Offsets.{IsTable}
 use Rattle.tide_answer.specs.declared.given.Given.{Given}
 use Rattle.tide_answer.specs.declared.text.Answer.{Answer}
-use Rattle.tide_answer.specs.Answers.{answered, events_text, heights_text}
+use Rattle.tide_answer.specs.Answers.{answered, events_text, heights_text, rows_of}
 
 -- two questions about one station and one span
 pub record AskOneSpan (question other : Question) : Type 0 where
@@ -34,38 +35,38 @@ has_own_time basis kind = is_slack kind && is_some basis.slack
 abbrev pub IsEventBelow : Basis → ℤ → Event → Type 0
 IsEventBelow basis level event = has_own_time basis event.kind ≡ false → event.level ≤ℤ level
 
--- a row before the end of the question, if it isn.t above a level
-abbrev pub IsRowBelow : Question → ℤ → Row → Type 0
-IsRowBelow question level row = (end : ℤ) → question.end ≡ Some end → row.minute <ℤ end → row.level ≤ℤ level
+abbrev pub IsRowBelow : ℤ → ℤ → Row → Type 0
+IsRowBelow end level row = row.minute <ℤ end → row.level ≤ℤ level
 
--- a listing of `predict`, none of whose events is above a level
-pub record ListsEventsBelow (predict : Question) (there : Given) (name : List ℕ) (units : Units) (basis : Basis) (level : ℤ) (listing : Answer) : Type 0 where
-  pub events : List Event
-  pub text : listing.text ≡ events_text predict.layout name units events there.zone
-  pub below : All (IsEventBelow basis level) events
+-- a listing of `predict` has these events, and none of them is above a level
+pub record ListsEventsBelow (predict : Question) (there : Given) (name : List ℕ) (site : Site) (level : ℤ) (events : List Event) (listing : Answer) : Type 0 where
+  pub text : listing.text ≡ events_text predict.layout name site.station.units events there.zone
+  pub below : All (IsEventBelow site.basis level) events
 
--- a listing of `heights`, none of whose rows before the end is above a level
-pub record ListsRowsBelow (heights : Question) (there : Given) (name : List ℕ) (units : Units) (level : ℤ) (listing : Answer) : Type 0 where
-  pub rows : List Row
-  pub text : listing.text ≡ heights_text heights.layout name units rows there.zone
-  pub below : All (IsRowBelow heights level) rows
+-- a listing of `heights` has these rows, and none of them before the end is above a level
+pub record ListsRowsBelow (heights : Question) (there : Given) (name : List ℕ) (site : Site) (end level : ℤ) (rows : List Row) (listing : Answer) : Type 0 where
+  pub text : listing.text ≡ heights_text heights.layout name site.station.units rows there.zone
+  pub below : All (IsRowBelow end level) rows
 
--- the answer of `highest`, by its minute and level, and what `predict` and `heights` answer about the same station and span
+-- the answer of `highest`, by its minute and the level there, and what `predict` and `heights` answer about the same station and span
 pub record IsAboveAll (book : Book) (table : List Offsets) (highest : Question) (given : Given) (answer : Answer) : Type 0 where
   pub name : List ℕ
-  pub basis : Basis
-  pub units : Units
+  pub begin : ℤ
+  pub end : ℤ
+  pub site : Site
   pub minute : ℤ
-  pub level : ℤ
   pub named : highest.station ≡ Some name
-  pub found : basis_of book table name ≡ Ok basis
-  pub text : answer.text ≡ highest_text_of name units minute level given.zone
+  pub begins : highest.begin ≡ Some begin
+  pub ends : highest.end ≡ Some end
+  pub found : highest_site book table name (record { begin = begin; end = end; mark = highest.mark }) ≡ Ok site
+  pub text : answer.text ≡ highest_text_of name site.station.units minute (level_at book site minute) given.zone
   pub events : (predict : Question) (there : Given) (listing : Answer) →
       predict.command ≡ Predict → AskOneSpan highest predict → answered book table predict there ≡ Ok listing →
-      ListsEventsBelow predict there name units basis level listing
+      ListsEventsBelow predict there name site (level_at book site minute)
+      (events_of book site (record { begin = begin; end = end; mark = predict.mark })) listing
   pub rows : (heights : Question) (there : Given) (listing : Answer) →
       heights.command ≡ Heights → AskOneSpan highest heights → pos 1 ≤ℤ heights.step → answered book table heights there ≡ Ok listing →
-      ListsRowsBelow heights there name units level listing
+      ListsRowsBelow heights there name site end (level_at book site minute) (rows_of book site begin end heights.step) listing
 
 -- no event and no level of the span is above the highest water
 abbrev pub NothingIsHigher : Type 0

@@ -20,7 +20,7 @@ use Rattle.station_table.specs.Bases.{basis_of}
 use Rattle.station_table.specs.Offsets.{IsTable}
 use Rattle.tide_answer.specs.declared.given.Given.{Given}
 use Rattle.tide_answer.specs.declared.text.Answer.{Answer}
-use Rattle.tide_answer.specs.Answers.{answered, events_text}
+use Rattle.tide_answer.specs.Answers.{answered, events_text, listed}
 use Rattle.command_laws.specs.Clock.{turns_in}
 
 -- ---- the two questions
@@ -65,13 +65,15 @@ has_own_slack units basis = asks_slack units basis && is_none basis.slack && not
 abbrev pub second_step : Units → Basis → ℤ → ℤ → List Event → List Event
 second_step units basis begin end events = ordered (moved_within basis begin end (filter (has_too units basis) events))
 
--- both answers, by their events
-pub record AreTwoSteps (question reference : Question) (given there : Given) (row : Offsets) (basis : Basis) (begin end : ℤ) (answer first : Answer) : Type 0 where
+-- both answers, by the events that the questions ask
+pub record AreTwoSteps (book : Book) (table : List Offsets) (question reference : Question) (given there : Given) (row : Offsets) (basis : Basis) (begin end : ℤ) (answer first : Answer) : Type 0 where
   pub name : List ℕ
   pub units : Units
   pub events : List Event
   pub of_reference : List Event
   pub named : question.station ≡ Some name
+  pub events_are : listed book table question ≡ Ok (record { name = name; units = units; events = events })
+  pub first_are : listed book table reference ≡ Ok (record { name = row.reference; units = units; events = of_reference })
   pub text : answer.text ≡ events_text question.layout name units events given.zone
   pub first_text : first.text ≡ events_text reference.layout row.reference units of_reference there.zone
   pub turns : turns_in events ≡ ordered (moved_within basis begin end (turns_in of_reference))
@@ -80,14 +82,16 @@ pub record AreTwoSteps (question reference : Question) (given there : Given) (ro
 
 -- the list of a subordinate station is that of its reference, moved
 abbrev pub ListsInTwoSteps : Type 0
-ListsInTwoSteps = (book : Book) (table : List Offsets) (question reference : Question) (given there : Given) (row : Offsets) (basis : Basis) (begin end : ℤ) (answer first : Answer) →
+ListsInTwoSteps = (book : Book) (table : List Offsets) (question reference : Question) (given there : Given) →
+    (row : Offsets) (basis : Basis) (begin end : ℤ) (answer first : Answer) →
     IsTable table → AsksSubordinate book table row basis begin end question → AsksReference row basis begin end reference →
     answered book table question given ≡ Ok answer → answered book table reference there ≡ Ok first →
-    AreTwoSteps question reference given there row basis begin end answer first
+    AreTwoSteps book table question reference given there row basis begin end answer first
 
 -- the first question has an answer if the second one has, and the widened span isn't too long
 abbrev pub ReferenceIsAnswered : Type 0
-ReferenceIsAnswered = (book : Book) (table : List Offsets) (question reference : Question) (given there : Given) (row : Offsets) (basis : Basis) (begin end : ℤ) (answer : Answer) →
+ReferenceIsAnswered = (book : Book) (table : List Offsets) (question reference : Question) (given there : Given) →
+    (row : Offsets) (basis : Basis) (begin end : ℤ) (answer : Answer) →
     AsksSubordinate book table row basis begin end question → AsksReference row basis begin end reference →
     answered book table question given ≡ Ok answer →
     ((widened_of basis begin end).end -ℤ (widened_of basis begin end).begin) ≤ℤ span_limit →
