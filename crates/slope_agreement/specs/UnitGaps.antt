@@ -22,3 +22,9 @@ abbrev pub SlopeLaw : ℕ → Type 0
 SlopeLaw w =
     (p : ℕ) → p < circle →
     unsigned_abs ((pos radian *ℤ (icos_of ((p + w) % circle) -ℤ icos_of p)) +ℤ (pos w *ℤ isin_of p)) ≤ unit_gap_of w
+
+-- and but for the same gap by w times the sine where the units end
+abbrev pub SlopeLawBefore : ℕ → Type 0
+SlopeLawBefore w =
+    (p : ℕ) → p < circle →
+    unsigned_abs ((pos radian *ℤ (icos_of ((p + w) % circle) -ℤ icos_of p)) +ℤ (pos w *ℤ isin_of ((p + w) % circle))) ≤ unit_gap_of w
