@@ -1,0 +1,5 @@
+pub mod Abouts
+pub mod Checks
+pub mod Heights
+pub mod Reports
+pub mod Worked
