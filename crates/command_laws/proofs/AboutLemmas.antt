@@ -54,7 +54,7 @@ use Rattle.tide_fault.specs.declared.refusal.Refusal.{Refusal}
 use Rattle.tide_fault.specs.declared.refusal.Refusal.TheVariants.{NoStation}
 use Rattle.zone_time.specs.declared.zone.Zone.{Zone}
 use Rattle.command_laws.specs.Abouts.{AboutBoundsTurns, BoundsTurns, FallsAtMost, IsBounded, IsBoundedHigh, IsBoundedLow, IsBoundedTurn, IsOutsideBlends, RisesAtMost, rise_in}
-use Rattle.command_laws.proofs.RequestLemmas.{WasFound, got_ok, name_ok, was_found}
+use Rattle.command_laws.proofs.RequestLemmas.{WasFound, got_ok, name_ok, span_named, was_found}
 
 -- ---- by the gap at a minute
 
@@ -227,6 +227,7 @@ went_over_name question next answer ok =
 -- the listing of a station that was found
 record Lists (book : Book) (table : List Offsets) (name : List ℕ) (asked : Asked) (layout : Layout) (zone : Zone) (listing : Answer) : Type 0 where
   site : Site
+  place : site_in Events book table name asked ≡ Ok site
   found : WasFound book table name asked site
   listed : listing.text ≡ events_text layout name site.station.units (site_events book site asked) zone
 
@@ -235,7 +236,7 @@ unfolding predicted
 lists book table name asked layout zone listing ok =
     let site = then_ok (site_in Events book table name asked) _ listing ok in
     let same : text_of_events book site.0 asked (events_text layout name site.0.station.units (site_events book site.0 asked) zone) ≡ listing = (let last = site.2 in cc) in
-    record { site = site.0; found = was_found Events book table name asked site.0 site.1; listed = sym (ap (λ (a : Answer). a.text) same) }
+    record { site = site.0; place = site.1; found = was_found Events book table name asked site.0 site.1; listed = sym (ap (λ (a : Answer). a.text) same) }
 
 -- ---- of one station
 
@@ -304,15 +305,19 @@ bounds_turns law before sheets folder minute later words more about predict told
     let sound = each_got (IsStation (length read.book.constituents)) read.book.stations site.basis.station site.station is.stations shown.found.station in
     record {
       book = read.book;
-      site = site;
-      name = over.0;
+      table = read.table;
       zone = read.zone;
+      name = over.0;
+      asked = over.1;
+      site = site;
       constituents = constituent_count site.station;
       bound = predicted_agreement read.book site.station;
       events = site_events read.book site over.1;
       file = named_read folder predict.file here.name read.book here.file here.files.book;
-      named = over.2.station;
-      station = shown.found.station;
+      offsets = here.files.table;
+      station = over.2.station;
+      span = span_named predict over.0 over.1 over.2;
+      found = shown.place;
       printed = bound_of read.book read.table over.0 over.1 site told shown.found prints;
       listed = shown.listed;
       each = station_turns read.book site over.1 (predicted_agreement read.book site.station) (record {

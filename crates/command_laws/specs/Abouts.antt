@@ -1,5 +1,5 @@
 -- The level in the minutes after the turns that `predict` lists, and the bound that `about` prints (this project).
-use Rattle.std.specs.Prelude.{◌≡◌, ℕ, ◌*◌, ◌^◌, ℤ, pos, neg_ℤ, ◌+ℤ◌, ◌-ℤ◌, ◌*ℤ◌, ◌≤ℤ◌, List, All, IsSomeAnd, Some, Ok, slice_get}
+use Rattle.std.specs.Prelude.{◌≡◌, ℕ, ◌*◌, ◌^◌, ℤ, pos, neg_ℤ, ◌+ℤ◌, ◌-ℤ◌, ◌*ℤ◌, ◌≤ℤ◌, List, All, IsSomeAnd, Some, Ok}
 use Rattle.curve_law.specs.declared.event.Event.{Event}
 use Rattle.curve_law.specs.declared.kind.Kind.{Kind}
 use Rattle.curve_law.specs.declared.kind.Kind.TheVariants.{High, Low}
@@ -8,15 +8,19 @@ use Rattle.fixed_sine.specs.Circle.{radian}
 use Rattle.harmonics_text.specs.declared.book.Book.{Book}
 use Rattle.harmonics_text.specs.declared.book.Station.{Station}
 use Rattle.listing.specs.Abouts.{about_text_of}
-use Rattle.named_files.specs.Readings.{book_named}
+use Rattle.named_files.specs.Readings.{book_named, table_named}
 use Rattle.question.specs.declared.command.Command.TheVariants.{About, Predict}
 use Rattle.question.specs.declared.question.Question.{Question}
 use Rattle.report_sheets.specs.Sheets.{SheetMeaning}
 use Rattle.slope_agreement.specs.Agreements.{IsPlainMinute}
 use Rattle.station_curve.specs.Schureman.{predicted_level}
-use Rattle.station_span.specs.Sites.{Site}
+use Rattle.station_span.specs.declared.asked.Asked.{Asked}
+use Rattle.station_span.specs.declared.reach.Reach.TheVariants.{Events}
+use Rattle.station_span.specs.Sites.{Site, site_in}
+use Rattle.station_table.specs.declared.offsets.Offsets.{Offsets}
 use Rattle.tide_answer.specs.declared.text.Answer.{Answer}
 use Rattle.tide_answer.specs.Answers.{events_text, text_alone}
+use Rattle.tide_answer.specs.Asking.{asked_by}
 use Rattle.tide_desk.specs.Answers.{answer_of}
 use Rattle.tide_desk.specs.Laws.{Asks, NameSameFiles}
 use Rattle.tide_edge.specs.FileStates.{Folder}
@@ -69,22 +73,27 @@ IsBounded book site bound event =
 -- what `about` and `predict` print of one station: the one prints a bound, and each turn that the other lists keeps to it
 pub record BoundsTurns (folder : Folder) (predict : Question) (told listing : Answer) : Type 0 where
   pub book : Book
-  pub site : Site
-  pub name : List ℕ
+  pub table : List Offsets
   pub zone : Zone
+  pub name : List ℕ
+  pub asked : Asked
+  pub site : Site
   pub constituents : ℕ
   pub bound : ℤ
   pub events : List Event
   pub file : IsSomeAnd predict.file (λ file. book_named folder file ≡ Ok book)
-  pub named : predict.station ≡ Some name
-  pub station : slice_get book.stations site.basis.station ≡ Some site.station
+  pub offsets : table_named folder predict.offsets ≡ Ok table
+  pub station : predict.station ≡ Some name
+  pub span : asked_by predict ≡ Some asked
+  pub found : site_in Events book table name asked ≡ Ok site
   pub printed : told ≡ text_alone (about_text_of name site.station.name site.station.units constituents bound)
   pub listed : listing.text ≡ events_text predict.layout name site.station.units events zone
   pub each : All (IsBounded book site bound) events
 
 -- of runs that ask both of one station, over the same files
 abbrev pub AboutBoundsTurns : Type 0
-AboutBoundsTurns = (sheets : List SheetMeaning) (folder : Folder) (minute later : ℤ) (words more : List (List ℕ)) (about predict : Question) (told listing : Answer) →
+AboutBoundsTurns = (sheets : List SheetMeaning) (folder : Folder) (minute later : ℤ) (words more : List (List ℕ))
+    (about predict : Question) (told listing : Answer) →
     Asks sheets words About about → answer_of sheets folder minute words ≡ Ok told →
     Asks sheets more Predict predict → answer_of sheets folder later more ≡ Ok listing →
     NameSameFiles predict about → predict.station ≡ about.station →

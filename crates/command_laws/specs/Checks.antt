@@ -22,7 +22,8 @@ accepted (Err why) = Err why
 -- For the text that `certify` returned `check` prints `Accepted`, and then what `predict` prints for the station, the span and the mark
 -- of the certificate, over the files of the check and in its zone. The certificate may be checked in another folder.
 abbrev pub CheckShowsPredict : Type 0
-CheckShowsPredict = (sheets : List SheetMeaning) (before after : Folder) (minute later last : ℤ) (words more others : List (List ℕ)) (certify check predict : Question) (certificate : Answer) (zone : Zone) →
+CheckShowsPredict = (sheets : List SheetMeaning) (before after : Folder) (minute later last : ℤ) (words more others : List (List ℕ))
+    (certify check predict : Question) (certificate : Answer) (zone : Zone) →
     Asks sheets words Certify certify → answer_of sheets before minute words ≡ Ok certificate →
     Asks sheets more Check check → HoldsCertificate before after certify check certificate.text →
     zone_named after check.zone ≡ Ok zone →
@@ -38,7 +39,8 @@ TakesItsArguments = (sheets : List SheetMeaning) (arguments : List (List ℕ)) (
 -- For the text that `certify` returned `check` prints `Accepted`, and then what `predict` prints with the same arguments, if the check
 -- names the same files and no other zone.
 abbrev pub CheckShowsSameArguments : Type 0
-CheckShowsSameArguments = (sheets : List SheetMeaning) (before after : Folder) (minute later last : ℤ) (arguments more : List (List ℕ)) (certify check : Question) (certificate : Answer) →
+CheckShowsSameArguments = (sheets : List SheetMeaning) (before after : Folder) (minute later last : ℤ) (arguments more : List (List ℕ))
+    (certify check : Question) (certificate : Answer) →
     asked_of sheets (codes "certify" ∷ arguments) ≡ Ok certify →
     answer_of sheets before minute (codes "certify" ∷ arguments) ≡ Ok certificate →
     Asks sheets more Check check → HoldsCertificate before after certify check certificate.text →

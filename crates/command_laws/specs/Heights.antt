@@ -45,6 +45,7 @@ pub record PrintsLevels (folder : Folder) (question : Question) (answer : Answer
 
 -- of each run that has an answer
 abbrev pub HeightsAreLevels : Type 0
-HeightsAreLevels = (sheets : List SheetMeaning) (folder : Folder) (minute : ℤ) (words : List (List ℕ)) (question : Question) (answer : Answer) →
+HeightsAreLevels = (sheets : List SheetMeaning) (folder : Folder) (minute : ℤ) (words : List (List ℕ))
+    (question : Question) (answer : Answer) →
     Asks sheets words Heights question → answer_of sheets folder minute words ≡ Ok answer →
     PrintsLevels folder question answer

@@ -40,7 +40,8 @@ pub record IsReport (sheets : List SheetMeaning) (wanted : List (List ℕ)) (hea
   pub each : All (IsPage events) pages
 
 -- a report and a listing of one list of events: the listing prints all of them, and the pages of the report show them
-pub record ShowOneList (sheets : List SheetMeaning) (report predict : Question) (now : ℤ) (zone : Zone) (pages listing : Answer) : Type 0 where
+pub record ShowOneList (sheets : List SheetMeaning) (report predict : Question) (now : ℤ) (zone : Zone)
+    (pages listing : Answer) : Type 0 where
   pub listed : Listed
   pub all : listing.text ≡ events_text predict.layout listed.name listed.units listed.events zone
   pub shown : IsReport sheets (wanted_by report) (head_of listed now) listed.events pages.text
@@ -48,7 +49,8 @@ pub record ShowOneList (sheets : List SheetMeaning) (report predict : Question) 
 -- If `report` has an answer at a minute, `predict` has one for the same station, span, mark and files at any minute, in any zone that
 -- can be read and in either layout; and both show one list.
 abbrev pub ReportsAreComplete : Type 0
-ReportsAreComplete = (sheets : List SheetMeaning) (folder : Folder) (now later : ℤ) (words more : List (List ℕ)) (report predict : Question) (pages : Answer) (zone : Zone) →
+ReportsAreComplete = (sheets : List SheetMeaning) (folder : Folder) (now later : ℤ) (words more : List (List ℕ))
+    (report predict : Question) (pages : Answer) (zone : Zone) →
     Asks sheets words Report report → answer_of sheets folder now words ≡ Ok pages →
     Asks sheets more Predict predict → NameSameFiles predict report → subject_of predict ≡ subject_of report →
     zone_named folder predict.zone ≡ Ok zone →

@@ -1,13 +1,17 @@
-use Rattle.std.proofs.Common.{◌≡◌, [], ◌∷◌, pos, false, Some, None, Ok, refl}
+use Rattle.std.proofs.Common.{◌≡◌, ℕ, List, [], ◌∷◌, pos, false, Some, Ok, refl, ap, ◌∙◌}
 use Rattle.std.specs.Prelude.{codes}
 use Rattle.std.specs.List.{slice_split}
 use Rattle.harmonics_text.specs.Worked.{pier_book}
-use Rattle.question.specs.declared.command.Command.TheVariants.{Certify, Heights, Predict, Report}
+use Rattle.question.specs.declared.command.Command.TheVariants.{Certify, Check, Predict}
 use Rattle.question.specs.declared.question.Question.{Question}
 use Rattle.question.specs.Worked.{bare, is_space}
 use Rattle.report_sheets.specs.Listings.{first_sheet}
 use Rattle.tide_answer.specs.declared.text.Answer.{Answer}
-use Rattle.tide_desk.specs.Answers.{answered_with, given_with, is_report, minute_for, asked_of, reported}
+use Rattle.named_files.specs.Readings.{book_named, table_named}
+use Rattle.tide_desk.specs.Laws.{HoldsCertificate}
+use Rattle.command_laws.specs.Checks.{CheckShowsSameArguments, accepted}
+use Rattle.command_laws.specs.Worked.{pier_certificate, pier_with_certificate}
+use Rattle.tide_desk.specs.Answers.{answer_of, answered_with, given_with, is_report, minute_for, asked_of, reported}
 use Rattle.report_sheets.specs.Pages.{missing_of, page_of, pages_of}
 use Rattle.zone_time.specs.Moments.{has_form, moment_of, moment_text}
 use Rattle.decimal_text.specs.Decimal.{after_point, made_of, decimal_of, scaled, scaled_or_bad, read_of}
@@ -41,7 +45,7 @@ use Rattle.decimal_text.specs.Writing.{last_digits, write_of}
 use Rattle.std.specs.Fmt.{digits}
 use Rattle.cert_text.specs.Lines.{title_of, station_line_of, begin_line_of, end_line_of, mark_line_of, heading_of, cell_line_of, last_line, certificate_text}
 use Rattle.cert_text.specs.Tracks.{track_word, kind_word}
-use Rattle.command_laws.proofs.WorkedLemmas.{NamesPier, pier_answers, pier_read}
+use Rattle.command_laws.proofs.WorkedLemmas.{answers_over, pier_answers, pier_folder, pier_read}
 use Rattle.command_laws.proofs.checks.worked_checks.Goals as goal
 
 abbrev certified_question : Question
@@ -79,3 +83,35 @@ listed_text = refl
 pub returns-clause-listed : goal.returns-clause-listed
 returns-clause-listed c =
     pier_answers ([]) (codes "predict file=p station=Pier begin=2000-01-10T11:58Z end=2000-01-10T12:01Z") listed_question listed_answer listed_asked (record { file = refl; offsets = refl; zone = refl; certificate = refl }) listed_text
+
+-- ---- the certificate, checked
+
+abbrev arguments : List (List ℕ)
+arguments = slice_split is_space (codes "file=p station=Pier begin=2000-01-10T11:58Z end=2000-01-10T12:01Z")
+
+abbrev check_words : List (List ℕ)
+check_words = codes "check" ∷ codes "file=p" ∷ codes "certificate=c" ∷ []
+
+abbrev check_question : Question
+check_question = record (bare Check) { file = Some (codes "p"); certificate = Some (codes "c") }
+
+check_asked : asked_of [] check_words ≡ Ok check_question
+unfolding asked_of missing_of has_form moment_of after_point made_of decimal_of scaled scaled_or_bad read_of some_text number_of mark_of layout_of clock_of offset_of zone_of sheets_of with_item with_items question_of days_of_years days_of_months day_count days_from_civil
+check_asked = refl
+
+holds : HoldsCertificate pier_folder pier_with_certificate certified_question check_question pier_certificate
+unfolding book_named table_named
+holds = record { file = refl; offsets = refl; certificate = refl }
+
+certified_is : answer_of [] pier_folder (pos 0) (codes "certify" ∷ arguments) ≡ Ok certified_answer
+certified_is = answers_over [] pier_folder (codes "certify" ∷ arguments) certified_question certified_answer refl certified_asked (record { file = refl; offsets = refl; zone = refl; certificate = refl }) certified_text
+
+listed_is : answer_of [] pier_with_certificate (pos 0) (codes "predict" ∷ arguments) ≡ Ok listed_answer
+listed_is = answers_over [] pier_with_certificate (codes "predict" ∷ arguments) listed_question listed_answer refl listed_asked (record { file = refl; offsets = refl; zone = refl; certificate = refl }) listed_text
+
+pub returns-clause-checked : goal.returns-clause-checked
+returns-clause-checked c =
+    let shows : CheckShowsSameArguments = c.check_shows_predict.ensures.same_arguments in
+    shows [] pier_folder pier_with_certificate (pos 0) (pos 0) (pos 0) arguments check_words certified_question check_question certified_answer
+    certified_asked certified_is (record { asked = check_asked; is = refl }) holds (record { file = refl; offsets = refl }) refl
+    ∙ ap accepted listed_is
