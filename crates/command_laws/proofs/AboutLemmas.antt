@@ -1,27 +1,23 @@
 -- The turns of a station keep to the bound of its gaps.
-use Rattle.std.proofs.Common.{◌≡◌, ◌≤◌, ℕ, zero, suc, ℤ, pos, neg_ℤ, ◌+ℤ◌, ◌-ℤ◌, ◌*ℤ◌, ◌≤ℤ◌, ◌<ℤ◌, int_lt, unsigned_abs, Bool, true, false, List, [], ◌++◌, length, map, Option, Some, None, Result, Ok, All, slice_get, refl, sym, subst, ap, ◌∙◌, arith}
-use Rattle.std.specs.Prelude.{filter, flat_map, option_to_list, option_map}
+use Rattle.std.proofs.Common.{◌≡◌, ℕ, zero, suc, ℤ, pos, neg_ℤ, ◌+ℤ◌, ◌-ℤ◌, ◌≤ℤ◌, ◌<ℤ◌, int_lt, unsigned_abs, Bool, true, false, List, [], ◌++◌, length, map, Option, Some, None, Result, Ok, All, slice_get, refl, sym, subst, ap, arith}
+use Rattle.std.specs.Prelude.{flat_map, option_to_list, option_map}
 use Rattle.std.specs.Option.{ok_or}
 use Rattle.std.proofs.lemmas.Int.{ints}
 use Rattle.std.proofs.lemmas.List.Elements.{All-nil, All-cons, All-weaker, All-append, All-filter, All-map, All-get_or}
 use Rattle.std.proofs.lemmas.Option.{get_or_from_slice_get, slice_get_within}
 use Rattle.curve_law.specs.declared.event.Event.{Event}
 use Rattle.curve_law.specs.declared.kind.Kind.{Kind}
-use Rattle.curve_law.specs.declared.kind.Kind.TheVariants.{High, Low, FloodBegins, EbbBegins, MarkRising, MarkFalling}
 use Rattle.curve_law.specs.Meaning.{Meaning}
 use Rattle.curve_law.specs.Track.{Track, side_at, has_event, event_at, plain_list}
 use Rattle.curve_law.proofs.CoverLemmas.{by_test}
 use Rattle.curve_law.proofs.TrackLemmas.{plain_list-zero, plain_list-one, plain_list-suc}
 use Rattle.event_list.specs.declared.span.Span.{Span}
-use Rattle.event_list.specs.Events.{Followed, events_over, minutes_in, station_events}
+use Rattle.event_list.specs.Events.{events_over, minutes_in}
 use Rattle.event_list.specs.Shifts.{is_within, moved, moved_within, offset_of, widened_of}
 use Rattle.event_list.proofs.EventLemmas.{events_of, events-parts}
 use Rattle.event_list.proofs.OrderLemmas.{All-ordered}
-use Rattle.fixed_sine.specs.Circle.{radian}
 use Rattle.harmonics_text.specs.declared.book.Book.{Book}
 use Rattle.harmonics_text.specs.declared.book.Station.{Station}
-use Rattle.harmonics_text.specs.declared.book.Units.{Units}
-use Rattle.harmonics_text.specs.declared.book.Units.TheVariants.{Feet, Meters, Knots, KnotsSquared}
 use Rattle.harmonics_text.specs.Books.{IsBook, IsStation}
 use Rattle.listing.specs.Abouts.{about_text_of}
 use Rattle.named_files.specs.Readings.{book_named, table_named}
@@ -30,10 +26,9 @@ use Rattle.question.specs.declared.question.Layout.{Layout}
 use Rattle.question.specs.declared.question.Question.{Question}
 use Rattle.rate_bound.specs.declared.version.Version.TheVariants.{Second}
 use Rattle.rate_bound.specs.Meanings.{predicted_turn, predicted_mark}
-use Rattle.report_sheets.specs.Sheets.{SheetMeaning}
 use Rattle.slope_agreement.specs.Agreements.{IsPlainMinute, predicted_agreement, predicted_gap, predicted_gap_before}
 use Rattle.station_curve.specs.Curves.{curve_of, first_fault}
-use Rattle.station_curve.specs.Schureman.{predicted_level, predicted_slope}
+use Rattle.station_curve.specs.Schureman.{predicted_slope}
 use Rattle.station_span.specs.declared.asked.Asked.{Asked}
 use Rattle.station_span.specs.declared.reach.Reach.TheVariants.{Events}
 use Rattle.station_span.specs.Following.{asks_slack, events_of as site_events, followed, followed_by, if_asked, slack_plus, slack_times}
@@ -44,8 +39,7 @@ use Rattle.station_table.specs.declared.offsets.Offsets.{Offsets}
 use Rattle.station_table.specs.Bases.{basis_of}
 use Rattle.tide_answer.specs.declared.text.Answer.{Answer}
 use Rattle.tide_answer.specs.Answers.{asks_name, constituent_count, events_text, known, named_by, predicted, text_alone, text_of_events}
-use Rattle.tide_desk.specs.Answers.{answer_of, given_with, is_report, minute_for}
-use Rattle.tide_desk.specs.Laws.{Asks, NameSameFiles}
+use Rattle.tide_desk.specs.Answers.{given_with, is_report, minute_for}
 use Rattle.tide_desk.proofs.AskedLemmas.{went_over_span}
 use Rattle.tide_desk.proofs.CheckingLemmas.{named_read, text_at}
 use Rattle.tide_desk.proofs.FileLemmas.{ReadsFiles, named_book, was_answered}
@@ -53,7 +47,7 @@ use Rattle.tide_edge.specs.FileStates.{Folder}
 use Rattle.tide_fault.specs.declared.refusal.Refusal.{Refusal}
 use Rattle.tide_fault.specs.declared.refusal.Refusal.TheVariants.{NoStation}
 use Rattle.zone_time.specs.declared.zone.Zone.{Zone}
-use Rattle.command_laws.specs.Abouts.{AboutBoundsTurns, BoundsTurns, FallsAtMost, IsBounded, IsBoundedHigh, IsBoundedLow, IsBoundedTurn, IsOutsideBlends, RisesAtMost, rise_in}
+use Rattle.command_laws.specs.Abouts.{AboutBoundsTurns, FallsAtMost, IsBounded, IsBoundedTurn, RisesAtMost, rise_in}
 use Rattle.command_laws.proofs.RequestLemmas.{WasFound, got_ok, name_ok, span_named, was_found}
 
 -- ---- by the gap at a minute

@@ -1,16 +1,15 @@
 -- What follows `Accepted` is what `predict` prints.
 use Rattle.std.proofs.Common.{◌≡◌, ◌∷◌, Ok, refl, sym, ap, ◌∙◌}
 use Rattle.std.specs.Prelude.{codes}
-use Rattle.question.specs.declared.command.Command.TheVariants.{Certify, Predict}
+use Rattle.question.specs.declared.command.Command.TheVariants.{Predict}
 use Rattle.question.specs.declared.question.Layout.TheVariants.{Plain}
 use Rattle.question.specs.declared.question.Question.{Question}
 use Rattle.question.specs.declared.question.ZoneWord.TheVariants.{Utc}
 use Rattle.zone_time.specs.declared.zone.Zone.TheVariants as zones
 use Rattle.named_files.specs.Readings.{zone_named}
 use Rattle.tide_desk.specs.Laws.{AcceptsWhatCertifyAnswers}
-use Rattle.tide_desk.specs.Answers.{answer_of}
 use Rattle.tide_edge.specs.FileStates.{Folder}
-use Rattle.command_laws.specs.Checks.{accepted, CheckShowsPredict, CheckShowsSameArguments, TakesItsArguments}
+use Rattle.command_laws.specs.Checks.{accepted, CheckShowsPredict, CheckShowsSameArguments}
 use Rattle.command_laws.proofs.ArgumentLemmas.{certify_asked, takes_its_arguments}
 
 pub shows_predict : AcceptsWhatCertifyAnswers → CheckShowsPredict

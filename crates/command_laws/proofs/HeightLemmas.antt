@@ -1,11 +1,9 @@
 -- The rows of `heights` are those of the law over any level.
-use Rattle.std.proofs.Common.{◌≡◌, ℕ, ℤ, pos, ◌≤ℤ◌, List, Some, Ok, refl, ap}
+use Rattle.std.proofs.Common.{◌≡◌, ℕ, ℤ, pos, ◌≤ℤ◌, List, Ok, refl, ap}
 use Rattle.std.specs.Prelude.{slice_get}
 use Rattle.harmonics_text.specs.declared.book.Book.{Book}
-use Rattle.listing.specs.declared.row.Row.{Row}
 use Rattle.question.specs.declared.command.Command.TheVariants.{Heights}
 use Rattle.question.specs.declared.question.Question.{Question}
-use Rattle.report_sheets.specs.Sheets.{SheetMeaning}
 use Rattle.station_span.specs.declared.asked.Asked.{Asked}
 use Rattle.station_span.specs.declared.reach.Reach.TheVariants.{Levels}
 use Rattle.station_span.specs.Levels.{level_at, level_in}
@@ -15,16 +13,14 @@ use Rattle.station_table.specs.declared.offsets.Offsets.{Offsets}
 use Rattle.text_laws.specs.Heights.{row_until, rows_over}
 use Rattle.tide_answer.specs.declared.text.Answer.{Answer}
 use Rattle.tide_answer.specs.Answers.{heights, heights_text, rows_in, rows_of, text_alone}
-use Rattle.tide_desk.specs.Answers.{answer_of, given_with, is_report, minute_for}
-use Rattle.tide_desk.specs.Laws.{Asks}
+use Rattle.tide_desk.specs.Answers.{given_with, is_report, minute_for}
 use Rattle.tide_desk.proofs.AskedLemmas.{went_over_span}
 use Rattle.tide_desk.proofs.CheckingLemmas.{named_read, text_at}
 use Rattle.tide_desk.proofs.FileLemmas.{ReadsFiles, was_answered}
-use Rattle.tide_edge.specs.FileStates.{Folder}
 use Rattle.zone_time.specs.declared.zone.Zone.{Zone}
 use Rattle.question.specs.declared.question.Layout.{Layout}
-use Rattle.command_laws.specs.Heights.{AreLevels, HeightsAreLevels, PrintsLevels}
-use Rattle.command_laws.proofs.RequestLemmas.{WasFound, was_found, span_named, step_asked}
+use Rattle.command_laws.specs.Heights.{HeightsAreLevels}
+use Rattle.command_laws.proofs.RequestLemmas.{was_found, span_named, step_asked}
 
 pub one_list : (book : Book) (site : Site) (begin end step : ℤ) → rows_of book site begin end step ≡ rows_over (level_at book site) begin end step
 one_list book site begin end step = refl

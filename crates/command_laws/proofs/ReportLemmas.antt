@@ -1,11 +1,11 @@
 -- The pages of a report show the list of its station's events.
-use Rattle.std.proofs.Common.{◌≡◌, ◌<◌, ◌≤◌, ℕ, zero, suc, ℤ, Bool, true, false, cond, List, [], ◌∷◌, ◌++◌, length, map, take, drop, nat_lt, Option, Some, None, Result, Ok, Err, All, refl, sym, subst, ap, ◌∙◌, arith}
+use Rattle.std.proofs.Common.{◌≡◌, ◌<◌, ℕ, zero, suc, ℤ, Bool, true, false, List, [], ◌∷◌, length, map, take, drop, nat_lt, Option, Some, None, Result, Ok, Err, All, refl, sym, subst, ap, ◌∙◌, arith}
 use Rattle.std.specs.Prelude.{filter, not, ◌||◌}
 use Rattle.std.specs.List.{flat_map, find, list_any, position, position_or_len, slice_index_or, Contains}
 use Rattle.std.specs.Str.{bytes_eq}
 use Rattle.std.proofs.lemmas.Bool.{ltb-false}
 use Rattle.std.proofs.lemmas.List.{length-take, take-append-drop, take_all}
-use Rattle.std.proofs.lemmas.List.Elements.{All-nil, All-cons, All-map}
+use Rattle.std.proofs.lemmas.List.Elements.{All-nil, All-cons}
 use Rattle.std.proofs.lemmas.List.Folds.{find_at, flat_map-map}
 use Rattle.std.proofs.lemmas.Option.{slice_get_past}
 use Rattle.std.proofs.lemmas.Slice.Eq.{bytes_eq-Decides}
@@ -28,21 +28,20 @@ use Rattle.station_span.specs.Following.{events_of}
 use Rattle.station_span.specs.Sites.{Site, site_in}
 use Rattle.station_span.proofs.SiteLemmas.{then_ok}
 use Rattle.station_table.specs.declared.offsets.Offsets.{Offsets}
-use Rattle.tide_answer.specs.declared.given.Given.{Given}
 use Rattle.tide_answer.specs.declared.listed.Listed.{Listed}
 use Rattle.tide_answer.specs.declared.text.Answer.{Answer}
 use Rattle.tide_answer.specs.Answers.{answered_alone, events_text, listed, named_by, predicted, text_alone, text_by, text_from, text_of_events}
 use Rattle.tide_answer.specs.Asking.{asked_by}
-use Rattle.tide_desk.specs.Answers.{answer_of, answered_by, answered_over, answered_with, given_with, head_of, is_report, known_in, minute_for, reported, wanted_by}
-use Rattle.tide_desk.specs.Laws.{Asks, NameSameFiles, subject_of}
+use Rattle.tide_desk.specs.Answers.{answered_by, answered_over, answered_with, given_with, head_of, is_report, known_in, minute_for, reported, wanted_by}
+use Rattle.tide_desk.specs.Laws.{NameSameFiles, subject_of}
 use Rattle.tide_desk.proofs.AskedLemmas.{NamesSpan, goes_over_span, names_no_certificate}
-use Rattle.tide_desk.proofs.CheckingLemmas.{IsSubject, names_subject, subject_named}
+use Rattle.tide_desk.proofs.CheckingLemmas.{names_subject, subject_named}
 use Rattle.tide_desk.proofs.FileLemmas.{WasRead, is_answered, words_answer}
 use Rattle.tide_edge.specs.FileStates.{Folder}
 use Rattle.tide_fault.specs.declared.refusal.Refusal.{Refusal}
 use Rattle.tide_fault.specs.declared.refusal.Refusal.TheVariants.{NoStation}
 use Rattle.zone_time.specs.declared.zone.Zone.{Zone}
-use Rattle.command_laws.specs.Reports.{IsPage, IsReport, Page, ReportsAreComplete, ShowOneList, text_of}
+use Rattle.command_laws.specs.Reports.{IsPage, IsReport, Page, ReportsAreComplete, text_of}
 use Rattle.command_laws.proofs.RequestLemmas.{name_ok, names_span, words_ask}
 
 -- ---- the pages

@@ -23,7 +23,7 @@ use Rattle.station_curve.specs.Curves.{curve_of, first_fault, is_hydraulic, tide
 use Rattle.station_curve.specs.Waves.{Tide}
 use Rattle.station_span.specs.declared.asked.Asked.{Asked}
 use Rattle.station_span.specs.declared.reach.Reach.{Reach}
-use Rattle.station_span.specs.Sites.{Site, basis_from, has_span, lacks_minute, length_in, level_unit, mark_in, reached, site_at, site_in, span_in, tide_from}
+use Rattle.station_span.specs.Sites.{Site, basis_from, length_in, level_unit, mark_in, site_at, site_in, span_in, tide_from}
 use Rattle.station_span.proofs.SiteLemmas.{then_ok}
 use Rattle.station_table.specs.declared.offsets.Offsets.{Offsets}
 use Rattle.station_table.specs.Bases.{basis_of}

@@ -1,5 +1,5 @@
 -- Answers over the pier's file, by the question of the words and the answer to it.
-use Rattle.std.proofs.Common.{◌≡◌, ℕ, ℤ, pos, List, [], Option, Some, None, Ok, refl, ap, ◌∙◌}
+use Rattle.std.proofs.Common.{◌≡◌, ℕ, pos, List, [], Some, None, Ok, refl, ap, ◌∙◌}
 use Rattle.std.specs.Prelude.{codes}
 use Rattle.std.specs.List.{slice_split}
 use Rattle.harmonics_text.specs.Worked.{file_of, pier_book, pier_lines}

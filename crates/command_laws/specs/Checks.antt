@@ -1,5 +1,5 @@
 -- What `check` prints after `Accepted`, beside what `predict` prints (this project).
-use Rattle.std.specs.Prelude.{◌≡◌, ℕ, ℤ, List, ◌∷◌, ◌++◌, codes, Result, Ok, Err}
+use Rattle.std.specs.Prelude.{◌≡◌, ℕ, ℤ, List, ◌∷◌, codes, Result, Ok, Err}
 use Rattle.named_files.specs.declared.no_answer.NoAnswer.{NoAnswer}
 use Rattle.named_files.specs.Readings.{zone_named}
 use Rattle.question.specs.declared.command.Command.TheVariants.{Predict, Certify, Check}

@@ -1,5 +1,5 @@
 -- Runs over a small file, for the worked rows (this project).
-use Rattle.std.specs.Prelude.{ℕ, ℤ, pos, if◌then◌else◌, List, codes, Some, Result}
+use Rattle.std.specs.Prelude.{ℕ, pos, if◌then◌else◌, List, codes, Some, Result}
 use Rattle.std.specs.List.{slice_split}
 use Rattle.std.specs.Str.{bytes_eq}
 use Rattle.harmonics_text.specs.Worked.{file_of, pier_lines}

@@ -18,7 +18,7 @@ use Rattle.station_table.specs.Bases.{basis_in, basis_of}
 use Rattle.tide_answer.specs.declared.text.Answer.{Answer}
 use Rattle.tide_answer.specs.Answers.{answered, asks_name, known, text_alone}
 use Rattle.tide_desk.specs.Answers.{answered_with, asked_of, given_with, is_report, minute_for}
-use Rattle.command_laws.proofs.WorkedLemmas.{NamesPier, pier_answers, pier_read}
+use Rattle.command_laws.proofs.WorkedLemmas.{pier_answers, pier_read}
 use Rattle.std.proofs.lemmas.Int.{ints}
 use Rattle.jiff_core.specs.Calendar.{days_of_years, days_of_months, day_count, days_from_civil}
 use Rattle.fixed_sine.specs.Sine.{scaled_between, quarter_of, half_of, isin_of, icos_of}

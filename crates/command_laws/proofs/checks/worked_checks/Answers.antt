@@ -5,7 +5,6 @@ use Rattle.harmonics_text.specs.Worked.{pier_book}
 use Rattle.question.specs.declared.command.Command.TheVariants.{Certify, Check, Predict}
 use Rattle.question.specs.declared.question.Question.{Question}
 use Rattle.question.specs.Worked.{bare, is_space}
-use Rattle.report_sheets.specs.Listings.{first_sheet}
 use Rattle.tide_answer.specs.declared.text.Answer.{Answer}
 use Rattle.named_files.specs.Readings.{book_named, table_named}
 use Rattle.tide_desk.specs.Laws.{HoldsCertificate}
@@ -18,7 +17,7 @@ use Rattle.decimal_text.specs.Decimal.{after_point, made_of, decimal_of, scaled,
 use Rattle.question.specs.Forms.{some_text, number_of, mark_of, layout_of, clock_of, offset_of, zone_of, sheets_of}
 use Rattle.question.specs.Questions.{with_item, with_items, question_of}
 use Rattle.jiff_core.specs.Calendar.{days_of_years, days_of_months, day_count, days_from_civil}
-use Rattle.tide_answer.specs.Answers.{text_alone, predicted, certified, heights, rows_in, asks_span, listed, answered}
+use Rattle.tide_answer.specs.Answers.{predicted, certified, heights, rows_in, asks_span, listed, answered}
 use Rattle.tide_answer.specs.Asking.{asked_by}
 use Rattle.station_span.specs.Following.{followed_by, events_of, tracks_of, cells_of}
 use Rattle.station_span.specs.Sites.{lacks_minute, span_in, length_in, site_at, site_in}

@@ -1,11 +1,10 @@
-use Rattle.std.proofs.Common.{◌≡◌, [], ◌∷◌, pos, false, Some, None, Ok, refl}
+use Rattle.std.proofs.Common.{◌≡◌, [], pos, Some, Ok, refl}
 use Rattle.std.specs.Prelude.{codes}
 use Rattle.std.specs.List.{slice_split}
 use Rattle.harmonics_text.specs.Worked.{pier_book}
-use Rattle.question.specs.declared.command.Command.TheVariants.{Certify, Heights, Predict, Report}
+use Rattle.question.specs.declared.command.Command.TheVariants.{Heights}
 use Rattle.question.specs.declared.question.Question.{Question}
 use Rattle.question.specs.Worked.{bare, is_space}
-use Rattle.report_sheets.specs.Listings.{first_sheet}
 use Rattle.tide_answer.specs.declared.text.Answer.{Answer}
 use Rattle.tide_desk.specs.Answers.{answered_with, given_with, is_report, minute_for, asked_of, reported}
 use Rattle.report_sheets.specs.Pages.{missing_of, page_of, pages_of}
@@ -39,7 +38,7 @@ use Rattle.zone_time.specs.Locals.{time_text, label_text, local_text}
 use Rattle.decimal_text.specs.Rounding.{rounded_of}
 use Rattle.decimal_text.specs.Writing.{last_digits, write_of}
 use Rattle.std.specs.Fmt.{digits}
-use Rattle.command_laws.proofs.WorkedLemmas.{NamesPier, pier_answers, pier_read}
+use Rattle.command_laws.proofs.WorkedLemmas.{pier_answers, pier_read}
 use Rattle.command_laws.proofs.heights.worked_rows.Goals as goal
 
 abbrev passed_question : Question

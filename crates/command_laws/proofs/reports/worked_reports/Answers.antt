@@ -1,8 +1,8 @@
-use Rattle.std.proofs.Common.{◌≡◌, [], ◌∷◌, pos, false, Some, None, Ok, refl}
+use Rattle.std.proofs.Common.{◌≡◌, [], ◌∷◌, pos, false, Some, Ok, refl}
 use Rattle.std.specs.Prelude.{codes}
 use Rattle.std.specs.List.{slice_split}
 use Rattle.harmonics_text.specs.Worked.{pier_book}
-use Rattle.question.specs.declared.command.Command.TheVariants.{Certify, Heights, Predict, Report}
+use Rattle.question.specs.declared.command.Command.TheVariants.{Predict, Report}
 use Rattle.question.specs.declared.question.Question.{Question}
 use Rattle.question.specs.Worked.{bare, is_space}
 use Rattle.report_sheets.specs.Listings.{first_sheet}
@@ -39,7 +39,7 @@ use Rattle.zone_time.specs.Locals.{time_text, label_text, local_text}
 use Rattle.decimal_text.specs.Rounding.{rounded_of}
 use Rattle.decimal_text.specs.Writing.{last_digits, write_of}
 use Rattle.std.specs.Fmt.{digits}
-use Rattle.command_laws.proofs.WorkedLemmas.{NamesPier, pier_answers, pier_read}
+use Rattle.command_laws.proofs.WorkedLemmas.{pier_answers, pier_read}
 use Rattle.command_laws.proofs.reports.worked_reports.Goals as goal
 
 abbrev all_question : Question
