@@ -267,23 +267,23 @@ one_station book basis same station other one got again =
     cc
 
 -- the text has the bound of the station that the listing is of
-bound_of : (book : Book) (table : List Offsets) (name : List ℕ) (asked : Asked) (site : Site) (told : Answer) → WasFound book table name asked site → PrintsBound book table name told → told ≡ text_alone (about_text_of name site.station.name site.station.units (constituent_count site.station) (predicted_agreement book site.station))
-bound_of book table name asked site told found prints =
+bound_of : (book : Book) (table : List Offsets) (name : List ℕ) (asked : Asked) (site : Site) (facts : Answer) → WasFound book table name asked site → PrintsBound book table name facts → facts ≡ text_alone (about_text_of name site.station.name site.station.units (constituent_count site.station) (predicted_agreement book site.station))
+bound_of book table name asked site facts found prints =
     let basis = one_basis book table name site.basis prints.site.basis found.basis prints.basis in
     let station = one_station book site.basis prints.site.basis site.station prints.site.station basis found.station prints.station in
-    subst (λ (s : Station). told ≡ text_alone (about_text_of name s.name s.units (constituent_count s) (predicted_agreement book s))) station prints.printed
+    subst (λ (s : Station). facts ≡ text_alone (about_text_of name s.name s.units (constituent_count s) (predicted_agreement book s))) station prints.printed
 
 -- a gap keeps to the bound of its station
 abbrev pub KeepsToAgreement : (Book → Station → ℤ → ℕ) → Type 0
 KeepsToAgreement gap = (b : Book) (s : Station) (m : ℤ) (year : ℕ) → IsBook b → IsStation (length b.constituents) s → first_fault b s b.years ≡ None → IsPlainMinute b.first_year b.years m year → pos (gap b s m) ≤ℤ predicted_agreement b s
 
 pub bounds_turns : KeepsToAgreement predicted_gap → KeepsToAgreement predicted_gap_before → AboutBoundsTurns
-bounds_turns law before sheets folder minute later words more about predict told listing asks ok asks_predict ok_predict files station =
-    let was = was_answered sheets folder minute words about told asks.asked (about_reads about asks.is) ok in
+bounds_turns law before sheets folder minute later words more about predict facts listing asks ok asks_predict ok_predict files station =
+    let was = was_answered sheets folder minute words about facts asks.asked (about_reads about asks.is) ok in
     let here = was_answered sheets folder later more predict listing asks_predict.asked (predict_reads predict asks_predict.is) ok_predict in
     let read = here.read in
-    let text = text_at about.command About was.read about (given_with was.read (minute_for about.command minute)) told asks.is was.text in
-    let named = went_over_name about (λ name. known was.read.book was.read.table name) told text in
+    let text = text_at about.command About was.read about (given_with was.read (minute_for about.command minute)) facts asks.is was.text in
+    let named = went_over_name about (λ name. known was.read.book was.read.table name) facts text in
     let list = text_at predict.command Predict read predict (given_with read (minute_for predict.command later)) listing asks_predict.is here.text in
     let over = went_over_span predict (λ name asked. predicted read.book read.table name asked predict.layout read.zone) listing list in
     let shown = lists read.book read.table over.0 over.1 predict.layout read.zone listing over.3 in
@@ -291,10 +291,10 @@ bounds_turns law before sheets folder minute later words more about predict told
     let book = one_book folder predict.file about.file here.name was.name read.book was.read.book files.file here.file was.file here.files.book was.files.book in
     let table = one_table folder predict.offsets about.offsets read.table was.read.table files.offsets here.files.table was.files.table in
     let name = one_name predict.station about.station over.0 named.0 station over.2.station named.1 in
-    let prints : PrintsBound read.book read.table over.0 told =
-    subst (λ (b : Book). PrintsBound b read.table over.0 told) book
-    (subst (λ (t : List Offsets). PrintsBound was.read.book t over.0 told) table
-    (subst (λ (n : List ℕ). PrintsBound was.read.book was.read.table n told) name (prints_bound was.read.book was.read.table named.0 told named.2))) in
+    let prints : PrintsBound read.book read.table over.0 facts =
+    subst (λ (b : Book). PrintsBound b read.table over.0 facts) book
+    (subst (λ (t : List Offsets). PrintsBound was.read.book t over.0 facts) table
+    (subst (λ (n : List ℕ). PrintsBound was.read.book was.read.table n facts) name (prints_bound was.read.book was.read.table named.0 facts named.2))) in
     let is = named_book folder here.name read.book here.files.book in
     let sound = each_got (IsStation (length read.book.constituents)) read.book.stations site.basis.station site.station is.stations shown.found.station in
     record {
@@ -312,7 +312,7 @@ bounds_turns law before sheets folder minute later words more about predict told
       station = over.2.station;
       span = span_named predict over.0 over.1 over.2;
       found = shown.place;
-      printed = bound_of read.book read.table over.0 over.1 site told shown.found prints;
+      printed = bound_of read.book read.table over.0 over.1 site facts shown.found prints;
       listed = shown.listed;
       each = station_turns read.book site over.1 (predicted_agreement read.book site.station) (record {
         here = λ m year plain. law read.book site.station m year is sound shown.found.limits plain;

@@ -9,14 +9,14 @@ use Rattle.zone_time.specs.declared.zone.Zone.TheVariants as zones
 use Rattle.named_files.specs.Readings.{zone_named}
 use Rattle.tide_desk.specs.Laws.{AcceptsWhatCertifyAnswers}
 use Rattle.tide_edge.specs.FileStates.{Folder}
-use Rattle.command_laws.specs.Checks.{accepted, CheckShowsPredict, CheckShowsSameArguments}
+use Rattle.command_laws.specs.Checks.{CheckShowsPredict, CheckShowsSameArguments}
 use Rattle.command_laws.proofs.ArgumentLemmas.{certify_asked, takes_its_arguments}
 
 pub shows_predict : AcceptsWhatCertifyAnswers → CheckShowsPredict
 shows_predict accepts sheets before after minute later last words more others certify check predict certificate zone asks ok asks_check holds shown asks_predict lists =
     let answer = accepts sheets before after minute later words more certify check certificate zone asks ok asks_check holds shown in
     let listing = answer.2 in
-    answer.1 ∙ ap Ok listing.text ∙ ap accepted (sym (listing.to_words last others predict asks_predict.asked lists))
+    (listing.shown, listing.to_words last others predict asks_predict.asked lists, answer.1 ∙ ap Ok listing.text)
 
 universal : (folder : Folder) → zone_named folder Utc ≡ Ok zones.Utc
 unfolding zone_named

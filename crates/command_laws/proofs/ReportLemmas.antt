@@ -261,7 +261,7 @@ complete_reports sheets folder now later words more report predict pages zone as
       text = listing_text predict read later list.name of.asked of.site asks_predict.is names of.found;
     }) in (
       listing,
-      words_answer sheets folder later more predict asks_predict.asked ∙ answered,
+      ◌∙◌ {c = Ok listing} (words_answer sheets folder later more predict asks_predict.asked) answered,
       record {
         listed = list;
         all = sym (ap (λ (l : Listed). events_text predict.layout l.name l.units l.events zone) of.is);

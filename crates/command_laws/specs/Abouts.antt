@@ -71,7 +71,7 @@ IsBounded book site bound event =
     IsBoundedTurn book site.station bound event.kind (event.minute -ℤ (offset_of site.basis event.kind).add)
 
 -- what `about` and `predict` print of one station: the one prints a bound, and each turn that the other lists keeps to it
-pub record BoundsTurns (folder : Folder) (predict : Question) (told listing : Answer) : Type 0 where
+pub record BoundsTurns (folder : Folder) (predict : Question) (facts listing : Answer) : Type 0 where
   pub book : Book
   pub table : List Offsets
   pub zone : Zone
@@ -86,15 +86,15 @@ pub record BoundsTurns (folder : Folder) (predict : Question) (told listing : An
   pub station : predict.station ≡ Some name
   pub span : asked_by predict ≡ Some asked
   pub found : site_in Events book table name asked ≡ Ok site
-  pub printed : told ≡ text_alone (about_text_of name site.station.name site.station.units constituents bound)
+  pub printed : facts ≡ text_alone (about_text_of name site.station.name site.station.units constituents bound)
   pub listed : listing.text ≡ events_text predict.layout name site.station.units events zone
   pub each : All (IsBounded book site bound) events
 
 -- of runs that ask both of one station, over the same files
 abbrev pub AboutBoundsTurns : Type 0
 AboutBoundsTurns = (sheets : List SheetMeaning) (folder : Folder) (minute later : ℤ) (words more : List (List ℕ))
-    (about predict : Question) (told listing : Answer) →
-    Asks sheets words About about → answer_of sheets folder minute words ≡ Ok told →
+    (about predict : Question) (facts listing : Answer) →
+    Asks sheets words About about → answer_of sheets folder minute words ≡ Ok facts →
     Asks sheets more Predict predict → answer_of sheets folder later more ≡ Ok listing →
     NameSameFiles predict about → predict.station ≡ about.station →
-    BoundsTurns folder predict told listing
+    BoundsTurns folder predict facts listing

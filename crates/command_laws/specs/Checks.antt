@@ -1,5 +1,5 @@
 -- What `check` prints after `Accepted`, beside what `predict` prints (this project).
-use Rattle.std.specs.Prelude.{◌≡◌, ℕ, ℤ, List, ◌∷◌, codes, Result, Ok, Err}
+use Rattle.std.specs.Prelude.{◌≡◌, ℕ, ℤ, List, ◌∷◌, codes, Result, Ok}
 use Rattle.named_files.specs.declared.no_answer.NoAnswer.{NoAnswer}
 use Rattle.named_files.specs.Readings.{zone_named}
 use Rattle.question.specs.declared.command.Command.TheVariants.{Predict, Certify, Check}
@@ -14,10 +14,9 @@ use Rattle.tide_desk.specs.Laws.{Asks, AsksListing, HoldsCertificate, NameSameFi
 use Rattle.tide_edge.specs.FileStates.{Folder}
 use Rattle.zone_time.specs.declared.zone.Zone.{Zone}
 
--- the line `Accepted`, and then an answer's text
-abbrev pub accepted : Result Answer NoAnswer → Result Answer NoAnswer
-accepted (Ok listing) = Ok (text_accepted listing.text)
-accepted (Err why) = Err why
+-- `predict` has an answer, and `check` prints `Accepted` and then its text
+abbrev pub PrintsAccepted : Result Answer NoAnswer → Result Answer NoAnswer → Type 0
+PrintsAccepted predicted checked = (listing : Answer) × (predicted ≡ Ok listing) × (checked ≡ Ok (text_accepted listing.text))
 
 -- For the text that `certify` returned `check` prints `Accepted`, and then what `predict` prints for the station, the span and the mark
 -- of the certificate, over the files of the check and in its zone. The certificate may be checked in another folder.
@@ -28,7 +27,7 @@ CheckShowsPredict = (sheets : List SheetMeaning) (before after : Folder) (minute
     Asks sheets more Check check → HoldsCertificate before after certify check certificate.text →
     zone_named after check.zone ≡ Ok zone →
     Asks sheets others Predict predict → AsksListing check (subject_of certify) predict →
-    answer_of sheets after later more ≡ accepted (answer_of sheets after last others)
+    PrintsAccepted (answer_of sheets after last others) (answer_of sheets after later more)
 
 -- `predict` asks with the arguments of a `certify` for its station, span, mark and files, in universal time and in plain lines
 abbrev pub TakesItsArguments : Type 0
@@ -45,4 +44,4 @@ CheckShowsSameArguments = (sheets : List SheetMeaning) (before after : Folder) (
     answer_of sheets before minute (codes "certify" ∷ arguments) ≡ Ok certificate →
     Asks sheets more Check check → HoldsCertificate before after certify check certificate.text →
     NameSameFiles certify check → check.zone ≡ Utc →
-    answer_of sheets after later more ≡ accepted (answer_of sheets after last (codes "predict" ∷ arguments))
+    PrintsAccepted (answer_of sheets after last (codes "predict" ∷ arguments)) (answer_of sheets after later more)

@@ -1,4 +1,4 @@
-use Rattle.std.proofs.Common.{◌≡◌, ℕ, List, [], ◌∷◌, pos, false, Some, Ok, refl, ap, ◌∙◌}
+use Rattle.std.proofs.Common.{◌≡◌, ℕ, List, [], ◌∷◌, pos, false, Some, Result, Ok, refl, ap, ◌∙◌}
 use Rattle.std.specs.Prelude.{codes}
 use Rattle.std.specs.List.{slice_split}
 use Rattle.harmonics_text.specs.Worked.{pier_book}
@@ -6,9 +6,11 @@ use Rattle.question.specs.declared.command.Command.TheVariants.{Certify, Check, 
 use Rattle.question.specs.declared.question.Question.{Question}
 use Rattle.question.specs.Worked.{bare, is_space}
 use Rattle.tide_answer.specs.declared.text.Answer.{Answer}
+use Rattle.named_files.specs.declared.no_answer.NoAnswer.{NoAnswer}
+use Rattle.tide_answer.specs.Answers.{text_accepted}
 use Rattle.named_files.specs.Readings.{book_named, table_named}
 use Rattle.tide_desk.specs.Laws.{HoldsCertificate}
-use Rattle.command_laws.specs.Checks.{CheckShowsSameArguments, accepted}
+use Rattle.command_laws.specs.Checks.{CheckShowsSameArguments}
 use Rattle.command_laws.specs.Worked.{pier_certificate, pier_with_certificate}
 use Rattle.tide_desk.specs.Answers.{answer_of, answered_with, given_with, is_report, minute_for, asked_of, reported}
 use Rattle.report_sheets.specs.Pages.{missing_of, page_of, pages_of}
@@ -108,9 +110,12 @@ certified_is = answers_over [] pier_folder (codes "certify" ∷ arguments) certi
 listed_is : answer_of [] pier_with_certificate (pos 0) (codes "predict" ∷ arguments) ≡ Ok listed_answer
 listed_is = answers_over [] pier_with_certificate (codes "predict" ∷ arguments) listed_question listed_answer refl listed_asked (record { file = refl; offsets = refl; zone = refl; certificate = refl }) listed_text
 
+one_answer : (given : Result Answer NoAnswer) (answer same : Answer) → given ≡ Ok answer → given ≡ Ok same → answer ≡ same
+one_answer given answer same is also = cc
+
 pub returns-clause-checked : goal.returns-clause-checked
 returns-clause-checked c =
     let shows : CheckShowsSameArguments = c.check_shows_predict.ensures.same_arguments in
-    shows [] pier_folder pier_with_certificate (pos 0) (pos 0) (pos 0) arguments check_words certified_question check_question certified_answer
-    certified_asked certified_is (record { asked = check_asked; is = refl }) holds (record { file = refl; offsets = refl }) refl
-    ∙ ap accepted listed_is
+    let prints = shows [] pier_folder pier_with_certificate (pos 0) (pos 0) (pos 0) arguments check_words certified_question check_question certified_answer
+    certified_asked certified_is (record { asked = check_asked; is = refl }) holds (record { file = refl; offsets = refl }) refl in
+    prints.2 ∙ ap (λ (a : Answer). Ok (text_accepted a.text)) (one_answer (answer_of [] pier_with_certificate (pos 0) (codes "predict" ∷ arguments)) prints.0 listed_answer prints.1 listed_is)
