@@ -18,7 +18,7 @@ use Rattle.slope_agreement.specs.UnitGaps.{each_unit, two_cuts}
 abbrev pub gap_between : (ℤ → ℤ) → (ℤ → ℤ) → ℤ → ℕ
 gap_between level slope m = unsigned_abs ((pos radian *ℤ (level (m +ℤ pos 1) -ℤ level m)) -ℤ slope m)
 
--- and how far it is from the slope at the minute where it ends
+-- how far the rise over the minute from m on is from the slope at the next minute
 abbrev pub gap_before : (ℤ → ℤ) → (ℤ → ℤ) → ℤ → ℕ
 gap_before level slope m = unsigned_abs ((pos radian *ℤ (level (m +ℤ pos 1) -ℤ level m)) -ℤ slope (m +ℤ pos 1))
 
@@ -30,6 +30,7 @@ gap_of tide m = gap_between (level_of tide) (slope_of tide) m
 abbrev pub predicted_gap : Book → Station → ℤ → ℕ
 predicted_gap b s m = gap_between (predicted_level b s) (predicted_slope b s) m
 
+-- of a book's station, from the slope at the next minute
 abbrev pub predicted_gap_before : Book → Station → ℤ → ℕ
 predicted_gap_before b s m = gap_before (predicted_level b s) (predicted_slope b s) m
 
