@@ -1,9 +1,16 @@
+mod AboutLemmas
+mod ArgumentLemmas
+mod CheckLemmas
 mod ClockLemmas
+mod HeightLemmas
 mod LevelLemmas
 mod ListLemmas
 mod PeakLemmas
 mod QuestionLemmas
+mod ReportLemmas
+mod RequestLemmas
 mod SiteLemmas
 mod StepLemmas
 mod SubordinateLemmas
 mod TurnLemmas
+mod WorkedLemmas

@@ -1,14 +1,22 @@
-//! Laws of the commands: what a user relies on in the text of each.
+//! Laws of commands: what a user relies on in what a command prints.
 //!
-//! Each answer is proved equal to `answer_of` of `tide_desk`. The laws are over this definition and
-//! those that it is made of: what the answers to two questions have in common. A law is an empty
-//! function, and its clauses are the law.
+//! The text of each command is proved equal to a definition, and the answer of a run to `answer_of` of
+//! `tide_desk`. The laws say what these definitions come to for two questions, or for the arguments and
+//! files of runs. A law is an empty function, and its clauses are the law. Nothing depends on this crate.
 #![tactic(auto)]
 
+mod abouts;
+mod checks;
 mod clock;
+mod heights;
 mod peaks;
+mod reports;
 mod subordinates;
 
+pub use abouts::{about_bounds_the_printed_turns, worked_turns};
+pub use checks::{check_shows_predict, worked_checks};
 pub use clock::{clock_shows_the_present_and_the_next_day, worked_clock};
+pub use heights::{heights_has_a_row_each_step, worked_rows};
 pub use peaks::{no_event_is_above_the_highest_water, worked_highest};
+pub use reports::{reports_are_complete, worked_reports};
 pub use subordinates::{subordinates_list_in_two_steps, worked_own_slack, worked_steps};

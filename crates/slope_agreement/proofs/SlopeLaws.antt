@@ -6,7 +6,7 @@ use Rattle.fixed_sine.specs.Sine.{isin_of, icos_of}
 use Rattle.fixed_sine.specs.Rate.{step_of}
 use Rattle.fixed_sine.proofs.CircleLemmas.{isin_of-first, isin_of-second}
 use Rattle.fixed_sine.proofs.RateLemmas.{signed_num, isin_of-num, rate_law}
-use Rattle.slope_agreement.specs.UnitGaps.{unit_gap_of, SlopeLaw}
+use Rattle.slope_agreement.specs.UnitGaps.{unit_gap_of, SlopeLaw, SlopeLawBefore}
 use Rattle.slope_agreement.proofs.CircleSlopes.{slope_gap, signed_num-slope}
 
 -- a product with one more
@@ -52,9 +52,12 @@ sine_gap p h = rw (isin_of-num p h) (cut_gap (signed_num p))
 near_slope : (z a b : ℤ) (step most : ℕ) → unsigned_abs (z -ℤ (pos 1440000000000000000 *ℤ a)) ≤ 1440000000000000000 → unsigned_abs (a -ℤ b) ≤ step → step ≤ most → unsigned_abs (z -ℤ (pos 1440000000000000000 *ℤ b)) ≤ 1440000000000000000 * most + 1440000000000000000
 near_slope z a b step most cut near few = omega (arith, ints, cut, near, few)
 
-step_of-mono : (j w : ℕ) → j < w → step_of j ≤ step_of w
+step_of-mono : (j w : ℕ) → j ≤ w → step_of j ≤ step_of w
 unfolding step_of
 step_of-mono j w h = omega arith
+
+swapped : (a b : ℤ) (m : ℕ) → unsigned_abs (a -ℤ b) ≤ m → unsigned_abs (b -ℤ a) ≤ m
+swapped a b m near = omega (arith, ints, near)
 
 -- products with factors of either sign
 times_negated : (w : ℕ) (z : ℤ) → pos w *ℤ neg_ℤ z ≡ neg_ℤ (pos w *ℤ z)
@@ -87,7 +90,24 @@ sine_slope w p h =
     let x = ((p + j) % 216000000000 + 54000000000) % 216000000000 in
     let same : (y + j) % 216000000000 ≡ x = omega arith in
     let moved = rw same at (rate_law j y (omega arith)) in
-    near_slope (signed_num x) (isin_of x) (isin_of y) (step_of j) (step_of w) (sine_gap x (omega arith)) moved (step_of-mono j w below)
+    near_slope (signed_num x) (isin_of x) (isin_of y) (step_of j) (step_of w) (sine_gap x (omega arith)) moved (step_of-mono j w (omega (arith, below)))
+    in
+    let steps = rw (scaled_product w 1440000000000000000 (isin_of y)) at (signed_num-slopes (pos 1440000000000000000 *ℤ isin_of y) (1440000000000000000 * step_of w + 1440000000000000000) w p h near) in
+    within_unit_gap _ w (step_of w) (cut_slope (signed_num there) (signed_num p) (isin_of there) (isin_of p) (pos w *ℤ isin_of y) _ steps (sine_gap there (omega arith)) (sine_gap p h))
+
+-- and by w times the cosine where the units end
+sine_slope_before : (w p : ℕ) → p < 216000000000 → slope_gap (isin_of ((p + w) % 216000000000)) (isin_of p) (pos w *ℤ icos_of ((p + w) % 216000000000)) ≤ unit_gap_of w
+unfolding unit_gap_of icos_of
+sine_slope_before w p h =
+    let there = (p + w) % 216000000000 in
+    let y = (there + 54000000000) % 216000000000 in
+    let near : (j : ℕ) → j < w → unsigned_abs (signed_num (((p + j) % 216000000000 + 54000000000) % 216000000000) -ℤ (pos 1440000000000000000 *ℤ isin_of y)) ≤ 1440000000000000000 * step_of w + 1440000000000000000 =
+    λ j below.
+    let x = ((p + j) % 216000000000 + 54000000000) % 216000000000 in
+    let left = w - j in
+    let same : (x + left) % 216000000000 ≡ y = omega (arith, below) in
+    let moved = rw same at (rate_law left x (omega arith)) in
+    near_slope (signed_num x) (isin_of x) (isin_of y) (step_of left) (step_of w) (sine_gap x (omega arith)) (swapped (isin_of y) (isin_of x) (step_of left) moved) (step_of-mono left w (omega (arith, below)))
     in
     let steps = rw (scaled_product w 1440000000000000000 (isin_of y)) at (signed_num-slopes (pos 1440000000000000000 *ℤ isin_of y) (1440000000000000000 * step_of w + 1440000000000000000) w p h near) in
     within_unit_gap _ w (step_of w) (cut_slope (signed_num there) (signed_num p) (isin_of there) (isin_of p) (pos w *ℤ isin_of y) _ steps (sine_gap there (omega arith)) (sine_gap p h))
@@ -123,3 +143,17 @@ slope_law w p h =
     in
     let slope = rw turn at (sine_slope w q (omega arith)) in
     slope_from (isin_of (((p + w) % 216000000000 + 54000000000) % 216000000000)) (isin_of q) (pos w *ℤ isin_of p) (pos w *ℤ isin_of ((q + 54000000000) % 216000000000)) (unit_gap_of w) other slope
+
+-- the same by the sine where the units end
+pub slope_law_before : (w : ℕ) → SlopeLawBefore w
+unfolding icos_of
+slope_law_before w p h =
+    let q = (p + 54000000000) % 216000000000 in
+    let there = (p + w) % 216000000000 in
+    let turn : (q + w) % 216000000000 ≡ (there + 54000000000) % 216000000000 = omega arith in
+    let half : ((q + w) % 216000000000 + 54000000000) % 216000000000 ≡ (there + 108000000000) % 216000000000 = omega arith in
+    let other : pos w *ℤ isin_of (((q + w) % 216000000000 + 54000000000) % 216000000000) ≡ neg_ℤ (pos w *ℤ isin_of there) =
+    ap (λ n. pos w *ℤ isin_of n) half ∙ ap (λ z. pos w *ℤ z) (isin_of-opposite there (omega arith)) ∙ times_negated w (isin_of there)
+    in
+    let slope = sine_slope_before w q (omega arith) in
+    rw (← turn) (slope_from (isin_of ((q + w) % 216000000000)) (isin_of q) (pos w *ℤ isin_of there) (pos w *ℤ isin_of (((q + w) % 216000000000 + 54000000000) % 216000000000)) (unit_gap_of w) other slope)

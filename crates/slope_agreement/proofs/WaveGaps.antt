@@ -10,7 +10,7 @@ use Rattle.station_curve.specs.Waves.{Harmonic, phase_at, height_at, fall_at, he
 use Rattle.station_curve.specs.Sums.{fall_rate_of, far_of}
 use Rattle.station_curve.proofs.Products.{abs_times, abs_plus}
 use Rattle.slope_agreement.specs.UnitGaps.{unit_gap_of}
-use Rattle.slope_agreement.proofs.SlopeLaws.{slope_law}
+use Rattle.slope_agreement.proofs.SlopeLaws.{slope_law, slope_law_before}
 
 -- products with a sum, with so many times a difference, and with another product
 sum_is : (x y : ℤ) → up (x +ℤ y) + down x + down y ≡ down (x +ℤ y) + up x + up y
@@ -60,18 +60,25 @@ height_gap t h =
     rw (later h.phase h.speed t)
     (wave_slope h.amplitude (icos_of ((p + h.speed) % circle)) (icos_of p) (isin_of p) h.speed (unit_gap_of h.speed) slope)
 
+height_gap_before : (t : ℕ) (h : Harmonic) → unsigned_abs ((pos 34377467708 *ℤ (height_at (t + 1) h -ℤ height_at t h)) +ℤ fall_at (t + 1) h) ≤ wave_gap h
+height_gap_before t h =
+    let p = phase_at h t in
+    let slope = slope_law_before h.speed p (mod_below (h.phase + h.speed * t) circle (lit< tt)) in
+    rw (later h.phase h.speed t)
+    (wave_slope h.amplitude (icos_of ((p + h.speed) % circle)) (icos_of p) (isin_of ((p + h.speed) % circle)) h.speed (unit_gap_of h.speed) slope)
+
 -- the waves of a year
 regrouped : (a x b y c z : ℤ) → (pos 34377467708 *ℤ ((a +ℤ x) -ℤ (b +ℤ y))) +ℤ (c +ℤ z) ≡ ((pos 34377467708 *ℤ (a -ℤ b)) +ℤ c) +ℤ ((pos 34377467708 *ℤ (x -ℤ y)) +ℤ z)
 regrouped a x b y c z = omega (arith, ints)
 
-sums_gap : (t : ℕ) (hs : List Harmonic) (a b c : ℤ) (d : ℕ) → unsigned_abs ((pos 34377467708 *ℤ (a -ℤ b)) +ℤ c) ≤ d → unsigned_abs ((pos 34377467708 *ℤ (fold (λ sum h. sum +ℤ height_at (t + 1) h) a hs -ℤ fold (λ sum h. sum +ℤ height_at t h) b hs)) +ℤ fold (λ sum h. sum +ℤ fall_at t h) c hs) ≤ fold (λ sum h. sum + wave_gap h) d hs
-sums_gap t [] a b c d near = near
-sums_gap t (h ∷ hs) a b c d near =
+sums_gap : (t u : ℕ) → ((h : Harmonic) → unsigned_abs ((pos 34377467708 *ℤ (height_at (t + 1) h -ℤ height_at t h)) +ℤ fall_at u h) ≤ wave_gap h) → (hs : List Harmonic) (a b c : ℤ) (d : ℕ) → unsigned_abs ((pos 34377467708 *ℤ (a -ℤ b)) +ℤ c) ≤ d → unsigned_abs ((pos 34377467708 *ℤ (fold (λ sum h. sum +ℤ height_at (t + 1) h) a hs -ℤ fold (λ sum h. sum +ℤ height_at t h) b hs)) +ℤ fold (λ sum h. sum +ℤ fall_at u h) c hs) ≤ fold (λ sum h. sum + wave_gap h) d hs
+sums_gap t u each [] a b c d near = near
+sums_gap t u each (h ∷ hs) a b c d near =
     let more = height_at (t + 1) h in
     let less = height_at t h in
-    sums_gap t hs (a +ℤ more) (b +ℤ less) (c +ℤ fall_at t h) (d + wave_gap h)
-    (rw (regrouped a more b less c (fall_at t h))
-    (abs_plus ((pos 34377467708 *ℤ (a -ℤ b)) +ℤ c) ((pos 34377467708 *ℤ (more -ℤ less)) +ℤ fall_at t h) d (wave_gap h) near (height_gap t h)))
+    sums_gap t u each hs (a +ℤ more) (b +ℤ less) (c +ℤ fall_at u h) (d + wave_gap h)
+    (rw (regrouped a more b less c (fall_at u h))
+    (abs_plus ((pos 34377467708 *ℤ (a -ℤ b)) +ℤ c) ((pos 34377467708 *ℤ (more -ℤ less)) +ℤ fall_at u h) d (wave_gap h) near (each h)))
 
 -- by the sums of the year
 gap_parts : (a b c : ℕ) (h : Harmonic) → (a + 100000 * b + 68754935416 * c) + wave_gap h ≡ (a + fall_rate_of h) + 100000 * (b + unsigned_abs h.amplitude * h.speed) + 68754935416 * (c + unsigned_abs h.amplitude)
@@ -86,4 +93,8 @@ gaps_parts (h ∷ hs) a b c =
 
 pub heights_gap : (t : ℕ) (hs : List Harmonic) → unsigned_abs ((pos 34377467708 *ℤ (heights_of (t + 1) hs -ℤ heights_of t hs)) +ℤ falls_of t hs) ≤ far_of hs + 100000 * steepness_of hs + 68754935416 * amount_of hs
 heights_gap t hs =
-    rw (gaps_parts hs 0 0 0) at (sums_gap t hs (pos 0) (pos 0) (pos 0) 0 (omega arith))
+    rw (gaps_parts hs 0 0 0) at (sums_gap t t (height_gap t) hs (pos 0) (pos 0) (pos 0) 0 (omega arith))
+
+pub heights_gap_before : (t : ℕ) (hs : List Harmonic) → unsigned_abs ((pos 34377467708 *ℤ (heights_of (t + 1) hs -ℤ heights_of t hs)) +ℤ falls_of (t + 1) hs) ≤ far_of hs + 100000 * steepness_of hs + 68754935416 * amount_of hs
+heights_gap_before t hs =
+    rw (gaps_parts hs 0 0 0) at (sums_gap t (t + 1) (height_gap_before t) hs (pos 0) (pos 0) (pos 0) 0 (omega arith))

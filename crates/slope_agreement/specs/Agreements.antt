@@ -18,6 +18,10 @@ use Rattle.slope_agreement.specs.UnitGaps.{each_unit, two_cuts}
 abbrev pub gap_between : (ℤ → ℤ) → (ℤ → ℤ) → ℤ → ℕ
 gap_between level slope m = unsigned_abs ((pos radian *ℤ (level (m +ℤ pos 1) -ℤ level m)) -ℤ slope m)
 
+-- how far the rise over the minute from m on is from the slope at the next minute
+abbrev pub gap_before : (ℤ → ℤ) → (ℤ → ℤ) → ℤ → ℕ
+gap_before level slope m = unsigned_abs ((pos radian *ℤ (level (m +ℤ pos 1) -ℤ level m)) -ℤ slope (m +ℤ pos 1))
+
 -- of a tide
 abbrev pub gap_of : Tide → ℤ → ℕ
 gap_of tide m = gap_between (level_of tide) (slope_of tide) m
@@ -25,6 +29,10 @@ gap_of tide m = gap_between (level_of tide) (slope_of tide) m
 -- of a book's station, by every constituent
 abbrev pub predicted_gap : Book → Station → ℤ → ℕ
 predicted_gap b s m = gap_between (predicted_level b s) (predicted_slope b s) m
+
+-- of a book's station, from the slope at the next minute
+abbrev pub predicted_gap_before : Book → Station → ℤ → ℕ
+predicted_gap_before b s m = gap_before (predicted_level b s) (predicted_slope b s) m
 
 -- a minute that lies in the plain part of one of the years together with the next one
 pub record IsPlainMinute (first_year : ℤ) (years : ℕ) (m : ℤ) (year : ℕ) : Type 0 where

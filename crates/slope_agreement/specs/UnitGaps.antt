@@ -22,3 +22,9 @@ abbrev pub SlopeLaw : ℕ → Type 0
 SlopeLaw w =
     (p : ℕ) → p < circle →
     unsigned_abs ((pos radian *ℤ (icos_of ((p + w) % circle) -ℤ icos_of p)) +ℤ (pos w *ℤ isin_of p)) ≤ unit_gap_of w
+
+-- over w units the cosine falls by w times the sine at their end too, but for the same gap
+abbrev pub SlopeLawBefore : ℕ → Type 0
+SlopeLawBefore w =
+    (p : ℕ) → p < circle →
+    unsigned_abs ((pos radian *ℤ (icos_of ((p + w) % circle) -ℤ icos_of p)) +ℤ (pos w *ℤ isin_of ((p + w) % circle))) ≤ unit_gap_of w

@@ -8,7 +8,7 @@ ghost use Rattle.harmonics_text.specs.declared.book.Book.{Book};
 ghost use Rattle.harmonics_text.specs.Books.{IsBook, IsStation};
 ghost use Rattle.station_curve.specs.Curves.{first_fault, Predicts};
 ghost use Rattle.station_curve.specs.Waves.{Tide};
-ghost use Rattle.slope_agreement.specs.Agreements.{predicted_gap, IsPlainMinute, agreement_of, predicted_agreement};
+ghost use Rattle.slope_agreement.specs.Agreements.{predicted_gap, predicted_gap_before, IsPlainMinute, agreement_of, predicted_agreement};
 
 /// Two checks of the whole table: where each degree begins and where it ends, the slope of the
 /// interpolated sine is within 30,000 billionths of the cosine's entry.
@@ -21,10 +21,13 @@ pub fn table_checks()
         ≤ 4 * degree * 30000 }
 {}
 
-/// A tide that predicts a station has the bound by every constituent of the book, and the station's
-/// level keeps to it at every plain minute, where no year is beyond a limit.
+/// A tide that predicts a station has the bound by every constituent of the book. At every plain minute
+/// the station's level keeps to it, if no year exceeds a limit: its rise to the next minute is within the
+/// bound of the slope where the minute begins, and of the slope where it ends.
 pub fn predicted_agreements()
     ensures value { (b : Book) (s : Station) (tide : Tide) → Predicts b s tide → agreement_of tide ≡ predicted_agreement b s }
     ensures law { (b : Book) (s : Station) (m : ℤ) (year : ℕ) → IsBook b → IsStation (length b.constituents) s → first_fault b s b.years ≡ None
         → IsPlainMinute b.first_year b.years m year → pos (predicted_gap b s m) ≤ℤ predicted_agreement b s }
+    ensures before { (b : Book) (s : Station) (m : ℤ) (year : ℕ) → IsBook b → IsStation (length b.constituents) s → first_fault b s b.years ≡ None
+        → IsPlainMinute b.first_year b.years m year → pos (predicted_gap_before b s m) ≤ℤ predicted_agreement b s }
 {}

@@ -4,7 +4,7 @@ ghost use Rattle.std.specs.Prelude.{◌≡◌, ◌*◌, [], ◌∷◌, pos};
 ghost use Rattle.harmonics_text.specs.declared.book.Units.TheVariants.{Feet};
 ghost use Rattle.station_curve.specs.Curves.{tide_of};
 ghost use Rattle.station_curve.specs.Worked.{small_station, pier_book, pier, harbour_book, harbour};
-ghost use Rattle.slope_agreement.specs.Agreements.{gap_of, predicted_gap, agreement_of, predicted_agreement};
+ghost use Rattle.slope_agreement.specs.Agreements.{gap_of, predicted_gap, predicted_gap_before, agreement_of, predicted_agreement};
 ghost use Rattle.slope_agreement.specs.UnitGaps.{unit_gap_of};
 
 /// The gaps of waves that stand still, that turn by a unit, by M2's speed, by half a degree and by six
@@ -29,10 +29,12 @@ pub fn worked_agreements()
     ensures no_tide { predicted_agreement pier_book (small_station (pos 0) Feet) ≡ pos 0 }
 {}
 
-/// The same tides' gaps at single minutes, the first at a high water.
+/// The same tides' gaps at single minutes, the first at a high water, and the gap of the minute before
+/// it.
 pub fn worked_gaps()
     ensures tide { gap_of (tide_of pier_book pier) (pos 15791040) ≡ 4147200000 * 1000000 * 1309093970320640 }
     ensures midnight { predicted_gap pier_book pier (pos 15791040) ≡ 4147200000 * 1000000 * 1309093970320640 }
+    ensures before { predicted_gap_before pier_book pier (pos 15791039) ≡ 4147200000 * 1000000 * 1309093970320640 }
     ensures harbour_2000 { predicted_gap harbour_book harbour (pos 15778380) ≡ 2604381509775785907188736000000 }
     ensures harbour_2001 { predicted_gap harbour_book harbour (pos 16390080) ≡ 6070143806716623885374054400000 }
 {}

@@ -1,0 +1,100 @@
+-- The level in the minutes after the turns that `predict` lists, and the bound that `about` prints (this project).
+use Rattle.std.specs.Prelude.{◌≡◌, ℕ, ◌*◌, ◌^◌, ℤ, pos, neg_ℤ, ◌+ℤ◌, ◌-ℤ◌, ◌*ℤ◌, ◌≤ℤ◌, List, All, IsSomeAnd, Some, Ok}
+use Rattle.curve_law.specs.declared.event.Event.{Event}
+use Rattle.curve_law.specs.declared.kind.Kind.{Kind}
+use Rattle.curve_law.specs.declared.kind.Kind.TheVariants.{High, Low}
+use Rattle.event_list.specs.Shifts.{offset_of}
+use Rattle.fixed_sine.specs.Circle.{radian}
+use Rattle.harmonics_text.specs.declared.book.Book.{Book}
+use Rattle.harmonics_text.specs.declared.book.Station.{Station}
+use Rattle.listing.specs.Abouts.{about_text_of}
+use Rattle.named_files.specs.Readings.{book_named, table_named}
+use Rattle.question.specs.declared.command.Command.TheVariants.{About, Predict}
+use Rattle.question.specs.declared.question.Question.{Question}
+use Rattle.report_sheets.specs.Sheets.{SheetMeaning}
+use Rattle.slope_agreement.specs.Agreements.{IsPlainMinute}
+use Rattle.station_curve.specs.Schureman.{predicted_level}
+use Rattle.station_span.specs.declared.asked.Asked.{Asked}
+use Rattle.station_span.specs.declared.reach.Reach.TheVariants.{Events}
+use Rattle.station_span.specs.Sites.{Site, site_in}
+use Rattle.station_table.specs.declared.offsets.Offsets.{Offsets}
+use Rattle.tide_answer.specs.declared.text.Answer.{Answer}
+use Rattle.tide_answer.specs.Answers.{events_text, text_alone}
+use Rattle.tide_answer.specs.Asking.{asked_by}
+use Rattle.tide_desk.specs.Answers.{answer_of}
+use Rattle.tide_desk.specs.Laws.{Asks, NameSameFiles}
+use Rattle.tide_edge.specs.FileStates.{Folder}
+use Rattle.year_blend.specs.Weights.{total_weight}
+use Rattle.zone_time.specs.declared.zone.Zone.{Zone}
+
+-- the number of a bound that is the unit of the station's levels, 142,570,234,078,617,600,000,000,000,000,000,000
+abbrev pub unit_of_bound : ℕ
+unit_of_bound = radian * (total_weight * 10 ^ 15)
+
+-- how far the level rises from a minute to the next one, by the same number
+abbrev pub rise_in : Book → Station → ℤ → ℤ
+rise_in book station m =
+    pos radian *ℤ (predicted_level book station (m +ℤ pos 1) -ℤ predicted_level book station m)
+
+-- the minute and the next one lie in the plain part of one year, outside the hours around a new year
+abbrev pub IsOutsideBlends : Book → ℤ → Type 0
+IsOutsideBlends book m = (year : ℕ) × IsPlainMinute book.first_year book.years m year
+
+abbrev pub RisesAtMost : Book → Station → ℤ → ℤ → Type 0
+RisesAtMost book station bound m = IsOutsideBlends book m → rise_in book station m ≤ℤ bound
+
+abbrev pub FallsAtMost : Book → Station → ℤ → ℤ → Type 0
+FallsAtMost book station bound m = IsOutsideBlends book m → neg_ℤ bound ≤ℤ rise_in book station m
+
+-- The water turns between the minute that is listed and the next one. After a high water the level rises by at most the bound in this
+-- minute, and in the one after it; and in this minute it falls by at most the bound.
+pub record IsBoundedHigh (book : Book) (station : Station) (bound m : ℤ) : Type 0 where
+  pub rises : RisesAtMost book station bound m
+  pub rises_later : RisesAtMost book station bound (m +ℤ pos 1)
+  pub falls : FallsAtMost book station bound m
+
+-- after a low water it falls where it rises after a high one
+pub record IsBoundedLow (book : Book) (station : Station) (bound m : ℤ) : Type 0 where
+  pub falls : FallsAtMost book station bound m
+  pub falls_later : FallsAtMost book station bound (m +ℤ pos 1)
+  pub rises : RisesAtMost book station bound m
+
+-- slacks and marks are no turns of the level
+abbrev pub IsBoundedTurn : Book → Station → ℤ → Kind → ℤ → Type 0
+IsBoundedTurn book station bound High m = IsBoundedHigh book station bound m
+IsBoundedTurn book station bound Low m = IsBoundedLow book station bound m
+IsBoundedTurn book station bound _ m = Unit {0}
+
+-- an event, at the minute of the reference that it comes from: that of a reference station is its own
+abbrev pub IsBounded : Book → Site → ℤ → Event → Type 0
+IsBounded book site bound event =
+    IsBoundedTurn book site.station bound event.kind (event.minute -ℤ (offset_of site.basis event.kind).add)
+
+-- what `about` and `predict` print of one station: the one prints a bound, and each turn that the other lists keeps to it
+pub record BoundsTurns (folder : Folder) (predict : Question) (facts listing : Answer) : Type 0 where
+  pub book : Book
+  pub table : List Offsets
+  pub zone : Zone
+  pub name : List ℕ
+  pub asked : Asked
+  pub site : Site
+  pub constituents : ℕ
+  pub bound : ℤ
+  pub events : List Event
+  pub file : IsSomeAnd predict.file (λ file. book_named folder file ≡ Ok book)
+  pub offsets : table_named folder predict.offsets ≡ Ok table
+  pub station : predict.station ≡ Some name
+  pub span : asked_by predict ≡ Some asked
+  pub found : site_in Events book table name asked ≡ Ok site
+  pub printed : facts ≡ text_alone (about_text_of name site.station.name site.station.units constituents bound)
+  pub listed : listing.text ≡ events_text predict.layout name site.station.units events zone
+  pub each : All (IsBounded book site bound) events
+
+-- of runs that ask both of one station, over the same files
+abbrev pub AboutBoundsTurns : Type 0
+AboutBoundsTurns = (sheets : List SheetMeaning) (folder : Folder) (minute later : ℤ) (words more : List (List ℕ))
+    (about predict : Question) (facts listing : Answer) →
+    Asks sheets words About about → answer_of sheets folder minute words ≡ Ok facts →
+    Asks sheets more Predict predict → answer_of sheets folder later more ≡ Ok listing →
+    NameSameFiles predict about → predict.station ≡ about.station →
+    BoundsTurns folder predict facts listing

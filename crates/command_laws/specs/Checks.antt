@@ -1,0 +1,47 @@
+-- What `check` prints after `Accepted`, beside what `predict` prints (this project).
+use Rattle.std.specs.Prelude.{◌≡◌, ℕ, ℤ, List, ◌∷◌, codes, Result, Ok}
+use Rattle.named_files.specs.declared.no_answer.NoAnswer.{NoAnswer}
+use Rattle.named_files.specs.Readings.{zone_named}
+use Rattle.question.specs.declared.command.Command.TheVariants.{Predict, Certify, Check}
+use Rattle.question.specs.declared.question.Layout.TheVariants.{Plain}
+use Rattle.question.specs.declared.question.Question.{Question}
+use Rattle.question.specs.declared.question.ZoneWord.TheVariants.{Utc}
+use Rattle.report_sheets.specs.Sheets.{SheetMeaning}
+use Rattle.tide_answer.specs.declared.text.Answer.{Answer}
+use Rattle.tide_answer.specs.Answers.{text_accepted}
+use Rattle.tide_desk.specs.Answers.{answer_of, asked_of}
+use Rattle.tide_desk.specs.Laws.{Asks, AsksListing, HoldsCertificate, NameSameFiles, subject_of}
+use Rattle.tide_edge.specs.FileStates.{Folder}
+use Rattle.zone_time.specs.declared.zone.Zone.{Zone}
+
+-- `predict` has an answer, and `check` prints `Accepted` and then its text
+abbrev pub PrintsAccepted : Result Answer NoAnswer → Result Answer NoAnswer → Type 0
+PrintsAccepted predicted checked = (listing : Answer) × (predicted ≡ Ok listing) × (checked ≡ Ok (text_accepted listing.text))
+
+-- For the text that `certify` returned `check` prints `Accepted`, and then what `predict` prints for the station, the span and the mark
+-- of the certificate, over the files of the check and in its zone. The certificate may be checked in another folder.
+abbrev pub CheckShowsPredict : Type 0
+CheckShowsPredict = (sheets : List SheetMeaning) (before after : Folder) (minute later last : ℤ) (words more others : List (List ℕ))
+    (certify check predict : Question) (certificate : Answer) (zone : Zone) →
+    Asks sheets words Certify certify → answer_of sheets before minute words ≡ Ok certificate →
+    Asks sheets more Check check → HoldsCertificate before after certify check certificate.text →
+    zone_named after check.zone ≡ Ok zone →
+    Asks sheets others Predict predict → AsksListing check (subject_of certify) predict →
+    PrintsAccepted (answer_of sheets after last others) (answer_of sheets after later more)
+
+-- `predict` asks with the arguments of a `certify` for its station, span, mark and files, in universal time and in plain lines
+abbrev pub TakesItsArguments : Type 0
+TakesItsArguments = (sheets : List SheetMeaning) (arguments : List (List ℕ)) (certify : Question) →
+    asked_of sheets (codes "certify" ∷ arguments) ≡ Ok certify →
+    asked_of sheets (codes "predict" ∷ arguments) ≡ Ok (record certify { command = Predict; zone = Utc; layout = Plain })
+
+-- For the text that `certify` returned `check` prints `Accepted`, and then what `predict` prints with the same arguments, if the check
+-- names the same files and no other zone.
+abbrev pub CheckShowsSameArguments : Type 0
+CheckShowsSameArguments = (sheets : List SheetMeaning) (before after : Folder) (minute later last : ℤ) (arguments more : List (List ℕ))
+    (certify check : Question) (certificate : Answer) →
+    asked_of sheets (codes "certify" ∷ arguments) ≡ Ok certify →
+    answer_of sheets before minute (codes "certify" ∷ arguments) ≡ Ok certificate →
+    Asks sheets more Check check → HoldsCertificate before after certify check certificate.text →
+    NameSameFiles certify check → check.zone ≡ Utc →
+    PrintsAccepted (answer_of sheets after last (codes "predict" ∷ arguments)) (answer_of sheets after later more)

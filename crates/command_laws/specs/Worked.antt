@@ -1,0 +1,24 @@
+-- Runs over a small file, for the worked rows (this project).
+use Rattle.std.specs.Prelude.{ℕ, pos, if◌then◌else◌, List, codes, Some, Result}
+use Rattle.std.specs.List.{slice_split}
+use Rattle.std.specs.Str.{bytes_eq}
+use Rattle.harmonics_text.specs.Worked.{file_of, pier_lines}
+use Rattle.named_files.specs.declared.no_answer.NoAnswer.{NoAnswer}
+use Rattle.question.specs.Worked.{is_space}
+use Rattle.report_sheets.specs.Sheets.{SheetMeaning}
+use Rattle.tide_answer.specs.declared.text.Answer.{Answer}
+use Rattle.tide_desk.specs.Answers.{answer_of}
+use Rattle.tide_edge.specs.FileStates.{Folder}
+
+-- the answer to words with a space between them, over a folder that has the pier's constants under each name, at the first minute
+abbrev pub pier_answer : List SheetMeaning → List ℕ → Result Answer NoAnswer
+pier_answer sheets words = answer_of sheets (λ name. Some (file_of pier_lines)) (pos 0) (slice_split is_space words)
+
+-- a certificate of three minutes there
+abbrev pub pier_certificate : List ℕ
+pier_certificate =
+    codes "tide certificate 2\nstation Pier\nbegin 2000-01-10T11:58Z\nend 2000-01-10T12:01Z\nmark none\ntrack turn\ns\nt high 999962\ns\ndone\n"
+
+-- the same folder with this certificate under the name `c`
+abbrev pub pier_with_certificate : Folder
+pier_with_certificate name = Some (if bytes_eq name (codes "c") then pier_certificate else file_of pier_lines)

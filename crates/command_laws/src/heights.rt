@@ -1,0 +1,29 @@
+//! The law of `heights`.
+
+ghost use Rattle.std.specs.Prelude.{◌≡◌, ℤ, [], codes, Ok};
+ghost use Rattle.harmonics_text.specs.declared.book.Book.{Book};
+ghost use Rattle.station_span.specs.Levels.{level_at};
+ghost use Rattle.station_span.specs.Sites.{Site};
+ghost use Rattle.text_laws.specs.Heights.{rows_over};
+ghost use Rattle.tide_answer.specs.Answers.{rows_of, text_alone};
+ghost use Rattle.command_laws.specs.Heights.{HeightsAreLevels};
+ghost use Rattle.command_laws.specs.Worked.{pier_answer};
+
+use text_laws::heights_are_levels;
+
+/// What `heights` prints are the station's levels: the row at each index is the level at the begin
+/// and that many steps after it, up to the end and including it. There is no other row.
+pub fn heights_has_a_row_each_step()
+    ensures rows { (book : Book) (site : Site) (begin end step : ℤ) → rows_of book site begin end step ≡ rows_over (level_at book site) begin end step }
+    ensures printed { HeightsAreLevels }
+{
+    heights_are_levels();
+}
+
+/// The rows of a span that ends between two rows, and of one that ends at a row.
+pub fn worked_rows()
+    ensures passed { pier_answer [] (codes "heights file=p station=Pier begin=2000-01-10T12:00Z end=2000-01-10T15:59Z step=120")
+        ≡ Ok (text_alone (codes "Pier\n2000-01-10 12:00 UTC       1.00 feet\n2000-01-10 14:00 UTC       0.50 feet\n")) }
+    ensures met { pier_answer [] (codes "heights file=p station=Pier begin=2000-01-10T12:00Z end=2000-01-10T14:00Z step=120")
+        ≡ Ok (text_alone (codes "Pier\n2000-01-10 12:00 UTC       1.00 feet\n2000-01-10 14:00 UTC       0.50 feet\n")) }
+{}
