@@ -1,5 +1,5 @@
 -- What is known of the question of pairs in which nothing is wrong.
-use Rattle.std.proofs.Common.{◌≡◌, ℕ, ◌+◌, ◌≤◌, Bool, true, false, not, ◌&&◌, ◌||◌, List, [], ◌∷◌, Option, Some, None, pos, ◌≤ℤ◌, unsigned_abs, Result, Ok, Err, refl, sym, ap, subst, ◌∙◌, arith, cond}
+use Rattle.std.proofs.Common.{◌≡◌, ℕ, ◌+◌, ◌≤◌, Bool, true, false, not, ◌&&◌, ◌||◌, List, [], ◌∷◌, Option, Some, None, pos, ◌≤ℤ◌, unsigned_abs, Result, Ok, Err, refl, sym, subst, arith, cond}
 use Rattle.std.specs.Prelude.{if◌then◌else◌, ℤ, unwrap_or, IsSome, is_some, option_and_then}
 use Rattle.std.specs.Option.{ok_or, ForSome}
 use Rattle.std.specs.List.{find, list_all, list_any}
@@ -86,7 +86,8 @@ same_named j k first second same =
 
 -- ---- the steps of a question
 
-then_ok : {A B E : Type 0} (step : Result A E) (next : A → Result B E) (b : B) → (step >>= next) ≡ Ok b → (a : A) × (step ≡ Ok a) × (next a ≡ Ok b)
+then_ok : {A B E : Type 0} (step : Result A E) (next : A → Result B E) (b : B) → (step >>= next) ≡ Ok b
+    → (a : A) × (step ≡ Ok a) × (next a ≡ Ok b)
 then_ok (Ok a) next b ok = (a, refl, ok)
 then_ok (Err fault) next b ok = absurd cc
 
@@ -106,7 +107,8 @@ none_missing (Some k) done ok = absurd cc
 abbrev AllFit : Origin → Said → Type 0
 AllFit origin said = (k : Key) (text : List ℕ) → is_in k all_keys ≡ true → said k ≡ Some text → has_form origin k text ≡ true
 
-also_fits : (origin : Origin) (said : Said) (new : Key) (text : List ℕ) → is_in new all_keys ≡ true → has_form origin new text ≡ true → AllFit origin said → AllFit origin (also new text said)
+also_fits : (origin : Origin) (said : Said) (new : Key) (text : List ℕ) → is_in new all_keys ≡ true
+    → has_form origin new text ≡ true → AllFit origin said → AllFit origin (also new text said)
 also_fits origin said new text member good fit k other known is =
     elim (bytes_eq (name_of k) (name_of new)) as (λ b. bytes_eq (name_of k) (name_of new) ≡ b → (if b then Some text else said k) ≡ Some other → has_form origin k other ≡ true) [
       | true ↦ λ same here. let one : new ≡ k = sym (same_named k new known member same) in let words : text ≡ other = cc in
@@ -114,7 +116,8 @@ also_fits origin said new text member good fit k other known is =
       | false ↦ λ differs before. fit k other known before
     ] refl is
 
-item_fits : (origin : Origin) (command : Command) (place : ℕ) (item : Item) (said more : Said) → AllFit origin said → with_item origin command place item said ≡ Ok more → AllFit origin more
+item_fits : (origin : Origin) (command : Command) (place : ℕ) (item : Item) (said more : Said) → AllFit origin said
+    → with_item origin command place item said ≡ Ok more → AllFit origin more
 unfolding with_item
 item_fits origin command place item said more fit ok =
     let text = then_ok (ok_or item.value (NotAPair place)) _ more ok in
@@ -126,7 +129,8 @@ item_fits origin command place item said more fit ok =
     let member = found_in (λ k. bytes_eq (name_of k) item.key && has_key origin command k) all_keys new.0 found in
     subst (AllFit origin) same (also_fits origin said new.0 text.0 member (not_refused (has_form origin new.0 text.0) (BadValue place) good.0 good.1) fit)
 
-items_fit : (origin : Origin) (command : Command) (items : List Item) (place : ℕ) (said more : Said) → AllFit origin said → with_items origin command place items said ≡ Ok more → AllFit origin more
+items_fit : (origin : Origin) (command : Command) (items : List Item) (place : ℕ) (said more : Said) → AllFit origin said
+    → with_items origin command place items said ≡ Ok more → AllFit origin more
 unfolding with_items
 items_fit origin command [] place said more fit ok = let same : said ≡ more = cc in subst (AllFit origin) same fit
 items_fit origin command (item ∷ items) place said more fit ok =
@@ -147,21 +151,26 @@ present true true e h = refl
 present true false e h = absurd cc
 present false has e h = absurd cc
 
-value_there : {V : Type 0} (form : List ℕ → Option V) (said : Option (List ℕ)) → is_some said ≡ true → ((text : List ℕ) → said ≡ Some text → is_some (form text) ≡ true) → IsSome (option_and_then form said)
+value_there : {V : Type 0} (form : List ℕ → Option V) (said : Option (List ℕ)) → is_some said ≡ true
+    → ((text : List ℕ) → said ≡ Some text → is_some (form text) ≡ true) → IsSome (option_and_then form said)
 value_there form None there fit = absurd cc
 value_there form (Some text) there fit = fit text refl
 
-there : {origin : Origin} {command : Command} {said : Said} → WasRead origin command said → (k : Key) → is_in k all_keys ≡ true → is_needed origin command k ≡ true → IsSome (option_and_then ((row_of k).form origin) (said k))
+there : {origin : Origin} {command : Command} {said : Said} → WasRead origin command said → (k : Key) → is_in k all_keys ≡ true
+    → is_needed origin command k ≡ true → IsSome (option_and_then ((row_of k).form origin) (said k))
 there {origin} {command} {said} read k known needed =
     let absent = none_found (λ k. is_needed origin command k && not (is_some (said k))) all_keys k read.whole known in
     value_there ((row_of k).form origin) (said k) (present _ _ needed absent) (λ text is. read.fit k text known is)
 
 -- both origins need it
-in_both : (origin : Origin) {command : Command} {said : Said} → WasRead origin command said → (k : Key) → is_in k all_keys ≡ true → is_needed Line command k ≡ true → is_needed Query command k ≡ true → IsSome (option_and_then ((row_of k).form origin) (said k))
+in_both : (origin : Origin) {command : Command} {said : Said} → WasRead origin command said → (k : Key) → is_in k all_keys ≡ true
+    → is_needed Line command k ≡ true → is_needed Query command k ≡ true
+    → IsSome (option_and_then ((row_of k).form origin) (said k))
 in_both Line read k known line query = there read k known line
 in_both Query read k known line query = there read k known query
 
-span_there : (origin : Origin) {command : Command} {said : Said} → WasRead origin command said → is_needed Line command key.Station ≡ true → is_needed Query command key.Station ≡ true
+span_there : (origin : Origin) {command : Command} {said : Said} → WasRead origin command said
+    → is_needed Line command key.Station ≡ true → is_needed Query command key.Station ≡ true
     → is_needed Line command key.Begin ≡ true → is_needed Query command key.Begin ≡ true → HasSpan (asked origin command said)
 unfolding is_in
 span_there origin read station_line station_query line query = record {
@@ -170,7 +179,8 @@ span_there origin read station_line station_query line query = record {
   end = in_both origin read key.End refl line query;
 }
 
-needed_there : (origin : Origin) (command : Command) {said : Said} → WasRead origin command said → HasNeeded command (asked origin command said)
+needed_there : (origin : Origin) (command : Command) {said : Said} → WasRead origin command said
+    → HasNeeded command (asked origin command said)
 unfolding is_in
 needed_there origin Predict read = span_there origin read refl refl refl refl
 needed_there origin Certify read = span_there origin read refl refl refl refl
@@ -188,7 +198,8 @@ needed_there origin Peak read = span_there origin read refl refl refl refl
 needed_there origin PeakCheck read = tt
 needed_there origin About read = in_both origin read key.Station refl refl refl
 
-files_there : {said : Said} (origin : Origin) (command : Command) → WasRead origin command said → NamesFiles origin (asked origin command said)
+files_there : {said : Said} (origin : Origin) (command : Command) → WasRead origin command said
+    → NamesFiles origin (asked origin command said)
 unfolding is_in
 files_there Query command read = tt
 files_there Line Predict read = there read key.File refl refl
@@ -209,7 +220,8 @@ files_there Line About read = there read key.File refl refl
 
 -- ---- values lie in their ranges
 
-in_range : {V : Type 0} (P : V → Type 0) (form : List ℕ → Option V) (said : Option (List ℕ)) → ((text : List ℕ) (v : V) → form text ≡ Some v → P v) → ForSome (option_and_then form said) P
+in_range : {V : Type 0} (P : V → Type 0) (form : List ℕ → Option V) (said : Option (List ℕ))
+    → ((text : List ℕ) (v : V) → form text ≡ Some v → P v) → ForSome (option_and_then form said) P
 in_range P form None range v is = absurd cc
 in_range P form (Some text) range v is = range text v is
 

@@ -13,43 +13,56 @@ use Rattle.question.specs.Keys.{key_named}
 use Rattle.question.specs.Questions.{Said, also, has_form, with_item, with_items}
 use Rattle.question.specs.Workings.Said.{said_by}
 
-with_item-bare : (origin : Origin) (command : Command) (place : ℕ) (item : Item) (said : Said) → item.value ≡ None → with_item origin command place item said ≡ Err (NotAPair place)
+with_item-bare : (origin : Origin) (command : Command) (place : ℕ) (item : Item) (said : Said) → item.value ≡ None
+    → with_item origin command place item said ≡ Err (NotAPair place)
 unfolding with_item
 with_item-bare origin command place item said h = rw h
 
-pub with_item-unknown : (origin : Origin) (command : Command) (place : ℕ) (item : Item) (said : Said) (text : List ℕ) → item.value ≡ Some text → key_named origin command item.key ≡ None → with_item origin command place item said ≡ Err (UnknownKey place)
+pub with_item-unknown : (origin : Origin) (command : Command) (place : ℕ) (item : Item) (said : Said) (text : List ℕ)
+    → item.value ≡ Some text → key_named origin command item.key ≡ None
+    → with_item origin command place item said ≡ Err (UnknownKey place)
 unfolding with_item
 with_item-unknown origin command place item said text h k = rw (h, k)
 
-pub with_item-repeated : (origin : Origin) (command : Command) (place : ℕ) (item : Item) (said : Said) (text : List ℕ) (k : Key) → item.value ≡ Some text → Some k ≡ key_named origin command item.key → is_some (said k) ≡ true → with_item origin command place item said ≡ Err (RepeatedKey place)
+pub with_item-repeated : (origin : Origin) (command : Command) (place : ℕ) (item : Item) (said : Said) (text : List ℕ) (k : Key)
+    → item.value ≡ Some text → Some k ≡ key_named origin command item.key → is_some (said k) ≡ true
+    → with_item origin command place item said ≡ Err (RepeatedKey place)
 unfolding with_item
 with_item-repeated origin command place item said text k h named again = rw (h, ← named, again)
 
-pub with_item-bad : (origin : Origin) (command : Command) (place : ℕ) (item : Item) (said : Said) (text : List ℕ) (k : Key) → item.value ≡ Some text → Some k ≡ key_named origin command item.key → is_some (said k) ≡ false → has_form origin k text ≡ false → with_item origin command place item said ≡ Err (BadValue place)
+pub with_item-bad : (origin : Origin) (command : Command) (place : ℕ) (item : Item) (said : Said) (text : List ℕ) (k : Key)
+    → item.value ≡ Some text → Some k ≡ key_named origin command item.key → is_some (said k) ≡ false
+    → has_form origin k text ≡ false → with_item origin command place item said ≡ Err (BadValue place)
 unfolding with_item
 with_item-bad origin command place item said text k h named new bad = rw (h, ← named, new, bad)
 
-pub with_item-good : (origin : Origin) (command : Command) (place : ℕ) (item : Item) (said : Said) (text : List ℕ) (k : Key) → item.value ≡ Some text → Some k ≡ key_named origin command item.key → is_some (said k) ≡ false → has_form origin k text ≡ true → with_item origin command place item said ≡ Ok (also k text said)
+pub with_item-good : (origin : Origin) (command : Command) (place : ℕ) (item : Item) (said : Said) (text : List ℕ) (k : Key)
+    → item.value ≡ Some text → Some k ≡ key_named origin command item.key → is_some (said k) ≡ false
+    → has_form origin k text ≡ true → with_item origin command place item said ≡ Ok (also k text said)
 unfolding with_item
 with_item-good origin command place item said text k h named new good = rw (h, ← named, new, good)
 
 -- no item is left
-with_items-none : (origin : Origin) (command : Command) (place : ℕ) (items : List Item) (i : ℕ) (said : Said) → length items ≤ i → with_items origin command place (drop i items) said ≡ Ok said
+with_items-none : (origin : Origin) (command : Command) (place : ℕ) (items : List Item) (i : ℕ) (said : Said) → length items ≤ i
+    → with_items origin command place (drop i items) said ≡ Ok said
 unfolding with_items
 with_items-none origin command place items i said h = rw (drop_all i items h)
 
-with_items-at : (origin : Origin) (command : Command) (items : List Item) (i : ℕ) (item : Item) (said : Said) → i < length items → item ≡ get_or items i item
+with_items-at : (origin : Origin) (command : Command) (items : List Item) (i : ℕ) (item : Item) (said : Said) → i < length items
+    → item ≡ get_or items i item
     → with_items origin command (i + 1) (drop i items) said ≡ (with_item origin command (i + 1) item said >>= with_items origin command (i + 1 + 1) (drop (i + 1) items))
 unfolding with_items
 with_items-at origin command items i item said lt is = rw (add-one i, drop-cons items i item lt, sym is)
 
 -- an item that is in order leaves the rest to tell
-with_items-more : (origin : Origin) (command : Command) (items : List Item) (i : ℕ) (item : Item) (said more : Said) → i < length items → item ≡ get_or items i item
+with_items-more : (origin : Origin) (command : Command) (items : List Item) (i : ℕ) (item : Item) (said more : Said)
+    → i < length items → item ≡ get_or items i item
     → with_item origin command (i + 1) item said ≡ Ok more → with_items origin command (i + 1) (drop i items) said ≡ with_items origin command (i + 1 + 1) (drop (i + 1) items) more
 with_items-more origin command items i item said more lt is h = rw h at (with_items-at origin command items i item said lt is)
 
 -- a fault of an item is one of the items from it on
-Excused-then : {A B E : Type 0} (wants : Bool) (x : Result A E) (f : A → Result B E) (fault : E) → Excused wants x fault → Excused wants (x >>= f) fault
+Excused-then : {A B E : Type 0} (wants : Bool) (x : Result A E) (f : A → Result B E) (fault : E) → Excused wants x fault
+    → Excused wants (x >>= f) fault
 Excused-then true x f fault h = tt
 Excused-then false x f fault h = rw h
 

@@ -1,5 +1,5 @@
 -- What items say, one by one.
-use Rattle.std.proofs.Common.{◌≡◌, ℕ, ◌+◌, ◌<◌, Bool, true, false, ◌&&◌, cond, List, [], ◌∷◌, ◌++◌, length, get_or, take, drop, Option, Some, None, refl, sym, ap, add-one, drop-cons}
+use Rattle.std.proofs.Common.{◌≡◌, ℕ, ◌+◌, ◌<◌, Bool, true, false, ◌&&◌, cond, List, [], ◌∷◌, ◌++◌, length, get_or, drop, Option, Some, None, refl, sym, add-one, drop-cons}
 use Rattle.std.specs.Prelude.{if◌then◌else◌}
 use Rattle.std.specs.List.{find}
 use Rattle.std.specs.Str.{bytes_eq}
@@ -20,7 +20,8 @@ text_after-end : (items : List Item) (item : Item) (k : Key) (earlier : Option (
 text_after-end [] item k earlier = refl
 text_after-end (first ∷ items) item k earlier = text_after-end items item k (if bytes_eq (name_of k) first.key then first.value else earlier)
 
-pub text_after-at : (items : List Item) (i : ℕ) (item : Item) (k : Key) (earlier : Option (List ℕ)) → i < length items → item ≡ get_or items i item
+pub text_after-at : (items : List Item) (i : ℕ) (item : Item) (k : Key) (earlier : Option (List ℕ)) → i < length items
+    → item ≡ get_or items i item
     → text_after (drop i items) k earlier ≡ text_after (drop (i + 1) items) k (if bytes_eq (name_of k) item.key then item.value else earlier)
 text_after-at items i item k earlier lt is = rw (add-one i, drop-cons items i item lt, sym is)
 

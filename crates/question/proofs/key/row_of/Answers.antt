@@ -1,4 +1,4 @@
-use Rattle.std.proofs.Common.{refl, rules}
+use Rattle.std.proofs.Common.{rules}
 use Rattle.question.proofs.key.row_of.Goals as goal
 
 pub returns-in-File : goal.returns-in-File

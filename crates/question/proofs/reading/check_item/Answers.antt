@@ -1,4 +1,4 @@
-use Rattle.std.proofs.Common.{◌≡◌, true, false, ap, sym, ◌∙◌, ◌+◌, length, Ok, Some}
+use Rattle.std.proofs.Common.{◌≡◌, true, false, ap, sym, ◌∙◌, ◌+◌, length, Ok}
 use Rattle.question.specs.Questions.{has_form, Said}
 use Rattle.question.specs.Workings.Said.{said_by}
 use Rattle.question.proofs.ItemLemmas.{with_item-repeated, with_item-bad, with_item-good}
