@@ -1,151 +1,287 @@
--- What is known of the question of a draft that lacks no needed key.
-use Rattle.std.proofs.Common.{◌≡◌, ℕ, ◌≤◌, Bool, true, false, not, ◌&&◌, List, [], ◌∷◌, Option, Some, None, pos, ◌≤ℤ◌, unsigned_abs, refl, arith, cond}
-use Rattle.std.specs.Prelude.{unwrap_or, IsSome}
-use Rattle.std.specs.Option.{option_map, ForSome}
-use Rattle.std.specs.List.{find}
+-- What is known of the question of pairs in which nothing is wrong.
+use Rattle.std.proofs.Common.{◌≡◌, ℕ, ◌+◌, ◌≤◌, Bool, true, false, not, ◌&&◌, ◌||◌, List, [], ◌∷◌, Option, Some, None, pos, ◌≤ℤ◌, unsigned_abs, Result, Ok, Err, refl, sym, subst, arith, cond}
+use Rattle.std.specs.Prelude.{if◌then◌else◌, ℤ, unwrap_or, IsSome, is_some, option_and_then}
+use Rattle.std.specs.Option.{ok_or, ForSome}
+use Rattle.std.specs.List.{find, list_all, list_any}
+use Rattle.std.specs.Str.{bytes_eq}
+use Rattle.std.proofs.lemmas.Bool.{and_parts}
 use Rattle.std.proofs.lemmas.Int.{ints}
+use denote.Enum.Bare.{sameb, same_true, true_same}
+use Rattle.decimal_text.specs.Expected.{◌>>=◌}
 use Rattle.zone_time.specs.Moments.{IsMoment, moment_of}
 use Rattle.question.specs.declared.command.Command.{Command}
 use Rattle.question.specs.declared.command.Command.TheVariants.{Predict, Certify, Check, Heights, Calendar, Clock, Stations, Sample, Trial, Serve, Report, Highest, Peak, PeakCheck, About}
-use Rattle.question.specs.declared.draft.Draft.{Draft}
+use Rattle.question.specs.declared.fault.AskFault.{AskFault}
+use Rattle.question.specs.declared.fault.AskFault.TheVariants.{NotAPair, UnknownKey, RepeatedKey, BadValue}
 use Rattle.question.specs.declared.key.Key.{Key}
 use Rattle.question.specs.declared.key.Key.TheVariants as key
 use Rattle.question.specs.declared.origin.Origin.{Origin}
 use Rattle.question.specs.declared.origin.Origin.TheVariants.{Line, Query}
+use Rattle.question.specs.declared.pairs.Item.{Item}
+use Rattle.question.specs.declared.pairs.Pairs.{Pairs}
+use Rattle.question.specs.declared.question.Question.{Question}
 use Rattle.question.specs.declared.question.ZoneWord.TheVariants.{Utc}
+use Rattle.question.specs.contracts.key.Key.{the_type}
 use Rattle.question.specs.Asked.{IsZoneWord, HasSpan, HasNeeded, NamesFiles, IsAsked}
 use Rattle.question.specs.Forms.{mark_of, step_of, zone_of, port_of}
-use Rattle.question.specs.Keys.{all_keys, is_needed}
-use Rattle.question.specs.Questions.{Said}
-use Rattle.question.specs.Workings.Drafts.{has_entry, read_as, Holds, asked_by}
-use Rattle.question.proofs.FormLemmas.{moment_of-range, step_of-range, mark_of-range, zone_of-range, port_of-range}
+use Rattle.question.specs.Keys.{all_keys, name_of, row_of, has_key, is_needed, key_named}
+use Rattle.question.specs.Questions.{Said, nothing_said, also, refuse_if, has_form, command_of, with_item, with_items, missing_key, complete, asked, question_of}
+use Rattle.question.proofs.FormLemmas.{moment_of-range, mark_of-range, step_of-range, zone_of-range, port_of-range}
 
--- each of some keys fails a test
-AllFail : (Key → Bool) → List Key → Type 0
-AllFail p [] = Unit {0}
-AllFail p (k ∷ ks) = (p k ≡ false) × AllFail p ks
+-- ---- keys of the table
 
-none_found : (p : Key → Bool) (ks : List Key) → find p ks ≡ None → AllFail p ks
-unfolding AllFail
-none_found p [] h = tt
-none_found p (k ∷ ks) h =
-    elim (p k) as (λ b. cond b (Some k) (find p ks) ≡ None → (b ≡ false) × AllFail p ks) [
-      | true ↦ λ is. absurd (cc)
-      | false ↦ λ is. (refl, none_found p ks is)
-    ] h
+is_in : Key → List Key → Bool
+is_in k ks = list_any (sameb the_type k) ks
+
+-- what holds of the first key and of the later ones holds of each
+each_key : (P : Key → Type 0) (k j : Key) (ks : List Key) → P j → (is_in k ks ≡ true → P k) → is_in k (j ∷ ks) ≡ true → P k
+unfolding is_in
+each_key P k j ks first later member =
+    elim (sameb the_type k j) as (λ b. sameb the_type k j ≡ b → (b || is_in k ks) ≡ true → P k) [
+      | true ↦ λ same h. subst P (sym (same_true the_type tt k j same)) first
+      | false ↦ λ other h. later h
+    ] refl member
+
+none_found : (test : Key → Bool) (ks : List Key) (k : Key) → find test ks ≡ None → is_in k ks ≡ true → test k ≡ false
+unfolding is_in
+none_found test [] k none member = absurd cc
+none_found test (j ∷ ks) k none member =
+    elim (test j) as (λ b. test j ≡ b → cond b (Some j) (find test ks) ≡ None → test k ≡ false) [
+      | true ↦ λ passes found. absurd cc
+      | false ↦ λ fails found. each_key (λ i. test i ≡ false) k j ks fails (none_found test ks k found) member
+    ] refl none
+
+all_pass : (test : Key → Bool) (ks : List Key) (k : Key) → list_all test ks ≡ true → is_in k ks ≡ true → test k ≡ true
+unfolding is_in
+all_pass test [] k all member = absurd cc
+all_pass test (j ∷ ks) k all member =
+    let parts = and_parts _ _ all in each_key (λ i. test i ≡ true) k j ks parts.0 (all_pass test ks k parts.1) member
+
+or_true : (b : Bool) → (b || true) ≡ true
+or_true true = refl
+or_true false = refl
+
+found_in : (test : Key → Bool) (ks : List Key) (k : Key) → find test ks ≡ Some k → is_in k ks ≡ true
+unfolding is_in
+found_in test [] k is = absurd cc
+found_in test (j ∷ ks) k is =
+    elim (test j) as (λ b. cond b (Some j) (find test ks) ≡ Some k → (sameb the_type k j || is_in k ks) ≡ true) [
+      | true ↦ λ here. let same : j ≡ k = cc in rw (true_same the_type k j (sym same))
+      | false ↦ λ later. rw (found_in test ks k later) (or_true (sameb the_type k j))
+    ] is
+
+-- no two keys of the table have one name
+differ : Key → Key → Bool
+differ j k = not (bytes_eq (name_of j) (name_of k)) || sameb the_type j k
+
+all_differ : list_all (λ j. list_all (differ j) all_keys) all_keys ≡ true
+unfolding differ
+all_differ = refl
+
+same_named : (j k : Key) → is_in j all_keys ≡ true → is_in k all_keys ≡ true → bytes_eq (name_of j) (name_of k) ≡ true → j ≡ k
+unfolding differ
+same_named j k first second same =
+    let tested = all_pass (differ j) all_keys k (all_pass (λ i. list_all (differ i) all_keys) all_keys j all_differ first) second in
+    same_true the_type tt j k (rw same at tested)
+
+-- ---- the steps of a question
+
+then_ok : {A B E : Type 0} (step : Result A E) (next : A → Result B E) (b : B) → (step >>= next) ≡ Ok b
+    → (a : A) × (step ≡ Ok a) × (next a ≡ Ok b)
+then_ok (Ok a) next b ok = (a, refl, ok)
+then_ok (Err fault) next b ok = absurd cc
+
+ok_some : {A E : Type 0} (o : Option A) (fault : E) (x : A) → ok_or o fault ≡ Ok x → o ≡ Some x
+ok_some (Some y) fault x ok = cc
+ok_some None fault x ok = absurd cc
+
+not_refused : (b : Bool) (fault : AskFault) (done : Unit {0}) → refuse_if (not b) fault ≡ Ok done → b ≡ true
+not_refused true fault done ok = refl
+not_refused false fault done ok = absurd cc
+
+none_missing : (missing : Option Key) (done : Unit {0}) → complete missing ≡ Ok done → missing ≡ None
+none_missing None done ok = refl
+none_missing (Some k) done ok = absurd cc
+
+-- each text that was said is of the form of its key
+abbrev AllFit : Origin → Said → Type 0
+AllFit origin said = (k : Key) (text : List ℕ) → is_in k all_keys ≡ true → said k ≡ Some text → has_form origin k text ≡ true
+
+also_fits : (origin : Origin) (said : Said) (new : Key) (text : List ℕ) → is_in new all_keys ≡ true
+    → has_form origin new text ≡ true → AllFit origin said → AllFit origin (also new text said)
+also_fits origin said new text member good fit k other known is =
+    elim (bytes_eq (name_of k) (name_of new)) as (λ b. bytes_eq (name_of k) (name_of new) ≡ b → (if b then Some text else said k) ≡ Some other → has_form origin k other ≡ true) [
+      | true ↦ λ same here. let one : new ≡ k = sym (same_named k new known member same) in let words : text ≡ other = cc in
+          subst (λ i. has_form origin i other ≡ true) one (rw (← words) good)
+      | false ↦ λ differs before. fit k other known before
+    ] refl is
+
+item_fits : (origin : Origin) (command : Command) (place : ℕ) (item : Item) (said more : Said) → AllFit origin said
+    → with_item origin command place item said ≡ Ok more → AllFit origin more
+unfolding with_item
+item_fits origin command place item said more fit ok =
+    let text = then_ok (ok_or item.value (NotAPair place)) _ more ok in
+    let new = then_ok (ok_or (key_named origin command item.key) (UnknownKey place)) _ more text.2 in
+    let once = then_ok (refuse_if (is_some (said new.0)) (RepeatedKey place)) _ more new.2 in
+    let good = then_ok (refuse_if (not (has_form origin new.0 text.0)) (BadValue place)) _ more once.2 in
+    let same : also new.0 text.0 said ≡ more = (let last = good.2 in cc) in
+    let found = ok_some (key_named origin command item.key) (UnknownKey place) new.0 new.1 in
+    let member = found_in (λ k. bytes_eq (name_of k) item.key && has_key origin command k) all_keys new.0 found in
+    subst (AllFit origin) same (also_fits origin said new.0 text.0 member (not_refused (has_form origin new.0 text.0) (BadValue place) good.0 good.1) fit)
+
+items_fit : (origin : Origin) (command : Command) (items : List Item) (place : ℕ) (said more : Said) → AllFit origin said
+    → with_items origin command place items said ≡ Ok more → AllFit origin more
+unfolding with_items
+items_fit origin command [] place said more fit ok = let same : said ≡ more = cc in subst (AllFit origin) same fit
+items_fit origin command (item ∷ items) place said more fit ok =
+    let one = then_ok (with_item origin command place item said) _ more ok in
+    items_fit origin command items (place + 1) one.0 more (item_fits origin command place item said one.0 fit one.1) one.2
+
+none_fit : (origin : Origin) → AllFit origin nothing_said
+none_fit origin k text known is = absurd cc
+
+-- ---- what is needed is there
+
+record WasRead (origin : Origin) (command : Command) (said : Said) : Type 0 where
+  pub fit : AllFit origin said
+  pub whole : missing_key origin command said ≡ None
 
 present : (needed has : Bool) → needed ≡ true → (needed && not has) ≡ false → has ≡ true
 present true true e h = refl
-present true false e h = absurd (cc)
-present false has e h = absurd (cc)
+present true false e h = absurd cc
+present false has e h = absurd cc
 
--- no key that a command needs is missing
-abbrev pub is_missing : Origin → Command → Draft → Key → Bool
-is_missing origin command d k = is_needed origin command k && not (has_entry d k)
+value_there : {V : Type 0} (form : List ℕ → Option V) (said : Option (List ℕ)) → is_some said ≡ true
+    → ((text : List ℕ) → said ≡ Some text → is_some (form text) ≡ true) → IsSome (option_and_then form said)
+value_there form None there fit = absurd cc
+value_there form (Some text) there fit = fit text refl
 
-abbrev pub LacksNone : Origin → Command → Draft → Type 0
-LacksNone origin command d = find (is_missing origin command d) all_keys ≡ None
+there : {origin : Origin} {command : Command} {said : Said} → WasRead origin command said → (k : Key) → is_in k all_keys ≡ true
+    → is_needed origin command k ≡ true → IsSome (option_and_then ((row_of k).form origin) (said k))
+there {origin} {command} {said} read k known needed =
+    let absent = none_found (λ k. is_needed origin command k && not (is_some (said k))) all_keys k read.whole known in
+    value_there ((row_of k).form origin) (said k) (present _ _ needed absent) (λ text is. read.fit k text known is)
 
-station_there : (origin : Origin) (command : Command) (d : Draft) → LacksNone origin command d → is_needed origin command key.Station ≡ true → IsSome d.station
-unfolding AllFail
-station_there origin command d h e = present _ _ e (none_found (is_missing origin command d) all_keys h).1.1.1.0
+-- both origins need it
+in_both : (origin : Origin) {command : Command} {said : Said} → WasRead origin command said → (k : Key) → is_in k all_keys ≡ true
+    → is_needed Line command k ≡ true → is_needed Query command k ≡ true
+    → IsSome (option_and_then ((row_of k).form origin) (said k))
+in_both Line read k known line query = there read k known line
+in_both Query read k known line query = there read k known query
 
-begin_there : (origin : Origin) (command : Command) (d : Draft) → LacksNone origin command d → is_needed origin command key.Begin ≡ true → IsSome d.begin
-unfolding AllFail
-begin_there origin command d h e = present _ _ e (none_found (is_missing origin command d) all_keys h).1.1.1.1.0
-
-end_there : (origin : Origin) (command : Command) (d : Draft) → LacksNone origin command d → is_needed origin command key.End ≡ true → IsSome d.end
-unfolding AllFail
-end_there origin command d h e = present _ _ e (none_found (is_missing origin command d) all_keys h).1.1.1.1.1.0
-
-seed_there : (origin : Origin) (command : Command) (d : Draft) → LacksNone origin command d → is_needed origin command key.Seed ≡ true → IsSome d.seed
-unfolding AllFail
-seed_there origin command d h e = present _ _ e (none_found (is_missing origin command d) all_keys h).1.1.1.1.1.1.1.1.1.1.0
-
-sheets_there : (origin : Origin) (command : Command) (d : Draft) → LacksNone origin command d → is_needed origin command key.Sheets ≡ true → IsSome d.sheets
-unfolding AllFail
-sheets_there origin command d h e = present _ _ e (none_found (is_missing origin command d) all_keys h).1.1.1.1.1.1.1.1.1.1.1.1.0
-
-file_there : (origin : Origin) (command : Command) (d : Draft) → LacksNone origin command d → is_needed origin command key.File ≡ true → IsSome d.file
-unfolding AllFail
-file_there origin command d h e = present _ _ e (none_found (is_missing origin command d) all_keys h).0
-
-certificate_there : (origin : Origin) (command : Command) (d : Draft) → LacksNone origin command d → is_needed origin command key.Certificate ≡ true → IsSome d.certificate
-unfolding AllFail
-certificate_there origin command d h e = present _ _ e (none_found (is_missing origin command d) all_keys h).1.1.0
-
--- both origins have the keys of a station and a span
-span_needed : (origin : Origin) (command : Command) (d : Draft) → LacksNone origin command d → ((o : Origin) → is_needed o command key.Station ≡ true) → ((o : Origin) → is_needed o command key.Begin ≡ true) → HasSpan (asked_by command d)
-span_needed origin command d h station span = record {
-  station = station_there origin command d h (station origin);
-  begin = begin_there origin command d h (span origin);
-  end = end_there origin command d h (span origin);
+span_there : (origin : Origin) {command : Command} {said : Said} → WasRead origin command said
+    → is_needed Line command key.Station ≡ true → is_needed Query command key.Station ≡ true
+    → is_needed Line command key.Begin ≡ true → is_needed Query command key.Begin ≡ true → HasSpan (asked origin command said)
+unfolding is_in
+span_there origin read station_line station_query line query = record {
+  station = in_both origin read key.Station refl station_line station_query;
+  begin = in_both origin read key.Begin refl line query;
+  end = in_both origin read key.End refl line query;
 }
 
-both : (P : Origin → Type 0) → P Line → P Query → (o : Origin) → P o
-both P line query Line = line
-both P line query Query = query
+needed_there : (origin : Origin) (command : Command) {said : Said} → WasRead origin command said
+    → HasNeeded command (asked origin command said)
+unfolding is_in
+needed_there origin Predict read = span_there origin read refl refl refl refl
+needed_there origin Certify read = span_there origin read refl refl refl refl
+needed_there origin Check read = tt
+needed_there origin Heights read = span_there origin read refl refl refl refl
+needed_there origin Calendar read = span_there origin read refl refl refl refl
+needed_there origin Clock read = in_both origin read key.Station refl refl refl
+needed_there origin Stations read = tt
+needed_there origin Sample read = in_both origin read key.Seed refl refl refl
+needed_there origin Trial read = in_both origin read key.Seed refl refl refl
+needed_there origin Serve read = tt
+needed_there origin Report read = (span_there origin read refl refl refl refl, in_both origin read key.Sheets refl refl refl)
+needed_there origin Highest read = span_there origin read refl refl refl refl
+needed_there origin Peak read = span_there origin read refl refl refl refl
+needed_there origin PeakCheck read = tt
+needed_there origin About read = in_both origin read key.Station refl refl refl
 
-pub needed_there : (origin : Origin) (command : Command) (d : Draft) → LacksNone origin command d → HasNeeded command (asked_by command d)
-needed_there origin Predict d h = span_needed origin Predict d h (both (λ o. is_needed o Predict key.Station ≡ true) refl refl) (both (λ o. is_needed o Predict key.Begin ≡ true) refl refl)
-needed_there origin Certify d h = span_needed origin Certify d h (both (λ o. is_needed o Certify key.Station ≡ true) refl refl) (both (λ o. is_needed o Certify key.Begin ≡ true) refl refl)
-needed_there origin Check d h = tt
-needed_there origin Heights d h = span_needed origin Heights d h (both (λ o. is_needed o Heights key.Station ≡ true) refl refl) (both (λ o. is_needed o Heights key.Begin ≡ true) refl refl)
-needed_there origin Calendar d h = span_needed origin Calendar d h (both (λ o. is_needed o Calendar key.Station ≡ true) refl refl) (both (λ o. is_needed o Calendar key.Begin ≡ true) refl refl)
-needed_there origin Clock d h = station_there origin Clock d h (both (λ o. is_needed o Clock key.Station ≡ true) refl refl origin)
-needed_there origin Stations d h = tt
-needed_there origin Sample d h = seed_there origin Sample d h (both (λ o. is_needed o Sample key.Seed ≡ true) refl refl origin)
-needed_there origin Trial d h = seed_there origin Trial d h (both (λ o. is_needed o Trial key.Seed ≡ true) refl refl origin)
-needed_there origin Serve d h = tt
-needed_there origin Report d h = (span_needed origin Report d h (both (λ o. is_needed o Report key.Station ≡ true) refl refl) (both (λ o. is_needed o Report key.Begin ≡ true) refl refl), sheets_there origin Report d h (both (λ o. is_needed o Report key.Sheets ≡ true) refl refl origin))
-needed_there origin Highest d h = span_needed origin Highest d h (both (λ o. is_needed o Highest key.Station ≡ true) refl refl) (both (λ o. is_needed o Highest key.Begin ≡ true) refl refl)
-needed_there origin Peak d h = span_needed origin Peak d h (both (λ o. is_needed o Peak key.Station ≡ true) refl refl) (both (λ o. is_needed o Peak key.Begin ≡ true) refl refl)
-needed_there origin PeakCheck d h = tt
-needed_there origin About d h = station_there origin About d h (both (λ o. is_needed o About key.Station ≡ true) refl refl origin)
+files_there : {said : Said} (origin : Origin) (command : Command) → WasRead origin command said
+    → NamesFiles origin (asked origin command said)
+unfolding is_in
+files_there Query command read = tt
+files_there Line Predict read = there read key.File refl refl
+files_there Line Certify read = there read key.File refl refl
+files_there Line Check read = (there read key.File refl refl, there read key.Certificate refl refl)
+files_there Line Heights read = there read key.File refl refl
+files_there Line Calendar read = there read key.File refl refl
+files_there Line Clock read = there read key.File refl refl
+files_there Line Stations read = there read key.File refl refl
+files_there Line Sample read = tt
+files_there Line Trial read = tt
+files_there Line Serve read = there read key.File refl refl
+files_there Line Report read = there read key.File refl refl
+files_there Line Highest read = there read key.File refl refl
+files_there Line Peak read = there read key.File refl refl
+files_there Line PeakCheck read = (there read key.File refl refl, there read key.Certificate refl refl)
+files_there Line About read = there read key.File refl refl
 
-pub files_named : (origin : Origin) (command : Command) (d : Draft) → LacksNone origin command d → NamesFiles origin (asked_by command d)
-files_named Query command d h = tt
-files_named Line Predict d h = file_there Line Predict d h refl
-files_named Line Certify d h = file_there Line Certify d h refl
-files_named Line Check d h = (file_there Line Check d h refl, certificate_there Line Check d h refl)
-files_named Line Heights d h = file_there Line Heights d h refl
-files_named Line Calendar d h = file_there Line Calendar d h refl
-files_named Line Clock d h = file_there Line Clock d h refl
-files_named Line Stations d h = file_there Line Stations d h refl
-files_named Line Sample d h = tt
-files_named Line Trial d h = tt
-files_named Line Serve d h = file_there Line Serve d h refl
-files_named Line Report d h = file_there Line Report d h refl
-files_named Line Highest d h = file_there Line Highest d h refl
-files_named Line Peak d h = file_there Line Peak d h refl
-files_named Line PeakCheck d h = (file_there Line PeakCheck d h refl, certificate_there Line PeakCheck d h refl)
-files_named Line About d h = file_there Line About d h refl
+-- ---- values lie in their ranges
 
--- an entry has what its form gives
-entry_range : {V : Type 0} (form : List ℕ → Option V) (said : Option (List ℕ)) (e : Option V) (P : V → Type 0) → read_as form said ≡ Some e → ((text : List ℕ) (v : V) → form text ≡ Some v → P v) → ForSome e P
-entry_range form None e P h range x is = absurd (cc)
-entry_range form (Some text) e P h range x is =
-    elim (form text) as (λ v. form text ≡ v → option_map Some v ≡ Some e → P x) [
-      | None ↦ λ t same. absurd (cc)
-      | Some v ↦ λ t same. let it : v ≡ x = cc in rw (← it) (range text v t)
-    ] refl h
+in_range : {V : Type 0} (P : V → Type 0) (form : List ℕ → Option V) (said : Option (List ℕ))
+    → ((text : List ℕ) (v : V) → form text ≡ Some v → P v) → ForSome (option_and_then form said) P
+in_range P form None range v is = absurd cc
+in_range P form (Some text) range v is = range text v is
 
-otherwise_range : {V : Type 0} (e : Option V) (v : V) (P : V → Type 0) → ForSome e P → P v → P (unwrap_or e v)
-otherwise_range None v P h own = own
-otherwise_range (Some x) v P h own = h x refl
+or_default : {V : Type 0} (P : V → Type 0) (value : Option V) (default : V) → ForSome value P → P default → P (unwrap_or value default)
+or_default P None default range own = own
+or_default P (Some v) default range own = range v refl
 
-pub asked_in_range : (origin : Origin) (said : Said) (d : Draft) (command : Command) → Holds origin said d → LacksNone origin command d → IsAsked (asked_by command d)
-asked_in_range origin said d command h lacks =
-    let step = otherwise_range d.step (pos 60) (λ m. (pos 1 ≤ℤ m) × (m ≤ℤ pos 44640)) (entry_range step_of (said key.Step) d.step _ (h.entries key.Step) step_of-range) (omega (arith, ints), omega (arith, ints)) in
-    let port = otherwise_range d.port 8080 (λ n. (1 ≤ n) × (n ≤ 65535)) (entry_range port_of (said key.Port) d.port _ (h.entries key.Port) port_of-range) (omega arith, omega arith) in
+abbrev IsStep : ℤ → Type 0
+IsStep minutes = (pos 1 ≤ℤ minutes) × (minutes ≤ℤ pos 44640)
+
+abbrev IsPort : ℕ → Type 0
+IsPort port = (1 ≤ port) × (port ≤ 65535)
+
+abbrev IsMark : ℤ → Type 0
+IsMark millionths = unsigned_abs millionths ≤ 10000000000
+
+was_asked : (origin : Origin) (command : Command) (said : Said) → WasRead origin command said → IsAsked (asked origin command said)
+was_asked origin command said read =
+    let step = or_default IsStep (option_and_then step_of (said key.Step)) (pos 60) (in_range IsStep step_of (said key.Step) step_of-range) (omega (arith, ints), omega (arith, ints)) in
+    let port = or_default IsPort (option_and_then port_of (said key.Port)) 8080 (in_range IsPort port_of (said key.Port) port_of-range) (omega arith, omega arith) in
     record {
-      whole = needed_there origin command d lacks;
-      begin = entry_range moment_of (said key.Begin) d.begin IsMoment (h.entries key.Begin) moment_of-range;
-      end = entry_range moment_of (said key.End) d.end IsMoment (h.entries key.End) moment_of-range;
-      mark = entry_range mark_of (said key.Mark) d.mark (λ m. unsigned_abs m ≤ 10000000000) (h.entries key.Mark) mark_of-range;
+      whole = needed_there origin command read;
+      begin = in_range IsMoment moment_of (said key.Begin) moment_of-range;
+      end = in_range IsMoment moment_of (said key.End) moment_of-range;
+      mark = in_range IsMark mark_of (said key.Mark) mark_of-range;
       step_first = step.0;
       step_last = step.1;
-      zone = otherwise_range d.zone Utc IsZoneWord (entry_range (zone_of origin) (said key.Zone) d.zone IsZoneWord (h.entries key.Zone) (zone_of-range origin)) tt;
+      zone = or_default IsZoneWord (option_and_then (zone_of origin) (said key.Zone)) Utc (in_range IsZoneWord (zone_of origin) (said key.Zone) (zone_of-range origin)) tt;
       port_first = port.0;
       port_last = port.1;
     }
+
+-- ---- the question of pairs
+
+record WasAsked (pairs : Pairs) (question : Question) : Type 0 where
+  pub command : Command
+  pub said : Said
+  pub read : WasRead pairs.origin command said
+  pub is : asked pairs.origin command said ≡ question
+
+was_read : (pairs : Pairs) (question : Question) → question_of pairs ≡ Ok question → WasAsked pairs question
+unfolding question_of
+was_read pairs question ok =
+    let command = then_ok (command_of pairs.origin pairs.command) _ question ok in
+    let said = then_ok (with_items pairs.origin command.0 1 pairs.items nothing_said) _ question command.2 in
+    let whole = then_ok (complete (missing_key pairs.origin command.0 said.0)) _ question said.2 in
+    record {
+      command = command.0;
+      said = said.0;
+      read = record {
+        fit = items_fit pairs.origin command.0 pairs.items 1 nothing_said said.0 (none_fit pairs.origin) said.1;
+        whole = none_missing _ whole.0 whole.1;
+      };
+      is = (let last = whole.2 in cc);
+    }
+
+pub question_of-asked : (pairs : Pairs) (question : Question) → question_of pairs ≡ Ok question → IsAsked question
+question_of-asked pairs question ok =
+    let well = was_read pairs question ok in subst IsAsked well.is (was_asked pairs.origin well.command well.said well.read)
+
+pub question_of-named : (pairs : Pairs) (question : Question) → question_of pairs ≡ Ok question → NamesFiles pairs.origin question
+question_of-named pairs question ok =
+    let well = was_read pairs question ok in subst (NamesFiles pairs.origin) well.is (files_there pairs.origin well.command well.read)

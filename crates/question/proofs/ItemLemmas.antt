@@ -1,6 +1,6 @@
 -- What an item and the items after it say.
-use Rattle.std.proofs.Common.{◌≡◌, ℕ, ◌+◌, ◌<◌, ◌≤◌, Bool, true, false, List, length, get_or, drop, Some, None, Result, Ok, Err, sym, ◌∙◌, add-one, drop-cons}
-use Rattle.std.proofs.lemmas.List.{drop_all}
+use Rattle.std.proofs.Common.{◌≡◌, ℕ, ◌+◌, ◌<◌, ◌≤◌, Bool, true, false, List, length, ◌++◌, [], ◌∷◌, get_or, drop, take, Some, None, Result, Ok, Err, sym, ap, ◌∙◌, arith, add-one, drop-cons}
+use Rattle.std.proofs.lemmas.List.{drop_all, length-take-le, take_all, take_more}
 use Rattle.std.specs.Prelude.{is_some}
 use Rattle.decimal_text.specs.Expected.{◌>>=◌, Excused}
 use Rattle.question.specs.declared.command.Command.{Command}
@@ -11,44 +11,58 @@ use Rattle.question.specs.declared.origin.Origin.{Origin}
 use Rattle.question.specs.declared.pairs.Item.{Item}
 use Rattle.question.specs.Keys.{key_named}
 use Rattle.question.specs.Questions.{Said, also, has_form, with_item, with_items}
+use Rattle.question.specs.Workings.Said.{said_by}
 
-pub with_item-bare : (origin : Origin) (command : Command) (place : ℕ) (item : Item) (said : Said) → item.value ≡ None → with_item origin command place item said ≡ Err (NotAPair place)
+with_item-bare : (origin : Origin) (command : Command) (place : ℕ) (item : Item) (said : Said) → item.value ≡ None
+    → with_item origin command place item said ≡ Err (NotAPair place)
 unfolding with_item
 with_item-bare origin command place item said h = rw h
 
-pub with_item-unknown : (origin : Origin) (command : Command) (place : ℕ) (item : Item) (said : Said) (text : List ℕ) → item.value ≡ Some text → key_named origin command item.key ≡ None → with_item origin command place item said ≡ Err (UnknownKey place)
+pub with_item-unknown : (origin : Origin) (command : Command) (place : ℕ) (item : Item) (said : Said) (text : List ℕ)
+    → item.value ≡ Some text → key_named origin command item.key ≡ None
+    → with_item origin command place item said ≡ Err (UnknownKey place)
 unfolding with_item
 with_item-unknown origin command place item said text h k = rw (h, k)
 
-pub with_item-repeated : (origin : Origin) (command : Command) (place : ℕ) (item : Item) (said : Said) (text : List ℕ) (k : Key) → item.value ≡ Some text → Some k ≡ key_named origin command item.key → is_some (said k) ≡ true → with_item origin command place item said ≡ Err (RepeatedKey place)
+pub with_item-repeated : (origin : Origin) (command : Command) (place : ℕ) (item : Item) (said : Said) (text : List ℕ) (k : Key)
+    → item.value ≡ Some text → Some k ≡ key_named origin command item.key → is_some (said k) ≡ true
+    → with_item origin command place item said ≡ Err (RepeatedKey place)
 unfolding with_item
 with_item-repeated origin command place item said text k h named again = rw (h, ← named, again)
 
-pub with_item-bad : (origin : Origin) (command : Command) (place : ℕ) (item : Item) (said : Said) (text : List ℕ) (k : Key) → item.value ≡ Some text → Some k ≡ key_named origin command item.key → is_some (said k) ≡ false → has_form origin k text ≡ false → with_item origin command place item said ≡ Err (BadValue place)
+pub with_item-bad : (origin : Origin) (command : Command) (place : ℕ) (item : Item) (said : Said) (text : List ℕ) (k : Key)
+    → item.value ≡ Some text → Some k ≡ key_named origin command item.key → is_some (said k) ≡ false
+    → has_form origin k text ≡ false → with_item origin command place item said ≡ Err (BadValue place)
 unfolding with_item
 with_item-bad origin command place item said text k h named new bad = rw (h, ← named, new, bad)
 
-pub with_item-good : (origin : Origin) (command : Command) (place : ℕ) (item : Item) (said : Said) (text : List ℕ) (k : Key) → item.value ≡ Some text → Some k ≡ key_named origin command item.key → is_some (said k) ≡ false → has_form origin k text ≡ true → with_item origin command place item said ≡ Ok (also k text said)
+pub with_item-good : (origin : Origin) (command : Command) (place : ℕ) (item : Item) (said : Said) (text : List ℕ) (k : Key)
+    → item.value ≡ Some text → Some k ≡ key_named origin command item.key → is_some (said k) ≡ false
+    → has_form origin k text ≡ true → with_item origin command place item said ≡ Ok (also k text said)
 unfolding with_item
 with_item-good origin command place item said text k h named new good = rw (h, ← named, new, good)
 
 -- no item is left
-pub with_items-none : (origin : Origin) (command : Command) (place : ℕ) (items : List Item) (i : ℕ) (said : Said) → length items ≤ i → with_items origin command place (drop i items) said ≡ Ok said
+with_items-none : (origin : Origin) (command : Command) (place : ℕ) (items : List Item) (i : ℕ) (said : Said) → length items ≤ i
+    → with_items origin command place (drop i items) said ≡ Ok said
 unfolding with_items
 with_items-none origin command place items i said h = rw (drop_all i items h)
 
-with_items-at : (origin : Origin) (command : Command) (items : List Item) (i : ℕ) (item : Item) (said : Said) → i < length items → item ≡ get_or items i item
+with_items-at : (origin : Origin) (command : Command) (items : List Item) (i : ℕ) (item : Item) (said : Said) → i < length items
+    → item ≡ get_or items i item
     → with_items origin command (i + 1) (drop i items) said ≡ (with_item origin command (i + 1) item said >>= with_items origin command (i + 1 + 1) (drop (i + 1) items))
 unfolding with_items
 with_items-at origin command items i item said lt is = rw (add-one i, drop-cons items i item lt, sym is)
 
 -- an item that is in order leaves the rest to tell
-pub with_items-more : (origin : Origin) (command : Command) (items : List Item) (i : ℕ) (item : Item) (said more : Said) → i < length items → item ≡ get_or items i item
+with_items-more : (origin : Origin) (command : Command) (items : List Item) (i : ℕ) (item : Item) (said more : Said)
+    → i < length items → item ≡ get_or items i item
     → with_item origin command (i + 1) item said ≡ Ok more → with_items origin command (i + 1) (drop i items) said ≡ with_items origin command (i + 1 + 1) (drop (i + 1) items) more
 with_items-more origin command items i item said more lt is h = rw h at (with_items-at origin command items i item said lt is)
 
 -- a fault of an item is one of the items from it on
-Excused-then : {A B E : Type 0} (wants : Bool) (x : Result A E) (f : A → Result B E) (fault : E) → Excused wants x fault → Excused wants (x >>= f) fault
+Excused-then : {A B E : Type 0} (wants : Bool) (x : Result A E) (f : A → Result B E) (fault : E) → Excused wants x fault
+    → Excused wants (x >>= f) fault
 Excused-then true x f fault h = tt
 Excused-then false x f fault h = rw h
 
@@ -56,7 +70,30 @@ Excused-same : {A E : Type 0} (wants : Bool) (x y : Result A E) (fault : E) → 
 Excused-same true x y fault e h = tt
 Excused-same false x y fault e h = e ∙ h
 
-pub with_items-fault : (wants : Bool) (origin : Origin) (command : Command) (items : List Item) (i : ℕ) (item : Item) (said : Said) (whole : Result Said AskFault) (fault : AskFault) → i < length items → item ≡ get_or items i item
+with_items-fault : (wants : Bool) (origin : Origin) (command : Command) (items : List Item) (i : ℕ) (item : Item) (said : Said) (whole : Result Said AskFault) (fault : AskFault) → i < length items → item ≡ get_or items i item
     → whole ≡ with_items origin command (i + 1) (drop i items) said → Excused wants (with_item origin command (i + 1) item said) fault → Excused wants whole fault
 with_items-fault wants origin command items i item said whole fault lt is e h =
     Excused-same wants _ _ fault (e ∙ with_items-at origin command items i item said lt is) (Excused-then wants _ _ fault h)
+
+-- an item that is in order after those before it leaves the rest to tell
+pub with_items-step : (origin : Origin) (command : Command) (items : List Item) (i : ℕ) (item : Item) (whole : Result Said AskFault) → i < length items → item ≡ get_or items i item
+    → whole ≡ with_items origin command (i + 1) (drop i items) (said_by (take i items))
+    → with_item origin command (length (take i items) + 1) item (said_by (take i items)) ≡ Ok (said_by (take i items ++ item ∷ []))
+    → whole ≡ with_items origin command (i + 1 + 1) (drop (i + 1) items) (said_by (take (i + 1) items))
+with_items-step origin command items i item whole lt is e h =
+    let here = rw (length-take-le i items (omega (arith, lt))) at h in
+    let more = with_items-more origin command items i item (said_by (take i items)) (said_by (take i items ++ item ∷ [])) lt is here in
+    let longer : take (i + 1) items ≡ take i items ++ item ∷ [] = take_more items i item lt ∙ ap (λ x. take i items ++ x ∷ []) (sym is) in
+    e ∙ more ∙ ap (λ first. with_items origin command (i + 1 + 1) (drop (i + 1) items) (said_by first)) (sym longer)
+
+-- all items are gone through
+pub with_items-end : (origin : Origin) (command : Command) (items : List Item) (i : ℕ) (whole : Result Said AskFault) → length items ≤ i
+    → whole ≡ with_items origin command (i + 1) (drop i items) (said_by (take i items)) → whole ≡ Ok (said_by items)
+with_items-end origin command items i whole ge e =
+    e ∙ with_items-none origin command (i + 1) items i (said_by (take i items)) ge ∙ ap (λ all. Ok (said_by all)) (take_all i items ge)
+
+pub with_items-stop : (wants : Bool) (origin : Origin) (command : Command) (items : List Item) (i : ℕ) (item : Item) (whole : Result Said AskFault) (fault : AskFault) → i < length items → item ≡ get_or items i item
+    → whole ≡ with_items origin command (i + 1) (drop i items) (said_by (take i items))
+    → Excused wants (with_item origin command (length (take i items) + 1) item (said_by (take i items))) fault → Excused wants whole fault
+with_items-stop wants origin command items i item whole fault lt is e h =
+    with_items-fault wants origin command items i item (said_by (take i items)) whole fault lt is e (rw (length-take-le i items (omega (arith, lt))) at h)

@@ -1,6 +1,13 @@
-//! The keys of a question's pairs.
+//! The table of a question's keys.
 
-ghost use Rattle.std.specs.Prelude.{◌≡◌};
+ghost use Rattle.std.specs.Prelude.{◌≡◌, ℕ, List};
+ghost use Rattle.question.specs.Forms.{meets};
+ghost use Rattle.question.specs.Keys.{row_of, has_key, is_needed, key_named};
+ghost use Rattle.question.specs.Questions.{has_form};
+
+use crate::command::Command;
+use crate::origin::Origin;
+use crate::values::Form;
 
 /// The keys of a question's pairs, in the order in which a missing one is told.
 #[derive(Clone, Copy, Debug, PartialEq, Eq)]
@@ -19,6 +26,22 @@ pub enum Key {
     Port,
     Sheets,
 }
+
+pub static KEYS: [Key; 13] = [
+    Key::File,
+    Key::Offsets,
+    Key::Certificate,
+    Key::Station,
+    Key::Begin,
+    Key::End,
+    Key::Mark,
+    Key::Step,
+    Key::Zone,
+    Key::Layout,
+    Key::Seed,
+    Key::Port,
+    Key::Sheets,
+];
 
 impl Key {
     ghost use Rattle.question.specs.Keys.{name_of};
@@ -43,4 +66,170 @@ impl Key {
             Key::Sheets => "sheets",
         }
     }
+}
+
+static OF_FILE: [Command; 13] = [
+    Command::Predict,
+    Command::Certify,
+    Command::Check,
+    Command::Heights,
+    Command::Calendar,
+    Command::Clock,
+    Command::Stations,
+    Command::Serve,
+    Command::Report,
+    Command::Highest,
+    Command::Peak,
+    Command::PeakCheck,
+    Command::About,
+];
+
+static OF_STATION: [Command; 9] = [
+    Command::Predict,
+    Command::Certify,
+    Command::Heights,
+    Command::Calendar,
+    Command::Clock,
+    Command::Report,
+    Command::Highest,
+    Command::Peak,
+    Command::About,
+];
+
+static OF_SPAN: [Command; 7] = [
+    Command::Predict,
+    Command::Certify,
+    Command::Heights,
+    Command::Calendar,
+    Command::Report,
+    Command::Highest,
+    Command::Peak,
+];
+
+static OF_MARK: [Command; 4] = [
+    Command::Predict,
+    Command::Certify,
+    Command::Calendar,
+    Command::Report,
+];
+
+static OF_ZONE: [Command; 6] = [
+    Command::Predict,
+    Command::Check,
+    Command::Heights,
+    Command::Calendar,
+    Command::Clock,
+    Command::Highest,
+];
+
+static OF_CHECK: [Command; 2] = [Command::Check, Command::PeakCheck];
+
+static OF_STEP: [Command; 1] = [Command::Heights];
+
+static OF_LAYOUT: [Command; 2] = [Command::Predict, Command::Heights];
+
+static OF_SEED: [Command; 2] = [Command::Sample, Command::Trial];
+
+static OF_PORT: [Command; 1] = [Command::Serve];
+
+static OF_SHEETS: [Command; 1] = [Command::Report];
+
+static IN_LINE: [Origin; 1] = [Origin::Line];
+
+static ANYWHERE: [Origin; 2] = [Origin::Line, Origin::Query];
+
+/// What the table says of a key.
+#[derive(Clone, Copy)]
+struct Row {
+    /// The commands that have it.
+    commands: &'static [Command],
+    /// The origins that have it: a query names no files.
+    origins: &'static [Origin],
+    /// The form of its values.
+    form: Form,
+    is_needed: bool,
+}
+
+impl Row {
+    ghost use Rattle.question.specs.Commands.{is_among};
+    ghost use Rattle.question.specs.Origins.{is_one_of};
+
+    fn has_origin(self, origin: Origin) -> bool
+        ensures { result ≡ is_one_of self.origins.now origin }
+    {
+        self.origins.contains(&origin)
+    }
+
+    fn has_command(self, command: Command) -> bool
+        ensures { result ≡ is_among self.commands.now command }
+    {
+        self.commands.iter().any(|c| c.is(command))
+    }
+}
+
+/// A row: the commands and the origins that have the key, the form of its values, and whether it is
+/// needed.
+macro_rules! row {
+    ($commands:ident, $origins:ident, $form:ident, $is_needed:expr) => {
+        Row {
+            commands: &$commands,
+            origins: &$origins,
+            form: Form::$form,
+            is_needed: $is_needed,
+        }
+    };
+}
+
+fn row_of(key: Key) -> Row
+    ensures commands { result.commands.now ≡ (row_of key).commands }
+    ensures origins { result.origins.now ≡ (row_of key).origins }
+    ensures form { (origin : Origin) (text : List ℕ) → meets result.form origin text ≡ has_form origin key text }
+    ensures needed { result.is_needed ≡ (row_of key).need.is_needed }
+{
+    match key {
+        Key::File => row!(OF_FILE, IN_LINE, Text, true),
+        Key::Offsets => row!(OF_FILE, IN_LINE, Text, false),
+        Key::Certificate => row!(OF_CHECK, IN_LINE, Text, true),
+        Key::Station => row!(OF_STATION, ANYWHERE, Text, true),
+        Key::Begin => row!(OF_SPAN, ANYWHERE, Moment, true),
+        Key::End => row!(OF_SPAN, ANYWHERE, Moment, true),
+        Key::Mark => row!(OF_MARK, ANYWHERE, Mark, false),
+        Key::Step => row!(OF_STEP, ANYWHERE, Step, false),
+        Key::Zone => row!(OF_ZONE, ANYWHERE, Zone, false),
+        Key::Layout => row!(OF_LAYOUT, ANYWHERE, Layout, false),
+        Key::Seed => row!(OF_SEED, ANYWHERE, Seed, true),
+        Key::Port => row!(OF_PORT, ANYWHERE, Port, false),
+        Key::Sheets => row!(OF_SHEETS, ANYWHERE, Sheets, true),
+    }
+}
+
+/// The form of a key's values.
+pub fn form_of(key: Key) -> Form
+    ensures { (origin : Origin) (text : List ℕ) → meets result origin text ≡ has_form origin key text }
+{
+    row_of(key).form
+}
+
+/// Whether a command has a key in questions of this origin.
+fn has_key(origin: Origin, command: Command, key: Key) -> bool
+    ensures { result ≡ has_key origin command key }
+{
+    let row = row_of(key);
+    row.has_origin(origin) && row.has_command(command)
+}
+
+/// Whether a command needs a key in questions of this origin.
+pub fn is_needed(origin: Origin, command: Command, key: Key) -> bool
+    ensures { result ≡ is_needed origin command key }
+{
+    row_of(key).is_needed && has_key(origin, command, key)
+}
+
+/// The key that a name names for a command in questions of this origin.
+pub fn key_named(origin: Origin, command: Command, name: &str) -> Option<Key>
+    ensures { result ≡ key_named origin command name.now }
+{
+    KEYS.iter()
+        .copied()
+        .find(|key| key.text() == name && has_key(origin, command, *key))
 }

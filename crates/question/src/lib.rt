@@ -6,17 +6,17 @@
 //! [`SoundQuestion`] is one of which that is known.
 #![tactic(auto)]
 
+mod asked;
 mod command;
-mod draft;
 mod fault;
 mod key;
 mod origin;
 mod pairs;
 mod question;
 mod reading;
+mod said;
 mod sheets;
 mod sound_question;
-mod table;
 mod values;
 mod words;
 mod worked;

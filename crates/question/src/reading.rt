@@ -1,18 +1,19 @@
 //! Pairs to questions.
 
-ghost use Rattle.std.specs.Prelude.{◌≡◌, ◌+◌, IfOk};
+ghost use Rattle.std.specs.Prelude.{◌≡◌, ◌+◌, ◌++◌, [], ◌∷◌, length, IfOk};
 ghost use Rattle.decimal_text.specs.Expected.{Gives};
 ghost use Rattle.question.specs.Asked.{IsAsked, NamesFiles};
-ghost use Rattle.question.specs.Questions.{Said, wants_memory, command_of, with_item, with_items, question_of};
-ghost use Rattle.question.specs.Workings.Drafts.{Holds, GivesDraft};
+ghost use Rattle.question.specs.Questions.{wants_memory, nothing_said, command_of, with_item, with_items, question_of};
+ghost use Rattle.question.specs.Workings.Said.{said_by, GivesSaid};
 
+use crate::asked::asked;
 use crate::command::{Command, command_named};
-use crate::draft::Draft;
 use crate::fault::AskFault;
+use crate::key::{form_of, key_named};
 use crate::origin::Origin;
 use crate::pairs::{Item, Pairs};
 use crate::question::Question;
-use crate::table::key_named;
+use crate::said::{is_said, missing_key, text_of};
 use decimal_text::Text;
 use std::alloc::Global;
 
@@ -23,25 +24,26 @@ use std::alloc::Global;
 /// without a value, with a key that the command doesn't have in a question of this origin, with a
 /// key that an earlier one has, or with a value that hasn't the key's form; then the first key of
 /// the table that the command needs. [`AskFault::NoMemory`] may come at any time.
-#[tactic(auto, unfolding(crate::specs::Questions::question_of))]
 pub fn read_question(alloc: Global, pairs: &Pairs) -> Result<Question, AskFault>
     ensures exact { Gives wants_memory (question_of pairs.now) result }
     ensures asked { IfOk result IsAsked }
     ensures named { IfOk result (NamesFiles pairs.now.origin) }
 {
+    let question = read_pairs(alloc, pairs)?;
+    Ok(question)
+}
+
+#[tactic(auto, unfolding(crate::specs::Questions::question_of))]
+fn read_pairs(alloc: Global, pairs: &Pairs) -> Result<Question, AskFault>
+    ensures { Gives wants_memory (question_of pairs.now) result }
+{
+    let items = pairs.items.as_slice();
     let command = read_command(pairs.origin, &pairs.command)?;
-    let mut draft = Draft::new();
-    read_items(
-        alloc,
-        pairs.origin,
-        command,
-        pairs.items.as_slice(),
-        &mut draft,
-    )?;
-    match draft.missing(pairs.origin, command) {
-        Some(key) => Err(AskFault::MissingKey(key)),
-        None => Ok(draft.question(command)),
+    check_items(alloc, pairs.origin, command, items)?;
+    if let Some(key) = missing_key(pairs.origin, command, items) {
+        return Err(AskFault::MissingKey(key));
     }
+    Ok(asked(alloc, pairs.origin, command, items)?)
 }
 
 fn read_command(origin: Origin, word: &Option<Text>) -> Result<Command, AskFault>
@@ -53,47 +55,44 @@ fn read_command(origin: Origin, word: &Option<Text>) -> Result<Command, AskFault
     }
 }
 
-/// Puts what the items say into the draft.
-fn read_items(
+fn check_items(
     alloc: Global,
     origin: Origin,
     command: Command,
     items: &[Item],
-    draft: &mut Draft,
 ) -> Result<(), AskFault>
-    ensures { (said : Said) → Holds origin said draft.old →
-        GivesDraft origin (with_items origin command 1 items.now said) draft.new result }
+    ensures { GivesSaid (with_items origin command 1 items.now nothing_said) (said_by items.now) result }
 {
     for (at, item) in items.iter().enumerate() {
-        read_item(alloc, origin, command, at as u64 + 1, item, draft)?;
+        check_item(alloc, origin, command, &items[..at], item)?;
     }
     Ok(())
 }
 
-/// Puts what an item says into the draft.
+/// Tests an item after those before it.
 #[tactic(auto, unfolding(crate::specs::Questions::with_item))]
-fn read_item(
+fn check_item(
     alloc: Global,
     origin: Origin,
     command: Command,
-    place: u64,
+    earlier: &[Item],
     item: &Item,
-    draft: &mut Draft,
 ) -> Result<(), AskFault>
-    ensures { (said : Said) → Holds origin said draft.old →
-        GivesDraft origin (with_item origin command place item.now said) draft.new result }
+    ensures { GivesSaid (with_item origin command (length earlier.now + 1) item.now (said_by earlier.now))
+        (said_by (earlier.now ++ item.now ∷ [])) result }
 {
-    let Some(text) = &item.value else {
+    let place = earlier.len() as u64 + 1;
+    let Some(text) = text_of(item) else {
         return Err(AskFault::NotAPair(place));
     };
     let Some(key) = key_named(origin, command, item.key.as_str()) else {
         return Err(AskFault::UnknownKey(place));
     };
-    if draft.has(key) {
+    if is_said(earlier, key) {
         return Err(AskFault::RepeatedKey(place));
     }
-    draft.put(alloc, origin, key, text.as_str())?;
-    if draft.has(key) {
+    let is_met = form_of(key).is_met(alloc, origin, text)?;
+    if is_met {
         Ok(())
     } else {
         Err(AskFault::BadValue(place))

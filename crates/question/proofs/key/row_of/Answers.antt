@@ -1,5 +1,5 @@
 use Rattle.std.proofs.Common.{rules}
-use Rattle.question.proofs.table.row_of.Goals as goal
+use Rattle.question.proofs.key.row_of.Goals as goal
 
 pub returns-in-File : goal.returns-in-File
 returns-in-File c = rw c.in-File.is (search rules)

@@ -1,0 +1,48 @@
+//! What items say.
+
+ghost use Rattle.std.specs.Prelude.{◌≡◌, is_some};
+ghost use Rattle.std.specs.Option.{option_copied};
+ghost use Rattle.question.specs.Questions.{missing_key};
+ghost use Rattle.question.specs.Workings.Said.{said_by};
+
+use crate::command::Command;
+use crate::key::{KEYS, Key, is_needed};
+use crate::origin::Origin;
+use crate::pairs::Item;
+
+/// The text that items say for a key: that of the last item of the key.
+pub fn text_for<'a>(items: &'a [Item], key: Key) -> Option<&'a str>
+    ensures { option_copied result ≡ said_by items.now key }
+{
+    let mut text = None;
+    for item in items {
+        if key.text() == item.key.as_str() {
+            text = text_of(item);
+        }
+    }
+    text
+}
+
+/// The text of an item's value.
+pub fn text_of<'a>(item: &'a Item) -> Option<&'a str>
+    ensures { option_copied result ≡ item.now.value }
+{
+    match &item.value {
+        Some(text) => Some(text.as_str()),
+        None => None,
+    }
+}
+
+/// Whether an item has the key and a value.
+pub fn is_said(items: &[Item], key: Key) -> bool
+    ensures { result ≡ is_some (said_by items.now key) }
+{
+    text_for(items, key).is_some()
+}
+
+/// The first key of the table that the command needs and that no item has.
+pub fn missing_key(origin: Origin, command: Command, items: &[Item]) -> Option<Key>
+    ensures { result ≡ missing_key origin command (said_by items.now) }
+{
+    KEYS.iter().copied().find(|key| is_needed(origin, command, *key) && !is_said(items, *key))
+}
