@@ -2,7 +2,7 @@
 use Rattle.std.proofs.Common.{◌≡◌, ℕ, ◌*◌, ◌^◌, ◌≤◌, ◌<◌, ℤ, pos, ◌+ℤ◌, ◌-ℤ◌, ◌*ℤ◌, unsigned_abs, int_lt, Bool, true, false, not, inl, Option, Some, None, IfSome, refl, sym, ◌∙◌, arith}
 use mathlib.Core.Bool.{beq}
 use Rattle.std.proofs.lemmas.Int.{ints}
-use Rattle.curve_law.specs.Meaning.{Meaning, IsNearValue, IsSpan, IsLawful}
+use Rattle.curve_law.specs.Meaning.{Meaning, IsMinute, IsNearValue, IsSpan, IsLawful}
 use Rattle.curve_law.specs.declared.quiet.TheConstants.{MOST_MINUTES}
 use Rattle.curve_law.specs.Cover.{keeps_side, is_quiet}
 use Rattle.curve_law.specs.Workings.Near.{IsFar}
@@ -47,6 +47,17 @@ pub told-far : (c : Meaning) (a : ℤ) (n : ℕ) (rate near end_near most e : �
 told-far c a n rate near end_near most e error side end_side far two few is first second same is_most is_e close end_close told =
     let sum = told (c.track.value a +ℤ c.track.value (a +ℤ pos n)) (rw is_e (sum-near near end_near _ _ error close end_close)) in
     far-quiet c a n rate side far two few is first (second ∙ same-side side end_side same) (rw is_most at sum)
+
+-- the near value at the begin of a span, and that at its end, are close
+pub begin-close : (c : Meaning) (near : ℤ → ℤ) (error : ℕ) (a : ℤ) (n : ℕ) (v : ℤ) → ((m : ℤ) → IsMinute c m → IsNearValue c error m (near m)) → IsSpan c a n → v ≡ near a → IsNearValue c error a v
+begin-close c near error a n v close span is =
+    let last = span.last in
+    rw is (close a (record { first = span.first; last = omega (arith, ints, last) }))
+
+pub end-close : (c : Meaning) (near : ℤ → ℤ) (error : ℕ) (a : ℤ) (n : ℕ) (v : ℤ) → ((m : ℤ) → IsMinute c m → IsNearValue c error m (near m)) → IsSpan c a n → v ≡ near (a +ℤ pos n) → IsNearValue c error (a +ℤ pos n) v
+end-close c near error a n v close span is =
+    let first = span.first in
+    rw is (close (a +ℤ pos n) (record { first = omega (arith, ints, first); last = span.last }))
 
 -- near values of a lawful curve are not too large to add
 near-size : (near v : ℤ) (error : ℕ) → unsigned_abs v < 10 ^ 37 → error ≤ 10 ^ 36 → unsigned_abs (near -ℤ v) ≤ error → unsigned_abs near < 2 * 10 ^ 37

@@ -40,21 +40,20 @@ pub trait Curve {
         ensures same_near { near self.new ≡ near self.old }
         ensures same_error { error self.new ≡ error self.old };
 
-    /// A number near the value at a minute, which may be told sooner. This call counts too.
+    /// A number near the value at a minute, which may take less time. This call counts too.
     fn near_value(&mut self, m: i64) -> i128
         requires minute { IsMinute (meaning self.old) m }
         requires few { count self.old < 2 ^ 63 }
         ensures value { result ≡ near self.old m }
-        ensures near { IsNearValue (meaning self.old) (error self.old) m result }
         ensures counted { count self.new ≡ count self.old + 1 }
         ensures same { meaning self.new ≡ meaning self.old }
         ensures same_near { near self.new ≡ near self.old }
         ensures same_error { error self.new ≡ error self.old };
 
-    /// The value at a minute of which a near value was told. It isn't counted again.
-    fn exact_value(&self, m: i64, told: i128) -> i128
+    /// The value at a minute whose near value is `near_value`. It isn't counted again.
+    fn exact_value(&self, m: i64, near_value: i128) -> i128
         requires minute { IsMinute (meaning self.now) m }
-        requires near { IsNearValue (meaning self.now) (error self.now) m told }
+        requires near { near_value ≡ near self.now m }
         ensures { result ≡ (meaning self.now).track.value m };
 
     /// How far a near value may be from the value, at most 10^36.
@@ -89,4 +88,7 @@ pub trait Curve {
 
     /// No near value is too far from the value for sums of such.
     ghost narrow: { (curve : Self) → error curve ≤ 10 ^ 36 };
+
+    /// A near value is at most the error from the value.
+    ghost close: { (curve : Self) → (m : ℤ) → IsMinute (meaning curve) m → IsNearValue (meaning curve) (error curve) m (near curve m) };
 }

@@ -10,12 +10,13 @@ use crate::cell::Cell;
 use crate::curve::Curve;
 use crate::quiet::{MOST_MINUTES, cell_of_sides, is_quiet, most_change, unit_cell};
 
-/// Whether the `n` minutes from `a` on are a quiet cell, by near values at both ends.
+/// True if the `n` minutes from `a` on are a quiet cell. `near` and `end_near` are the near values at both
+/// ends.
 pub fn is_quiet_near<C: Curve>(curve: &C, a: i64, n: u32, near: i128, end_near: i128) -> bool
     requires span { IsSpan (C.meaning curve.now) a n }
     requires few { n ≤ MOST_MINUTES }
-    requires near { IsNearValue (C.meaning curve.now) (C.error curve.now) a near }
-    requires end_near { IsNearValue (C.meaning curve.now) (C.error curve.now) (a +ℤ pos n) end_near }
+    requires near { near ≡ C.near curve.now a }
+    requires end_near { end_near ≡ C.near curve.now (a +ℤ pos n) }
     ensures { result ≡ is_quiet (C.meaning curve.now) a n }
 {
     match quiet_as_told(curve, a, n, near, end_near) {
@@ -24,17 +25,17 @@ pub fn is_quiet_near<C: Curve>(curve: &C, a: i64, n: u32, near: i128, end_near: 
     }
 }
 
-/// The cell of the single minute `a`, by near values at it and at the next minute.
+/// The cell of the single minute `a`. `near` and `next_near` are the near values at it and at the next
+/// minute.
 pub fn unit_cell_near<C: Curve>(curve: &C, a: i64, near: i128, next_near: i128) -> Cell
     requires span { IsSpan (C.meaning curve.now) a 1 }
-    requires near { IsNearValue (C.meaning curve.now) (C.error curve.now) a near }
-    requires next_near { IsNearValue (C.meaning curve.now) (C.error curve.now) (a +ℤ pos 1) next_near }
+    requires near { near ≡ C.near curve.now a }
+    requires next_near { next_near ≡ C.near curve.now (a +ℤ pos 1) }
     ensures { result ≡ unit_cell (C.meaning curve.now).track a }
 {
-    let error = curve.error();
-    match (side_of(near, error), side_of(next_near, error)) {
-        (Some(is_above), Some(is_above_next)) => cell_of_sides(curve, a, is_above, is_above_next),
-        _ => unit_cell_exactly(curve, a, near, next_near),
+    match unit_cell_as_told(curve, a, near, next_near) {
+        Some(cell) => cell,
+        None => unit_cell_exactly(curve, a, near, next_near),
     }
 }
 
@@ -56,13 +57,29 @@ fn quiet_as_told<C: Curve>(curve: &C, a: i64, n: u32, near: i128, end_near: i128
     }
 }
 
+/// The cell of the single minute `a`, if near values at it and at the next minute determine it.
+fn unit_cell_as_told<C: Curve>(curve: &C, a: i64, near: i128, next_near: i128) -> Option<Cell>
+    requires span { IsSpan (C.meaning curve.now) a 1 }
+    requires near { IsNearValue (C.meaning curve.now) (C.error curve.now) a near }
+    requires next_near { IsNearValue (C.meaning curve.now) (C.error curve.now) (a +ℤ pos 1) next_near }
+    ensures { IfSome result (λ cell. cell ≡ unit_cell (C.meaning curve.now).track a) }
+{
+    let error = curve.error();
+    match (side_of(near, error), side_of(next_near, error)) {
+        (Some(is_above), Some(is_above_next)) => {
+            Some(cell_of_sides(curve, a, is_above, is_above_next))
+        }
+        _ => None,
+    }
+}
+
 #[cold]
 #[inline(never)]
 fn is_quiet_exactly<C: Curve>(curve: &C, a: i64, n: u32, near: i128, end_near: i128) -> bool
     requires span { IsSpan (C.meaning curve.now) a n }
     requires few { n ≤ MOST_MINUTES }
-    requires near { IsNearValue (C.meaning curve.now) (C.error curve.now) a near }
-    requires end_near { IsNearValue (C.meaning curve.now) (C.error curve.now) (a +ℤ pos n) end_near }
+    requires near { near ≡ C.near curve.now a }
+    requires end_near { end_near ≡ C.near curve.now (a +ℤ pos n) }
     ensures { result ≡ is_quiet (C.meaning curve.now) a n }
 {
     let value = curve.exact_value(a, near);
@@ -74,8 +91,8 @@ fn is_quiet_exactly<C: Curve>(curve: &C, a: i64, n: u32, near: i128, end_near: i
 #[inline(never)]
 fn unit_cell_exactly<C: Curve>(curve: &C, a: i64, near: i128, next_near: i128) -> Cell
     requires span { IsSpan (C.meaning curve.now) a 1 }
-    requires near { IsNearValue (C.meaning curve.now) (C.error curve.now) a near }
-    requires next_near { IsNearValue (C.meaning curve.now) (C.error curve.now) (a +ℤ pos 1) next_near }
+    requires near { near ≡ C.near curve.now a }
+    requires next_near { next_near ≡ C.near curve.now (a +ℤ pos 1) }
     ensures { result ≡ unit_cell (C.meaning curve.now).track a }
 {
     let value = curve.exact_value(a, near);

@@ -1,7 +1,7 @@
 //! A minute and the value there.
 
 ghost use Rattle.std.specs.Prelude.{◌≡◌, ◌+◌, ◌^◌, ◌<◌};
-ghost use Rattle.curve_law.specs.Meaning.{IsMinute, IsNearValue};
+ghost use Rattle.curve_law.specs.Meaning.{IsMinute};
 
 use crate::curve::Curve;
 
@@ -19,6 +19,7 @@ pub fn point_at<C: Curve>(curve: &mut C, minute: i64) -> Point
     ensures point { result ≡ record { minute = minute; value = (C.meaning curve.old).track.value minute } }
     ensures counted { C.count curve.new ≡ C.count curve.old + 1 }
     ensures same { C.meaning curve.new ≡ C.meaning curve.old }
+    ensures same_near { C.near curve.new ≡ C.near curve.old }
     ensures same_error { C.error curve.new ≡ C.error curve.old }
 {
     Point {
@@ -31,10 +32,10 @@ pub fn point_at<C: Curve>(curve: &mut C, minute: i64) -> Point
 pub fn near_point_at<C: Curve>(curve: &mut C, minute: i64) -> Point
     requires minute { IsMinute (C.meaning curve.old) minute }
     requires few { C.count curve.old < 2 ^ 63 }
-    ensures minute { result.minute ≡ minute }
-    ensures near { IsNearValue (C.meaning curve.old) (C.error curve.old) minute result.value }
+    ensures point { result ≡ record { minute = minute; value = C.near curve.old minute } }
     ensures counted { C.count curve.new ≡ C.count curve.old + 1 }
     ensures same { C.meaning curve.new ≡ C.meaning curve.old }
+    ensures same_near { C.near curve.new ≡ C.near curve.old }
     ensures same_error { C.error curve.new ≡ C.error curve.old }
 {
     Point {

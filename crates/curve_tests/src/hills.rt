@@ -52,7 +52,7 @@ impl Hills {
 
 impl Curve for Hills {
     ghost use Rattle.highest_water.specs.Samples.{hills};
-    ghost use Rattle.curve_tests.specs.Workings.SampleLaws.{hills-lawful, none_is_narrow};
+    ghost use Rattle.curve_tests.specs.Workings.SampleLaws.{hills-lawful, hills-close, none_is_narrow};
 
     ghost meaning = { λ h. hills h.first.at h.first.value h.second.at h.second.value h.rate };
 
@@ -65,6 +65,8 @@ impl Curve for Hills {
     ghost lawful = { λ h. hills-lawful h.first.at h.first.value h.second.at h.second.value h.rate h.near h.low h.second_near h.second_low h.gentle h.small };
 
     ghost narrow = { λ _. none_is_narrow };
+
+    ghost close = { λ h m _. hills-close h.first.at h.first.value h.second.at h.second.value h.rate m };
 
     fn first(&self) -> i64 {
         -1_000_000
@@ -83,8 +85,8 @@ impl Curve for Hills {
         self.value(m)
     }
 
-    fn exact_value(&self, _m: i64, told: i128) -> i128 {
-        told
+    fn exact_value(&self, _m: i64, near_value: i128) -> i128 {
+        near_value
     }
 
     fn error(&self) -> i128 {

@@ -120,6 +120,13 @@ highest-peak_of c begin end at value cells peak is =
     let one = highest-one c begin end at value _ _ peak looked in
     rw (is, one.1, one.0) refl
 
+-- its minute and its value are those of a look at each minute
+pub highest-is : (c : Meaning) (begin end at value : ℤ) → IsHighest c begin end at value
+    → (at ≡ (peak_of c begin (unsigned_abs (end -ℤ begin))).at) × (value ≡ (peak_of c begin (unsigned_abs (end -ℤ begin))).value)
+highest-is c begin end at value peak =
+    let same = highest-peak_of c begin end at value (peak_cover c at value begin (unsigned_abs (end -ℤ begin))) peak refl in
+    (ap (λ (p : Peak). p.at) same, ap (λ (p : Peak). p.value) same)
+
 -- the values that the search and then the cover ask for
 pub values-counted : (c : Meaning) (begin end at value : ℤ) (before found after : ℕ) → IsHighest c begin end at value → found ≤ before + 2 * unsigned_abs (end -ℤ begin) + 1 → after ≤ found + length (peak_cover c at value begin (unsigned_abs (end -ℤ begin))) + 1 → after ≤ before + 2 * unsigned_abs (end -ℤ begin) + length (peak_of c begin (unsigned_abs (end -ℤ begin))).cells + 2
 values-counted c begin end at value before found after highest first second =

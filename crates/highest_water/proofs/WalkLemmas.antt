@@ -1,5 +1,5 @@
 -- How the pieces ahead of a walk change, and what they always have.
-use Rattle.std.proofs.Common.{◌≡◌, ℕ, ◌+◌, ◌-◌, ◌/◌, ◌^◌, ◌≤◌, ◌<◌, min, ℤ, pos, ◌+ℤ◌, ◌-ℤ◌, ◌≤ℤ◌, ◌<ℤ◌, unsigned_abs, false, true, List, [], ◌∷◌, ◌++◌, length, length-append, refl, sym, ap, arith, append_assoc, nat_le, ◌∙◌}
+use Rattle.std.proofs.Common.{◌≡◌, ℕ, ◌+◌, ◌-◌, ◌/◌, ◌^◌, ◌≤◌, ◌<◌, min, ℤ, pos, ◌+ℤ◌, ◌-ℤ◌, ◌≤ℤ◌, ◌<ℤ◌, false, true, List, [], ◌∷◌, ◌++◌, length, length-append, refl, sym, ap, arith, append_assoc, nat_le, ◌∙◌}
 use Rattle.std.proofs.lemmas.Int.{ints}
 use Rattle.std.proofs.lemmas.Bool.Decides.{nat_tests}
 use Rattle.std.proofs.lemmas.List.{append-nil}
@@ -14,14 +14,6 @@ use Rattle.highest_water.specs.Covers.{minutes_of, all_minutes, is_under, peak_s
 use Rattle.highest_water.specs.Workings.Walk.{cells_ahead, Stands, IsRight}
 use Rattle.highest_water.proofs.CoverLemmas.{split-one, split-under, split-halves, cover-none, cover-last, cover-block}
 use Rattle.highest_water.proofs.AcceptedLemmas.{split-whole}
-
--- ---- with no error a value is the curve's
-
-exact-near : (v w : ℤ) → v ≡ w → unsigned_abs (v -ℤ w) ≤ 0
-exact-near v w same = omega (arith, ints, same)
-
-pub near-exact : (v w : ℤ) → unsigned_abs (v -ℤ w) ≤ 0 → v ≡ w
-near-exact v w near = omega (arith, ints, near)
 
 -- ---- a block begun gives the same cells
 
@@ -56,20 +48,20 @@ begun-stands c count more end at b p old new some is point counted empty none st
       value = stands.value;
       first = stands.first;
       last = stands.last;
-      pieces = begun-pieces c 0 end at.minute q some is (exact-near q.value _ refl);
+      pieces = begun-pieces c.track.value end at.minute q some is refl;
       few = omega arith;
     })
 
 -- ---- the nearest piece, and what is halved of it
 
-pub nearest-piece : (c : Meaning) (count : ℕ) (end : ℤ) (at p : Point) (ps : List Point) → Stands c count end at (p ∷ ps) → IsPiece c 0 at p
-nearest-piece c count end at p ps stands = piece-ahead c 0 end at p ps (exact-near at.value _ stands.value) stands.first stands.last stands.pieces
+pub nearest-piece : (c : Meaning) (count : ℕ) (end : ℤ) (at p : Point) (ps : List Point) → Stands c count end at (p ∷ ps) → IsPiece c c.track.value at p
+nearest-piece c count end at p ps stands = piece-ahead c c.track.value end at p ps stands.value stands.first stands.last stands.pieces
 
 -- few enough values were asked for one more
 pub asked-few : (c : Meaning) (count : ℕ) (end : ℤ) (at p : Point) (ps : List Point) → Stands c count end at (p ∷ ps) → count < 2 ^ 63
 asked-few c count end at p ps stands =
     let few = stands.few in
-    let waiting = waiting-few c 0 end at.minute p ps stands.pieces in
+    let waiting = waiting-few c.track.value end at.minute p ps stands.pieces in
     omega arith
 
 -- halves instead of their whole
@@ -90,7 +82,7 @@ middle-stands c count end at m p ps stands two is value =
       value = stands.value;
       first = stands.first;
       last = stands.last;
-      pieces = middle-pieces c 0 end at.minute m p ps stands.pieces two is (exact-near m.value _ value);
+      pieces = middle-pieces c.track.value end at.minute m p ps stands.pieces two is value;
       few = omega arith;
     }
 
@@ -107,12 +99,12 @@ pub first-cells : (c : Meaning) (begin end : ℤ) (p : Point) (ps : List Point) 
 unfolding cells_ahead
 first-cells c begin end p ps is none h = rw (is, none) refl
 
-pub done-waiting : (c : Meaning) (end a : ℤ) (ps : List Point) → ArePieces c 0 end a ps → a ≡ end → ps ≡ []
+pub done-waiting : (c : Meaning) (end a : ℤ) (ps : List Point) → ArePieces c.track.value end a ps → a ≡ end → ps ≡ []
 unfolding ArePieces
 done-waiting c end a [] pieces done = refl
 done-waiting c end a (p ∷ ps) pieces done =
     let some = pieces.0 in
-    let rest = pieces-end c 0 end p.minute ps pieces.3 in
+    let rest = pieces-end c.track.value end p.minute ps pieces.3 in
     absurd (omega (arith, ints))
 
 done-none : (c : Meaning) (h : Point) (end a : ℤ) → a ≡ end → cells_ahead c h end a [] ≡ []
@@ -120,7 +112,7 @@ unfolding cells_ahead
 done-none c h end a done =
     let none : minutes_to end end ≡ 0 = omega (arith, ints) in rw (done, none) (cover-none c h.minute h.value end)
 
-pub done-cells : (c : Meaning) (h : Point) (end a : ℤ) (ps : List Point) → ArePieces c 0 end a ps → a ≡ end → cells_ahead c h end a ps ≡ []
+pub done-cells : (c : Meaning) (h : Point) (end a : ℤ) (ps : List Point) → ArePieces c.track.value end a ps → a ≡ end → cells_ahead c h end a ps ≡ []
 done-cells c h end a ps pieces done = rw (done-waiting c end a ps pieces done) (done-none c h end a done)
 
 -- ---- a cell is given
@@ -172,22 +164,22 @@ given-cells c h end a p ps cell one = rw one refl
 
 pub given-onward : (c : Meaning) (h : Point) (count : ℕ) (end : ℤ) (at p : Point) (ps : List Point) (cell : PeakCell) → Stands c count end at (p ∷ ps) → peak_split c h.minute h.value at.minute (minutes_to at.minute p.minute) ≡ cell ∷ [] → p.minute ≡ at.minute +ℤ pos (minutes_of cell)
 given-onward c h count end at p ps cell stands one =
-    cell-minutes c h at.minute p.minute cell (piece-parts c 0 end at.minute p ps stands.pieces).0 one
+    cell-minutes c h at.minute p.minute cell (piece-parts c.track.value end at.minute p ps stands.pieces).0 one
 
 pub given-right : (c : Meaning) (h : Point) (count : ℕ) (end : ℤ) (at p : Point) (ps : List Point) (cell : PeakCell) → Stands c count end at (p ∷ ps) → peak_split c h.minute h.value at.minute (minutes_to at.minute p.minute) ≡ cell ∷ [] → IsRight c h at.minute cell
 given-right c h count end at p ps cell stands one =
-    let some = (piece-parts c 0 end at.minute p ps stands.pieces).0 in
+    let some = (piece-parts c.track.value end at.minute p ps stands.pieces).0 in
     one-right c h at.minute (minutes_to at.minute p.minute) cell (omega (arith, ints)) one
 
 pub given-stands : (c : Meaning) (count : ℕ) (end : ℤ) (at p : Point) (ps : List Point) → Stands c count end at (p ∷ ps) → Stands c count end p ps
 given-stands c count end at p ps stands =
-    let parts = piece-parts c 0 end at.minute p ps stands.pieces in
+    let parts = piece-parts c.track.value end at.minute p ps stands.pieces in
     let some = parts.0 in
     let first = stands.first in
     let few = stands.few in
-    let rest = pieces-end c 0 end p.minute ps parts.3 in
+    let rest = pieces-end c.track.value end p.minute ps parts.3 in
     record {
-      value = near-exact p.value _ parts.2;
+      value = parts.2;
       first = omega (arith, ints);
       last = stands.last;
       pieces = parts.3;
@@ -195,7 +187,7 @@ given-stands c count end at p ps stands =
     }
 
 -- each piece has a cell of its own
-pub points-few : (c : Meaning) (h : Point) (end a : ℤ) (ps : List Point) → ArePieces c 0 end a ps → length ps ≤ length (cells_ahead c h end a ps)
+pub points-few : (c : Meaning) (h : Point) (end a : ℤ) (ps : List Point) → ArePieces c.track.value end a ps → length ps ≤ length (cells_ahead c h end a ps)
 unfolding cells_ahead ArePieces
 points-few c h end a [] pieces = omega arith
 points-few c h end a (p ∷ ps) pieces =

@@ -44,18 +44,24 @@ pub fn find_peak<C: Curve>(
     })
 }
 
-/// The point of the highest water. A cell that the curve's rate keeps under the highest point so far
-/// is passed over, so that few values are asked for.
-fn highest_point<C: Curve>(curve: &mut C, begin: i64, end: i64) -> Point
+/// The highest water of the minutes from `begin` on and before `end`, which the curve tells: the first
+/// minute that has their greatest value, and that value. There is at least one minute, and there are at
+/// most 5,270,400. The curve was asked for at most 2^62 values, and is asked for at most two a minute
+/// and one more. It makes no cells and doesn't allocate.
+pub fn highest_point<C: Curve>(curve: &mut C, begin: i64, end: i64) -> Point
     requires some { begin <ℤ end }
     requires short { (end -ℤ begin) ≤ℤ pos 5270400 }
     requires first { (C.meaning curve.old).first ≤ℤ begin }
     requires last { end ≤ℤ (C.meaning curve.old).last }
     requires few { C.count curve.old ≤ 2 ^ 62 }
     ensures highest { IsHighest (C.meaning curve.old) begin end result.minute result.value }
-    ensures count { C.count curve.new ≤ C.count curve.old + 2 * minutes_to begin end + 1 }
+    ensures minute { result.minute ≡ (peak_of (C.meaning curve.old) begin (unsigned_abs (end -ℤ begin))).at }
+    ensures value { result.value ≡ (peak_of (C.meaning curve.old) begin (unsigned_abs (end -ℤ begin))).value }
+    ensures count { C.count curve.new ≤ C.count curve.old + 2 * unsigned_abs (end -ℤ begin) + 1 }
     ensures same { C.meaning curve.new ≡ C.meaning curve.old }
 {
+    // A cell that the curve's rate keeps under the highest point so far is passed over, so that few
+    // values are asked for.
     let mut highest = highest_block(curve, begin, end);
     let mut walk = walk_from(curve, begin, end);
     while let Some(found) = next_cell(curve, &mut walk, highest) {

@@ -37,7 +37,7 @@ pub use certificate::PeakCertificate;
 pub use checking::check_peak;
 pub use covering::peak_cover;
 pub use fault::CertFault;
-pub use finding::find_peak;
+pub use finding::{find_peak, highest_point};
 pub use laws::{
     accepted_highest_waters_are_right, agreeing_curves_have_one_highest_water, blocks_are_halved,
     covers_are_accepted, spans_are_cut_into_blocks, spans_have_one_highest_water,

@@ -17,7 +17,7 @@ pub fn cell_between<C: Curve>(
     end: Point,
 ) -> Option<PeakCell>
     requires size { unsigned_abs highest.value < 10 ^ 37 }
-    requires piece { IsPiece (C.meaning curve.now) 0 begin end }
+    requires piece { IsPiece (C.meaning curve.now) (C.meaning curve.now).track.value begin end }
     ensures { IsSplit (C.meaning curve.now) highest begin.minute (minutes_to begin.minute end.minute) result }
 {
     let n = minutes_to(begin.minute, end.minute);
@@ -34,7 +34,7 @@ pub fn cell_between<C: Curve>(
 /// The point where the second half of a piece begins; the first half is the shorter one. The curve,
 /// which was asked for fewer than 2^63 values, is asked for one more.
 pub fn middle<C: Curve>(curve: &mut C, begin: Point, end: Point) -> Point
-    requires piece { IsPiece (C.meaning curve.old) 0 begin end }
+    requires piece { IsPiece (C.meaning curve.old) (C.meaning curve.old).track.value begin end }
     requires few { C.count curve.old < 2 ^ 63 }
     ensures minute { result.minute ≡ begin.minute +ℤ pos (minutes_to begin.minute end.minute / 2) }
     ensures value { result.value ≡ (C.meaning curve.old).track.value result.minute }

@@ -7,7 +7,7 @@ use Rattle.std.proofs.lemmas.List.{append-nil}
 use Rattle.std.proofs.Math.Nat.{mul-le-mul_left, mul-le-mul_right, pow-le-pow_right, pow-suc}
 use Rattle.curve_law.specs.declared.cell.Cell.{Cell}
 use Rattle.curve_law.specs.declared.quiet.TheConstants.{MOST_MINUTES}
-use Rattle.curve_law.specs.Meaning.{Meaning, IsNearValue, IsLawful}
+use Rattle.curve_law.specs.Meaning.{Meaning, IsLawful}
 use Rattle.curve_law.specs.Cells.{minutes_of, all_minutes}
 use Rattle.curve_law.specs.Cover.{is_quiet, unit_cell, split, cover}
 use Rattle.curve_law.proofs.CoverLemmas.{by_test, split-one, split-halves, cover-none, cover-last, cover-block}
@@ -43,41 +43,41 @@ pub begun-cells : (c : Meaning) (end a : ℤ) (p : Point) → a <ℤ end → p.m
 unfolding cells_ahead
 begun-cells c end a p some is = block-cells c end a p.minute some is
 
-pub begun-pieces : (c : Meaning) (error : ℕ) (end a : ℤ) (p : Point) → a <ℤ end → p.minute ≡ a +ℤ pos (min (minutes_to a end) MOST_MINUTES) → IsNearValue c error p.minute p.value → ArePieces c error end a (p ∷ [])
+pub begun-pieces : (values : ℤ → ℤ) (end a : ℤ) (p : Point) → a <ℤ end → p.minute ≡ a +ℤ pos (min (minutes_to a end) MOST_MINUTES) → p.value ≡ values p.minute → ArePieces values end a (p ∷ [])
 unfolding ArePieces
-begun-pieces c error end a p some is near = (omega (arith, ints), omega (arith, ints), near, omega (arith, ints))
+begun-pieces values end a p some is near = (omega (arith, ints), omega (arith, ints), near, omega (arith, ints))
 
-pub begun-stands : (c : Meaning) (error : ℕ) (count : ℕ) (end : ℤ) (at p : Point) → at.minute <ℤ end → p.minute ≡ at.minute +ℤ pos (min (minutes_to at.minute end) MOST_MINUTES) → IsNearValue c error p.minute p.value → Stands c error count end at [] → Stands c error (count + 1) end at (p ∷ [])
-begun-stands c error count end at p some is near stands =
+pub begun-stands : (c : Meaning) (values : ℤ → ℤ) (count : ℕ) (end : ℤ) (at p : Point) → at.minute <ℤ end → p.minute ≡ at.minute +ℤ pos (min (minutes_to at.minute end) MOST_MINUTES) → p.value ≡ values p.minute → Stands c values count end at [] → Stands c values (count + 1) end at (p ∷ [])
+begun-stands c values count end at p some is near stands =
     let few = stands.few in
     let same = ap length (begun-cells c end at.minute p some is) in
     record {
-      near = stands.near;
+      value = stands.value;
       first = stands.first;
       last = stands.last;
-      pieces = begun-pieces c error end at.minute p some is near;
+      pieces = begun-pieces values end at.minute p some is near;
       few = omega arith;
     }
 
 -- the same as a call tells it
-pub begun-at : (c : Meaning) (error : ℕ) (count more : ℕ) (end : ℤ) (at : Point) (b : ℤ) (p : Point) (old new : List Point) → at.minute <ℤ end → b ≡ at.minute +ℤ pos (min (minutes_to at.minute end) MOST_MINUTES) → p.minute ≡ b → IsNearValue c error b p.value → more ≡ count + 1 → old ≡ [] → new ≡ []
-    → Stands c error count end at old → Stands c error more end at (p ∷ new) × (cells_ahead c end at.minute (p ∷ new) ≡ cells_ahead c end at.minute old)
-begun-at c error count more end at b p old new some is minute near counted empty none stands =
-    let begun = begun-stands c error count end at p some (minute ∙ is) (rw minute near) (rw empty at stands) in
+pub begun-at : (c : Meaning) (values : ℤ → ℤ) (count more : ℕ) (end : ℤ) (at : Point) (b : ℤ) (p : Point) (old new : List Point) → at.minute <ℤ end → b ≡ at.minute +ℤ pos (min (minutes_to at.minute end) MOST_MINUTES) → p.minute ≡ b → p.value ≡ values b → more ≡ count + 1 → old ≡ [] → new ≡ []
+    → Stands c values count end at old → Stands c values more end at (p ∷ new) × (cells_ahead c end at.minute (p ∷ new) ≡ cells_ahead c end at.minute old)
+begun-at c values count more end at b p old new some is minute near counted empty none stands =
+    let begun = begun-stands c values count end at p some (minute ∙ is) (rw minute near) (rw empty at stands) in
     let cells = begun-cells c end at.minute p some (minute ∙ is) in
     (rw (counted, none) begun, rw (empty, none) cells)
 
 -- the nearest piece, and what is halved of it
-pub piece-parts : (c : Meaning) (error : ℕ) (end a : ℤ) (p : Point) (ps : List Point) → ArePieces c error end a (p ∷ ps) → (a <ℤ p.minute) × (minutes_to a p.minute * 2 ^ length ps ≤ MOST_MINUTES) × IsNearValue c error p.minute p.value × ArePieces c error end p.minute ps
+pub piece-parts : (values : ℤ → ℤ) (end a : ℤ) (p : Point) (ps : List Point) → ArePieces values end a (p ∷ ps) → (a <ℤ p.minute) × (minutes_to a p.minute * 2 ^ length ps ≤ MOST_MINUTES) × (p.value ≡ values p.minute) × ArePieces values end p.minute ps
 unfolding ArePieces
-piece-parts c error end a p ps pieces = pieces
+piece-parts values end a p ps pieces = pieces
 
-pub pieces-end : (c : Meaning) (error : ℕ) (end a : ℤ) (ps : List Point) → ArePieces c error end a ps → a ≤ℤ end
+pub pieces-end : (values : ℤ → ℤ) (end a : ℤ) (ps : List Point) → ArePieces values end a ps → a ≤ℤ end
 unfolding ArePieces
-pieces-end c error end a [] pieces = pieces
-pieces-end c error end a (p ∷ ps) pieces =
+pieces-end values end a [] pieces = pieces
+pieces-end values end a (p ∷ ps) pieces =
     let some = pieces.0 in
-    let rest = pieces-end c error end p.minute ps pieces.3 in
+    let rest = pieces-end values end p.minute ps pieces.3 in
     omega (arith, ints)
 
 -- a power is at least 1
@@ -85,28 +85,28 @@ one_or_more : (k n : ℕ) → n * 2 ^ k ≤ MOST_MINUTES → n ≤ MOST_MINUTES
 one_or_more k n few = let p = pow_pos k in let q = mul-le-mul_left n p in omega (arith, q)
 
 -- what lies ahead of a point to the nearest one
-pub piece-ahead : (c : Meaning) (error : ℕ) (end : ℤ) (at p : Point) (ps : List Point) → IsNearValue c error at.minute at.value → c.first ≤ℤ at.minute → end ≤ℤ c.last → ArePieces c error end at.minute (p ∷ ps) → IsPiece c error at p
-piece-ahead c error end at p ps near first last pieces =
-    let parts = piece-parts c error end at.minute p ps pieces in
+pub piece-ahead : (c : Meaning) (values : ℤ → ℤ) (end : ℤ) (at p : Point) (ps : List Point) → at.value ≡ values at.minute → c.first ≤ℤ at.minute → end ≤ℤ c.last → ArePieces values end at.minute (p ∷ ps) → IsPiece c values at p
+piece-ahead c values end at p ps near first last pieces =
+    let parts = piece-parts values end at.minute p ps pieces in
     let few = one_or_more (length ps) (minutes_to at.minute p.minute) parts.1 in
     let some = parts.0 in
-    let rest = pieces-end c error end p.minute ps parts.3 in
+    let rest = pieces-end values end p.minute ps parts.3 in
     record {
       first = first;
       last = omega (arith, ints);
       some = some;
       few = omega (arith, ints);
-      near = near;
-      end_near = parts.2;
+      value = near;
+      end_value = parts.2;
     }
 
-pub nearest-piece : (c : Meaning) (error : ℕ) (count : ℕ) (end : ℤ) (at p : Point) (ps : List Point) → Stands c error count end at (p ∷ ps) → IsPiece c error at p
-nearest-piece c error count end at p ps stands = piece-ahead c error end at p ps stands.near stands.first stands.last stands.pieces
+pub nearest-piece : (c : Meaning) (values : ℤ → ℤ) (count : ℕ) (end : ℤ) (at p : Point) (ps : List Point) → Stands c values count end at (p ∷ ps) → IsPiece c values at p
+nearest-piece c values count end at p ps stands = piece-ahead c values end at p ps stands.value stands.first stands.last stands.pieces
 
 -- few enough points wait for one more
-pub waiting-few : (c : Meaning) (error : ℕ) (end a : ℤ) (p : Point) (ps : List Point) → ArePieces c error end a (p ∷ ps) → length ps < 16
-waiting-few c error end a p ps pieces =
-    let parts = piece-parts c error end a p ps pieces in
+pub waiting-few : (values : ℤ → ℤ) (end a : ℤ) (p : Point) (ps : List Point) → ArePieces values end a (p ∷ ps) → length ps < 16
+waiting-few values end a p ps pieces =
+    let parts = piece-parts values end a p ps pieces in
     let some = parts.0 in
     let few = parts.1 in
     by_test (nat_le 16 (length ps))
@@ -119,10 +119,10 @@ waiting-few c error end a p ps pieces =
     (λ less. grind (arith, nat_tests))
 
 -- few enough values were asked for one more
-pub asked-few : (c : Meaning) (error : ℕ) (count : ℕ) (end : ℤ) (at p : Point) (ps : List Point) → Stands c error count end at (p ∷ ps) → count < 2 ^ 63
-asked-few c error count end at p ps stands =
+pub asked-few : (c : Meaning) (values : ℤ → ℤ) (count : ℕ) (end : ℤ) (at p : Point) (ps : List Point) → Stands c values count end at (p ∷ ps) → count < 2 ^ 63
+asked-few c values count end at p ps stands =
     let few = stands.few in
-    let waiting = waiting-few c error end at.minute p ps stands.pieces in
+    let waiting = waiting-few values end at.minute p ps stands.pieces in
     omega arith
 
 -- halves instead of their whole
@@ -149,50 +149,50 @@ rest_few n k few = let less = mul-le-mul_right (2 ^ k) (le-sub n (n / 2)) in ome
     le-sub : (a b : ℕ) → a - b ≤ a
     le-sub a b = omega arith
 
-pub middle-pieces : (c : Meaning) (error : ℕ) (end a : ℤ) (m p : Point) (ps : List Point) → ArePieces c error end a (p ∷ ps) → 2 ≤ minutes_to a p.minute → m.minute ≡ a +ℤ pos (minutes_to a p.minute / 2) → IsNearValue c error m.minute m.value → ArePieces c error end a (m ∷ p ∷ ps)
+pub middle-pieces : (values : ℤ → ℤ) (end a : ℤ) (m p : Point) (ps : List Point) → ArePieces values end a (p ∷ ps) → 2 ≤ minutes_to a p.minute → m.minute ≡ a +ℤ pos (minutes_to a p.minute / 2) → m.value ≡ values m.minute → ArePieces values end a (m ∷ p ∷ ps)
 unfolding ArePieces
-middle-pieces c error end a m p ps pieces two is near =
+middle-pieces values end a m p ps pieces two is near =
     let some = pieces.0 in
     let first : minutes_to a m.minute ≡ minutes_to a p.minute / 2 = omega (arith, ints) in
     let second : minutes_to m.minute p.minute ≡ minutes_to a p.minute - minutes_to a p.minute / 2 = omega (arith, ints) in
     (omega (arith, ints), rw first (half_few (minutes_to a p.minute) (length ps) pieces.1), near, (omega (arith, ints), rw second (rest_few (minutes_to a p.minute) (length ps) pieces.1), pieces.2, pieces.3))
 
-pub middle-stands : (c : Meaning) (error : ℕ) (count : ℕ) (end : ℤ) (at m p : Point) (ps : List Point) → Stands c error count end at (p ∷ ps) → 2 ≤ minutes_to at.minute p.minute → is_quiet c at.minute (minutes_to at.minute p.minute) ≡ false → m.minute ≡ at.minute +ℤ pos (minutes_to at.minute p.minute / 2) → IsNearValue c error m.minute m.value → Stands c error (count + 1) end at (m ∷ p ∷ ps)
-middle-stands c error count end at m p ps stands two loud is near =
+pub middle-stands : (c : Meaning) (values : ℤ → ℤ) (count : ℕ) (end : ℤ) (at m p : Point) (ps : List Point) → Stands c values count end at (p ∷ ps) → 2 ≤ minutes_to at.minute p.minute → is_quiet c at.minute (minutes_to at.minute p.minute) ≡ false → m.minute ≡ at.minute +ℤ pos (minutes_to at.minute p.minute / 2) → m.value ≡ values m.minute → Stands c values (count + 1) end at (m ∷ p ∷ ps)
+middle-stands c values count end at m p ps stands two loud is near =
     let few = stands.few in
-    let some = (piece-parts c error end at.minute p ps stands.pieces).0 in
+    let some = (piece-parts values end at.minute p ps stands.pieces).0 in
     let same = ap length (middle-cells c end at.minute m p ps some two loud is) in
     record {
-      near = stands.near;
+      value = stands.value;
       first = stands.first;
       last = stands.last;
-      pieces = middle-pieces c error end at.minute m p ps stands.pieces two is near;
+      pieces = middle-pieces values end at.minute m p ps stands.pieces two is near;
       few = omega arith;
     }
 
 -- a search that begins
-pub first-stands : (c : Meaning) (error : ℕ) (count more : ℕ) (begin end : ℤ) (p : Point) (ps : List Point) → IsLawful c → begin ≤ℤ end → c.first ≤ℤ begin → end ≤ℤ c.last → count ≤ 2 ^ 62 → more ≡ count + 1 → p.minute ≡ begin → IsNearValue c error begin p.value → ps ≡ []
-    → Stands c error more end p ps × (cells_ahead c end p.minute ps ≡ cover c begin (minutes_to begin end))
+pub first-stands : (c : Meaning) (values : ℤ → ℤ) (count more : ℕ) (begin end : ℤ) (p : Point) (ps : List Point) → IsLawful c → begin ≤ℤ end → c.first ≤ℤ begin → end ≤ℤ c.last → count ≤ 2 ^ 62 → more ≡ count + 1 → p.minute ≡ begin → p.value ≡ values begin → ps ≡ []
+    → Stands c values more end p ps × (cells_ahead c end p.minute ps ≡ cover c begin (minutes_to begin end))
 unfolding cells_ahead ArePieces
-first-stands c error count more begin end p ps lawful forward first last few counted minute near none =
+first-stands c values count more begin end p ps lawful forward first last few counted minute near none =
     let cells = (cover-right c begin (minutes_to begin end)).few in
     let early = lawful.early in
     let late = lawful.late in
-    rw (minute, none, counted) (record { near = near; first = first; last = last; pieces = forward; few = omega (arith, ints) }, refl)
+    rw (minute, none, counted) (record { value = near; first = first; last = last; pieces = forward; few = omega (arith, ints) }, refl)
 
 -- a search that is done
-pub done-cells : (c : Meaning) (error : ℕ) (end a : ℤ) (ps : List Point) → ArePieces c error end a ps → a ≡ end → cells_ahead c end a ps ≡ []
+pub done-cells : (c : Meaning) (values : ℤ → ℤ) (end a : ℤ) (ps : List Point) → ArePieces values end a ps → a ≡ end → cells_ahead c end a ps ≡ []
 unfolding cells_ahead ArePieces
-done-cells c error end a [] pieces done =
+done-cells c values end a [] pieces done =
     let none : minutes_to end end ≡ 0 = omega (arith, ints) in rw (done, none) (cover-none c end)
-done-cells c error end a (p ∷ ps) pieces done =
+done-cells c values end a (p ∷ ps) pieces done =
     let some = pieces.0 in
-    let rest = pieces-end c error end p.minute ps pieces.3 in
+    let rest = pieces-end values end p.minute ps pieces.3 in
     absurd (omega (arith, ints))
 
-pub before-end : (c : Meaning) (error : ℕ) (end a : ℤ) (ps : List Point) → ArePieces c error end a ps → (a ≡ end → ⊥) → a <ℤ end
-before-end c error end a ps pieces other =
-    let forward = pieces-end c error end a ps pieces in
+pub before-end : (values : ℤ → ℤ) (end a : ℤ) (ps : List Point) → ArePieces values end a ps → (a ≡ end → ⊥) → a <ℤ end
+before-end values end a ps pieces other =
+    let forward = pieces-end values end a ps pieces in
     grind (arith, ints)
 
 -- the minutes of the one cell of a piece
@@ -208,19 +208,19 @@ pub given-cells : (c : Meaning) (end a : ℤ) (p : Point) (ps : List Point) (cel
 unfolding cells_ahead
 given-cells c end a p ps cell one = rw one refl
 
-pub given-onward : (c : Meaning) (error : ℕ) (count : ℕ) (end : ℤ) (at p : Point) (ps : List Point) (cell : Cell) → Stands c error count end at (p ∷ ps) → split c at.minute (minutes_to at.minute p.minute) ≡ cell ∷ [] → p.minute ≡ at.minute +ℤ pos (minutes_of cell)
-given-onward c error count end at p ps cell stands one =
-    cell-minutes c at.minute p.minute cell (piece-parts c error end at.minute p ps stands.pieces).0 one
+pub given-onward : (c : Meaning) (values : ℤ → ℤ) (count : ℕ) (end : ℤ) (at p : Point) (ps : List Point) (cell : Cell) → Stands c values count end at (p ∷ ps) → split c at.minute (minutes_to at.minute p.minute) ≡ cell ∷ [] → p.minute ≡ at.minute +ℤ pos (minutes_of cell)
+given-onward c values count end at p ps cell stands one =
+    cell-minutes c at.minute p.minute cell (piece-parts values end at.minute p ps stands.pieces).0 one
 
-pub given-stands : (c : Meaning) (error : ℕ) (count : ℕ) (end : ℤ) (at p : Point) (ps : List Point) (cell : Cell) → Stands c error count end at (p ∷ ps) → split c at.minute (minutes_to at.minute p.minute) ≡ cell ∷ [] → Stands c error count end p ps
-given-stands c error count end at p ps cell stands one =
-    let parts = piece-parts c error end at.minute p ps stands.pieces in
+pub given-stands : (c : Meaning) (values : ℤ → ℤ) (count : ℕ) (end : ℤ) (at p : Point) (ps : List Point) (cell : Cell) → Stands c values count end at (p ∷ ps) → split c at.minute (minutes_to at.minute p.minute) ≡ cell ∷ [] → Stands c values count end p ps
+given-stands c values count end at p ps cell stands one =
+    let parts = piece-parts values end at.minute p ps stands.pieces in
     let some = parts.0 in
     let first = stands.first in
     let few = stands.few in
     let same = ap length (given-cells c end at.minute p ps cell one) in
     record {
-      near = parts.2;
+      value = parts.2;
       first = omega (arith, ints);
       last = stands.last;
       pieces = parts.3;
@@ -233,17 +233,17 @@ some-cells [] n some whole = absurd (omega arith)
 some-cells (cell ∷ cells) n some whole = omega arith
 
 -- each piece has a cell of its own
-pub points-few : (c : Meaning) (error : ℕ) (end a : ℤ) (ps : List Point) → ArePieces c error end a ps → length ps ≤ length (cells_ahead c end a ps)
+pub points-few : (c : Meaning) (values : ℤ → ℤ) (end a : ℤ) (ps : List Point) → ArePieces values end a ps → length ps ≤ length (cells_ahead c end a ps)
 unfolding cells_ahead ArePieces
-points-few c error end a [] pieces = omega arith
-points-few c error end a (p ∷ ps) pieces =
+points-few c values end a [] pieces = omega arith
+points-few c values end a (p ∷ ps) pieces =
     let some = pieces.0 in
     let minutes : 1 ≤ minutes_to a p.minute = omega (arith, ints) in
     let one = some-cells (split c a (minutes_to a p.minute)) (minutes_to a p.minute) minutes (split-right c a (minutes_to a p.minute) minutes).whole in
-    let rest = points-few c error end p.minute ps pieces.3 in
+    let rest = points-few c values end p.minute ps pieces.3 in
     omega (arith, length-append (split c a (minutes_to a p.minute)) (cells_ahead c end p.minute ps))
 
 -- no more values were asked for than in the end
-pub asked-most : (c : Meaning) (error : ℕ) (more most all : ℕ) (end : ℤ) (at : Point) (ps : List Point) → Stands c error more end at ps → (more + length (cells_ahead c end at.minute ps)) - length ps ≡ most → most ≡ all → more ≤ all
-asked-most c error more most all end at ps stands is same =
-    let few = points-few c error end at.minute ps stands.pieces in omega arith
+pub asked-most : (c : Meaning) (values : ℤ → ℤ) (more most all : ℕ) (end : ℤ) (at : Point) (ps : List Point) → Stands c values more end at ps → (more + length (cells_ahead c end at.minute ps)) - length ps ≡ most → most ≡ all → more ≤ all
+asked-most c values more most all end at ps stands is same =
+    let few = points-few c values end at.minute ps stands.pieces in omega arith

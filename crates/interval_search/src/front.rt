@@ -19,11 +19,11 @@ pub struct Step {
 
 /// The end of the nearest piece, which is taken off, or else of the next block.
 fn nearest_end<C: Curve>(curve: &mut C, waiting: &mut Waiting, at: Point, end: i64) -> Point
-    requires stands { Stands (C.meaning curve.old) (C.error curve.old) (C.count curve.old) end at waiting.old }
+    requires stands { Stands (C.meaning curve.old) (C.near curve.old) (C.count curve.old) end at waiting.old }
     requires onward { at.minute <ℤ end }
     ensures same { C.meaning curve.new ≡ C.meaning curve.old }
-    ensures same_error { C.error curve.new ≡ C.error curve.old }
-    ensures stands { Stands (C.meaning curve.old) (C.error curve.old) (C.count curve.new) end at (result ∷ waiting.new) }
+    ensures same_near { C.near curve.new ≡ C.near curve.old }
+    ensures stands { Stands (C.meaning curve.old) (C.near curve.old) (C.count curve.new) end at (result ∷ waiting.new) }
     ensures cells { cells_ahead (C.meaning curve.old) end at.minute (result ∷ waiting.new)
         ≡ cells_ahead (C.meaning curve.old) end at.minute waiting.old }
     ensures count { C.count curve.new + length waiting.old ≡ C.count curve.old + length waiting.new + 1 }
@@ -42,10 +42,10 @@ fn nearest_step<C: Curve>(
     near: Point,
     end: i64,
 ) -> Step
-    requires stands { Stands (C.meaning curve.old) (C.error curve.old) (C.count curve.old) end at (near ∷ waiting.old) }
+    requires stands { Stands (C.meaning curve.old) (C.near curve.old) (C.count curve.old) end at (near ∷ waiting.old) }
     ensures same { C.meaning curve.new ≡ C.meaning curve.old }
-    ensures same_error { C.error curve.new ≡ C.error curve.old }
-    ensures stands { Stands (C.meaning curve.old) (C.error curve.old) (C.count curve.new) end at (result.end ∷ waiting.new) }
+    ensures same_near { C.near curve.new ≡ C.near curve.old }
+    ensures stands { Stands (C.meaning curve.old) (C.near curve.old) (C.count curve.new) end at (result.end ∷ waiting.new) }
     ensures cell { split (C.meaning curve.old) at.minute (minutes_to at.minute result.end.minute) ≡ result.cell ∷ [] }
     ensures cells { cells_ahead (C.meaning curve.old) end at.minute (result.end ∷ waiting.new)
         ≡ cells_ahead (C.meaning curve.old) end at.minute (near ∷ waiting.old) }
@@ -77,10 +77,10 @@ pub fn front_at<C: Curve>(curve: &mut C, begin: i64, end: i64) -> Front
     requires last { end ≤ℤ (C.meaning curve.old).last }
     requires few { C.count curve.old ≤ 2 ^ 62 }
     ensures same { C.meaning curve.new ≡ C.meaning curve.old }
-    ensures same_error { C.error curve.new ≡ C.error curve.old }
+    ensures same_near { C.near curve.new ≡ C.near curve.old }
     ensures counted { C.count curve.new ≡ C.count curve.old + 1 }
     ensures at { result.at.minute ≡ begin }
-    ensures stands { Stands (C.meaning curve.old) (C.error curve.old) (C.count curve.new) result.end result.at result.waiting }
+    ensures stands { Stands (C.meaning curve.old) (C.near curve.old) (C.count curve.new) result.end result.at result.waiting }
     ensures cells { cells_ahead (C.meaning curve.old) result.end result.at.minute result.waiting
         ≡ cover (C.meaning curve.old) begin (minutes_to begin end) }
     ensures none { result.waiting ≡ [] }
@@ -94,10 +94,10 @@ pub fn front_at<C: Curve>(curve: &mut C, begin: i64, end: i64) -> Front
 
 /// The next cell, and where it begins. None is left where the front is at the end.
 pub fn next_found<C: Curve>(curve: &mut C, front: &mut Front) -> Option<Found>
-    requires { Stands (C.meaning curve.old) (C.error curve.old) (C.count curve.old) front.old.end front.old.at front.old.waiting }
+    requires { Stands (C.meaning curve.old) (C.near curve.old) (C.count curve.old) front.old.end front.old.at front.old.waiting }
     ensures same { C.meaning curve.new ≡ C.meaning curve.old }
-    ensures same_error { C.error curve.new ≡ C.error curve.old }
-    ensures stands { Stands (C.meaning curve.old) (C.error curve.old) (C.count curve.new) front.new.end front.new.at front.new.waiting }
+    ensures same_near { C.near curve.new ≡ C.near curve.old }
+    ensures stands { Stands (C.meaning curve.old) (C.near curve.old) (C.count curve.new) front.new.end front.new.at front.new.waiting }
     ensures found { StepsOn (looking_at curve.old (C.meaning curve.old) (C.count curve.old) front.old) result
         (looking_at curve.new (C.meaning curve.old) (C.count curve.new) front.new) }
     ensures most { (looking_at curve.new (C.meaning curve.old) (C.count curve.new) front.new).most

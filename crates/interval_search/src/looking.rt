@@ -27,7 +27,7 @@ impl<C: Curve> Model for Search<C> {
 
     ghost view = { λ s. looking_at s.curve (C.meaning s.curve) (C.count s.curve) s.front };
 
-    ghost invariant = { λ s. Stands (C.meaning s.curve) (C.error s.curve) (C.count s.curve) s.front.end s.front.at s.front.waiting };
+    ghost invariant = { λ s. Stands (C.meaning s.curve) (C.near s.curve) (C.count s.curve) s.front.end s.front.at s.front.waiting };
 }
 
 impl<C: Curve> Search<C> {

@@ -1,14 +1,13 @@
 //! What lies between two points at which near values are known.
 
 ghost use Rattle.std.specs.Prelude.{◌≡◌, ◌+◌, ◌/◌, ◌≤◌, ◌<◌, ◌^◌, ℤ, pos, neg_ℤ, ◌+ℤ◌, ◌-ℤ◌, ◌≤ℤ◌, ◌<ℤ◌, unsigned_abs, min, IfSome, IfNone};
-ghost use Rattle.curve_law.specs.Meaning.{IsNearValue};
 ghost use Rattle.interval_search.specs.Workings.Ahead.{minutes_to, IsPiece, IsSplit};
 
 use curve_law::{Cell, Curve, MOST_MINUTES, Point, is_quiet_near, near_point_at, unit_cell_near};
 
 /// The one cell of the minutes between two points, or none where they have to be halved.
 pub fn cell_between<C: Curve>(curve: &C, begin: Point, end: Point) -> Option<Cell>
-    requires { IsPiece (C.meaning curve.now) (C.error curve.now) begin end }
+    requires { IsPiece (C.meaning curve.now) (C.near curve.now) begin end }
     ensures { IsSplit (C.meaning curve.now) begin.minute (minutes_to begin.minute end.minute) result }
 {
     let n = minutes_to(begin.minute, end.minute);
@@ -22,16 +21,16 @@ pub fn cell_between<C: Curve>(curve: &C, begin: Point, end: Point) -> Option<Cel
     }
 }
 
-/// A point near that where the second half of a piece begins; the first half is the shorter one. The
-/// curve, which was asked for fewer than 2^63 values, is asked for one more.
+/// The minute at which the second half of a piece begins, with its near value; the first half is the
+/// shorter one. One value is counted.
 pub fn middle<C: Curve>(curve: &mut C, begin: Point, end: Point) -> Point
-    requires piece { IsPiece (C.meaning curve.old) (C.error curve.old) begin end }
+    requires piece { IsPiece (C.meaning curve.old) (C.near curve.old) begin end }
     requires few { C.count curve.old < 2 ^ 63 }
     ensures minute { result.minute ≡ begin.minute +ℤ pos (minutes_to begin.minute end.minute / 2) }
-    ensures near { IsNearValue (C.meaning curve.old) (C.error curve.old) result.minute result.value }
+    ensures value { result.value ≡ C.near curve.old result.minute }
     ensures counted { C.count curve.new ≡ C.count curve.old + 1 }
     ensures same { C.meaning curve.new ≡ C.meaning curve.old }
-    ensures same_error { C.error curve.new ≡ C.error curve.old }
+    ensures same_near { C.near curve.new ≡ C.near curve.old }
 {
     near_point_at(curve, halfway(begin.minute, end.minute))
 }

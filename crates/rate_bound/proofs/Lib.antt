@@ -2,3 +2,4 @@ mod Parts
 mod Naming
 mod Telling
 pub mod Predicted
+mod SizeLemmas

@@ -1,13 +1,9 @@
 -- What a curve's rate is by where the cell lies.
-use Rattle.std.proofs.Common.{◌≡◌, ℕ, ◌-◌, ◌*◌, ◌^◌, ◌≤◌, Option, Some, None, sym, ap, ◌∙◌, ℤ, pos, ◌-ℤ◌, ◌*ℤ◌, unsigned_abs}
+use Rattle.std.proofs.Common.{◌≡◌, ℕ, ◌-◌, Option, Some, None, sym, ap, ◌∙◌, ℤ, ◌*ℤ◌}
 use Rattle.station_curve.specs.Waves.{Tide}
 use Rattle.year_blend.specs.declared.parts.Stretch.TheVariants.{Within, Across}
 use Rattle.rate_bound.specs.declared.version.Version.{Version}
 use Rattle.rate_bound.specs.declared.version.Version.TheVariants.{First, Second}
-use Rattle.station_curve.proofs.Gaps.{scaled_gap}
-use Rattle.year_blend.specs.Weights.{total_weight}
-use Rattle.rate_bound.specs.Meanings.{over_mark}
-use Rattle.rate_bound.specs.Workings.MarkLaw.{same_mark}
 use Rattle.rate_bound.specs.Rates.{tide_sums, tide_stretch, plain_slope_rate, plain_level_rate, blended_slope_rate, blended_level_rate, limited, slope_rate_in, slope_rate_of, level_rate_in, level_rate_of}
 
 pub slope_rate-within : (version : Version) (tide : Tide) (a : ℤ) (n year : ℕ) (told : ℤ) → Within year ≡ tide_stretch tide a n → told ≡ plain_slope_rate (tide_sums tide year) → Some told ≡ slope_rate_of version tide a n
@@ -39,9 +35,3 @@ unfolding level_rate_of
 level_rate-second version times tide a n year told second at is =
     ap Some is ∙ ap (level_rate_in Second times (tide_sums tide)) at
     ∙ ap (λ v. level_rate_in v times (tide_sums tide) (tide_stretch tide a n)) (sym second)
-
--- a level that is near the station's, scaled and set against a mark
-pub near-mark : (times plus mark near level : ℤ) (error : ℕ) → unsigned_abs (near -ℤ level) ≤ error → unsigned_abs (over_mark times plus mark near -ℤ over_mark times plus mark level) ≤ unsigned_abs times * error
-near-mark times plus mark near level error close =
-    let raised = pos (10 ^ 6 * total_weight * 10 ^ 9) *ℤ (plus -ℤ mark) in
-    rw (same_mark (times *ℤ near) (times *ℤ level) raised) (scaled_gap times near level error close)

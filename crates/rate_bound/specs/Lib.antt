@@ -1,4 +1,5 @@
 pub mod Rates
 pub mod Scale
+pub mod Sizes
 pub mod Meanings
 pub mod Workings

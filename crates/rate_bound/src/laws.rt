@@ -1,15 +1,17 @@
 //! What holds of the curves of every station.
 
-ghost use Rattle.std.specs.Prelude.{◌≡◌, ℕ, ℤ, pos, ◌+ℤ◌, ◌≤ℤ◌, Bool};
+ghost use Rattle.std.specs.Prelude.{◌≡◌, ℕ, ℤ, pos, ◌+ℤ◌, ◌≤ℤ◌, Bool, length, Ok};
 ghost use Rattle.curve_law.specs.Meaning.{AgreeOver, IsLawful};
 ghost use Rattle.harmonics_text.specs.declared.book.Station.{Station};
 ghost use Rattle.harmonics_text.specs.declared.book.Book.{Book};
+ghost use Rattle.harmonics_text.specs.Books.{IsBook, IsStation};
 ghost use Rattle.year_blend.specs.Places.{AreYears, InDomain};
-ghost use Rattle.station_curve.specs.Curves.{PredictsOver};
+ghost use Rattle.station_curve.specs.Curves.{PredictsOver, curve_of};
 ghost use Rattle.station_curve.specs.Limits.{IsGentle};
 ghost use Rattle.station_curve.specs.Waves.{Tide};
 ghost use Rattle.rate_bound.specs.declared.version.Version.{Version};
 ghost use Rattle.rate_bound.specs.Scale.{IsScale};
+ghost use Rattle.rate_bound.specs.Sizes.{slope_limit, mark_limit, IsBelow};
 ghost use Rattle.rate_bound.specs.Meanings.{turn_meaning, mark_meaning, predicted_turn, predicted_mark};
 
 /// The curves of a tide that predicts a station over some minutes say the same of each span of these as
@@ -31,4 +33,19 @@ pub fn curves_are_lawful()
     ensures turn { (version : Version) (tide : Tide) → IsGentle tide → IsLawful (turn_meaning version tide) }
     ensures mark { (version : Version) (tide : Tide) (times plus mark : ℤ) (slack : Bool) →
         IsGentle tide → IsScale times plus mark → IsLawful (mark_meaning version tide times plus mark slack) }
+{}
+
+/// A slope is below 10^37 in size, and a level against a mark below 5*10^36, at each minute from the
+/// first to the last: of a tide within the limits, and of a station that has a curve, by every
+/// constituent of the book.
+pub fn values_are_small()
+    ensures turn { (version : Version) (tide : Tide) → IsGentle tide → IsBelow slope_limit (turn_meaning version tide) }
+    ensures mark { (version : Version) (tide : Tide) (times plus mark : ℤ) (slack : Bool) →
+        IsGentle tide → IsScale times plus mark → IsBelow mark_limit (mark_meaning version tide times plus mark slack) }
+    ensures station_turn { (version : Version) (b : Book) (s : Station) (tide : Tide) →
+        IsBook b → IsStation (length b.constituents) s → curve_of b s ≡ Ok tide →
+        IsBelow slope_limit (predicted_turn version b s) }
+    ensures station_mark { (version : Version) (b : Book) (s : Station) (tide : Tide) (times plus mark : ℤ) (slack : Bool) →
+        IsBook b → IsStation (length b.constituents) s → curve_of b s ≡ Ok tide → IsScale times plus mark →
+        IsBelow mark_limit (predicted_mark version b s times plus mark slack) }
 {}

@@ -93,7 +93,7 @@ impl<'a> MarkCurve<'a> {
 impl<'a> Curve for MarkCurve<'a> {
     ghost use Rattle.rate_bound.specs.Meanings.{over_mark, mark_meaning};
     ghost use Rattle.rate_bound.specs.Workings.MarkLaw.{mark_lawful};
-    ghost use Rattle.rate_bound.specs.Workings.Narrow.{level_narrow};
+    ghost use Rattle.rate_bound.specs.Workings.Narrow.{level_narrow, level_close};
 
     ghost meaning = { λ c. mark_meaning c.version c.station.now c.times c.plus c.mark c.slack };
 
@@ -106,6 +106,8 @@ impl<'a> Curve for MarkCurve<'a> {
     ghost lawful = { λ c. mark_lawful c.version c.station.now c.times c.plus c.mark c.slack c.gentle c.scale };
 
     ghost narrow = { λ c. level_narrow c.station.now c.times c.plus c.mark c.gentle c.scale };
+
+    ghost close = { λ c m at. level_close c.version c.station.now c.times c.plus c.mark c.slack m c.gentle at };
 
     fn first(&self) -> i64 {
         self.station.first()
@@ -125,7 +127,7 @@ impl<'a> Curve for MarkCurve<'a> {
         over_mark(self.times, self.plus, self.mark, self.station.near_level(m))
     }
 
-    fn exact_value(&self, m: i64, _told: i128) -> i128 {
+    fn exact_value(&self, m: i64, _near_value: i128) -> i128 {
         over_mark(self.times, self.plus, self.mark, self.station.level(m))
     }
 

@@ -62,7 +62,7 @@ impl<'a> TurnCurve<'a> {
 impl<'a> Curve for TurnCurve<'a> {
     ghost use Rattle.rate_bound.specs.Meanings.{turn_meaning};
     ghost use Rattle.rate_bound.specs.Workings.TurnLaw.{turn_lawful};
-    ghost use Rattle.rate_bound.specs.Workings.Narrow.{slope_narrow};
+    ghost use Rattle.rate_bound.specs.Workings.Narrow.{slope_narrow, slope_close};
 
     ghost meaning = { λ c. turn_meaning c.version c.station.now };
 
@@ -75,6 +75,8 @@ impl<'a> Curve for TurnCurve<'a> {
     ghost lawful = { λ c. turn_lawful c.version c.station.now c.gentle };
 
     ghost narrow = { λ c. slope_narrow c.station.now c.gentle };
+
+    ghost close = { λ c m at. slope_close c.version c.station.now m c.gentle at };
 
     fn first(&self) -> i64 {
         self.station.first()
@@ -94,7 +96,7 @@ impl<'a> Curve for TurnCurve<'a> {
         self.station.near_slope(m)
     }
 
-    fn exact_value(&self, m: i64, _told: i128) -> i128 {
+    fn exact_value(&self, m: i64, _near_value: i128) -> i128 {
         self.station.slope(m)
     }
 

@@ -25,7 +25,7 @@ pub use following::{
 };
 pub use knowing::find_known;
 pub use levels::{check_level, is_rising, level_at, worked_levels};
-pub use peaks::{find_highest, find_level, judge_highest, moved_minute};
+pub use peaks::{find_highest, find_level, highest_minute, judge_highest, moved_minute};
 pub use reach::Reach;
 pub use station::{Found, find_station, reached, station_at};
 pub use worked::worked_spans;

@@ -17,7 +17,7 @@ use crate::station::{Found, find_station};
 use curve_law::Curve;
 use decimal_text::Text;
 use harmonics_text::SoundBook;
-use highest_water::{Peak, PeakVerdict, check_peak, find_peak};
+use highest_water::{Peak, PeakVerdict, check_peak, find_peak, highest_point};
 use rate_bound::MarkCurve;
 use station_table::OffsetTable;
 use std::alloc::{AllocError, Global};
@@ -57,6 +57,18 @@ pub fn find_highest(alloc: Global, found: &Found, asked: &Asked) -> Result<Peak,
     let end = source(found, asked.end);
     let peak = find_peak(alloc, &mut level_curve(found), begin, end)?;
     Ok(peak)
+}
+
+/// The minute of that highest water, which is found without its cells. The span has a minute.
+#[tactic(auto, unfolding(crate::specs::Workings::Peaks::tide_peak))]
+pub fn highest_minute(found: &Found, asked: &Asked) -> i64
+    requires { HasHighest found.now asked.now }
+    ensures exact { result ≡ (tide_peak found.now asked.now).at }
+    ensures inside { IsSourceIn found.now asked.now result }
+{
+    let begin = source(found, asked.begin);
+    let end = source(found, asked.end);
+    highest_point(&mut level_curve(found), begin, end).minute
 }
 
 /// What a check finds on a highest water that is written of the span. Its value is below 10^37 in

@@ -44,6 +44,12 @@ highest_whole book table name asked zone site found peak expected is same inside
     let text = text_alike book asked site found name peak.at zone is inside in
     rw (expected, ← at, ← text) refl
 
+-- the same by the minute alone
+pub highest_at : (book : Book) (table : List Offsets) (name : List ℕ) (asked : Asked) (zone : Zone) (site : Site) (found : Found) (at : ℤ) → highest_site book table name asked ≡ Ok site → IsHighestFound book asked site found
+    → at ≡ (tide_peak found asked).at → IsSourceIn found asked at → highest book table name asked zone ≡ Ok (text_alone (tide_highest_text found name at zone))
+highest_at book table name asked zone site found at sited alike is inside =
+    rw is (highest_whole book table name asked zone site found (tide_peak found asked) sited alike refl (rw is at inside))
+
 -- ---- the certificate that is written
 
 pub certified_whole : (book : Book) (table : List Offsets) (name : List ℕ) (asked : Asked) (site : Site) (found : Found) (peak : Peak) → highest_site book table name asked ≡ Ok site → IsHighestFound book asked site found → peak ≡ tide_peak found asked → peak_certified book table name asked ≡ Ok (text_alone (peak_text (peak_certificate_in name asked peak)))

@@ -13,7 +13,9 @@ use decimal_text::{Bytes, Text};
 use harmonics_text::SoundBook;
 use highest_water::{Peak, PeakCertificate, write_peak};
 use listing::highest_text;
-use station_span::{Asked, Found, find_highest, find_level, level_at, moved_minute};
+use station_span::{
+    Asked, Found, find_highest, find_level, highest_minute, level_at, moved_minute,
+};
 use station_table::OffsetTable;
 use std::alloc::{AllocError, Global};
 use tide_fault::Refusal;
@@ -35,8 +37,8 @@ pub fn tell_highest(
     ensures told { IfErr result (IsToldRefusal table.now) }
 {
     let found = find_level(alloc, book, table, name, asked)?;
-    let peak = find_highest(alloc, &found, asked)?;
-    let text = highest_text_at(alloc, &found, asked, name, peak.at, zone)?;
+    let at = highest_minute(&found, asked);
+    let text = highest_text_at(alloc, &found, asked, name, at, zone)?;
     Ok(text_alone(text))
 }
 

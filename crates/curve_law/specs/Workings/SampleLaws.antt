@@ -1,8 +1,10 @@
 -- The small curves are lawful.
 use Rattle.std.specs.Prelude.{◌≡◌, ◌^◌, ◌<◌, ◌≤◌, ℤ, pos, negsuc, ◌+ℤ◌, ◌-ℤ◌, ◌≤ℤ◌, unsigned_abs, Some, Bool, true, false, cond}
+use Rattle.std.specs.Int.{int_rem_euclid}
+use Rattle.std.specs.Ordering.{int_eq}
 use Rattle.std.proofs.Common.{arith}
 use Rattle.std.proofs.lemmas.Int.{ints}
-use Rattle.curve_law.specs.Meaning.{IsMinute, IsLawful}
+use Rattle.curve_law.specs.Meaning.{IsMinute, IsNearValue, IsLawful}
 use Rattle.curve_law.specs.Samples.{line, ripple}
 
 line-value : (start : ℤ) (falls : Bool) (rate m : ℤ) → unsigned_abs start ≤ 10 ^ 12 → IsMinute (line start falls rate) m → unsigned_abs (cond falls (start -ℤ m) (start +ℤ m)) < 10 ^ 37
@@ -39,6 +41,19 @@ ripple-lawful = record {
   values = λ m minute. ripple-value _;
   rates = λ a n rate cell is. cc;
 }
+
+off_by_one : (v : ℤ) → unsigned_abs ((v +ℤ pos 1) -ℤ v) ≤ 1
+off_by_one v = omega (arith, ints)
+
+pub line-close : (start : ℤ) (falls : Bool) (rate m : ℤ) → IsNearValue (line start falls rate) 1 m ((line start falls rate).track.value m +ℤ pos 1)
+line-close start falls rate m = off_by_one ((line start falls rate).track.value m)
+
+near_zero : (b : Bool) → unsigned_abs (pos 0 -ℤ cond b (pos 1) (negsuc 0)) ≤ 1
+near_zero true = omega arith
+near_zero false = omega arith
+
+pub ripple-close : (m : ℤ) → IsNearValue ripple 1 m (pos 0)
+ripple-close m = near_zero (int_eq (int_rem_euclid m (pos 2)) (pos 0))
 
 pub one_is_narrow : 1 ≤ 10 ^ 36
 one_is_narrow = omega arith

@@ -40,7 +40,7 @@ impl Line {
 
 impl Curve for Line {
     ghost use Rattle.curve_law.specs.Samples.{line};
-    ghost use Rattle.curve_law.specs.Workings.SampleLaws.{line-lawful, one_is_narrow};
+    ghost use Rattle.curve_law.specs.Workings.SampleLaws.{line-lawful, line-close, one_is_narrow};
 
     ghost meaning = { λ l. line l.start l.falls l.rate };
 
@@ -53,6 +53,8 @@ impl Curve for Line {
     ghost lawful = { λ l. line-lawful l.start l.falls l.rate l.near l.gentle l.small };
 
     ghost narrow = { λ _. one_is_narrow };
+
+    ghost close = { λ l m _. line-close l.start l.falls l.rate m };
 
     fn first(&self) -> i64 {
         -1_000_000
@@ -72,7 +74,7 @@ impl Curve for Line {
         height(self.start, self.falls, m) as i128 + 1
     }
 
-    fn exact_value(&self, m: i64, _told: i128) -> i128 {
+    fn exact_value(&self, m: i64, _near_value: i128) -> i128 {
         height(self.start, self.falls, m) as i128
     }
 

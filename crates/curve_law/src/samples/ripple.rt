@@ -27,7 +27,7 @@ impl Ripple {
 
 impl Curve for Ripple {
     ghost use Rattle.curve_law.specs.Samples.{ripple};
-    ghost use Rattle.curve_law.specs.Workings.SampleLaws.{ripple-lawful, one_is_narrow};
+    ghost use Rattle.curve_law.specs.Workings.SampleLaws.{ripple-lawful, ripple-close, one_is_narrow};
 
     ghost meaning = { λ _. ripple };
 
@@ -40,6 +40,8 @@ impl Curve for Ripple {
     ghost lawful = { λ _. ripple-lawful };
 
     ghost narrow = { λ _. one_is_narrow };
+
+    ghost close = { λ _ m _. ripple-close m };
 
     fn first(&self) -> i64 {
         -1_000_000
@@ -59,7 +61,7 @@ impl Curve for Ripple {
         0
     }
 
-    fn exact_value(&self, m: i64, _told: i128) -> i128 {
+    fn exact_value(&self, m: i64, _near_value: i128) -> i128 {
         wave(m)
     }
 

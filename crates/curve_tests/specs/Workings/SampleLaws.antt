@@ -3,7 +3,7 @@ use Rattle.std.specs.Prelude.{◌≡◌, ℕ, ◌^◌, ◌<◌, ◌≤◌, ℤ, 
 use Rattle.std.specs.Int.{int_max}
 use Rattle.std.proofs.Common.{arith}
 use Rattle.std.proofs.lemmas.Int.{ints}
-use Rattle.curve_law.specs.Meaning.{IsLawful}
+use Rattle.curve_law.specs.Meaning.{IsNearValue, IsLawful}
 use Rattle.highest_water.specs.Samples.{hill, hills}
 
 hill-value : (at top m : ℤ) → unsigned_abs at ≤ 10 ^ 12 → unsigned_abs top ≤ 10 ^ 12 → unsigned_abs m ≤ 10 ^ 6 → unsigned_abs (hill at top m) ≤ 10 ^ 13
@@ -40,6 +40,12 @@ hills-lawful at top other_at other_top rate near low other_near other_low gentle
       let same = same_rate rate told is in
       record { small = omega (arith, ints); steps = λ k few. rw (← same) (hills-step at top other_at other_top rate (a +ℤ pos k) gentle) };
 }
+
+no_gap : (v : ℤ) → unsigned_abs (v -ℤ v) ≤ 0
+no_gap v = omega (arith, ints)
+
+pub hills-close : (at top other_at other_top rate m : ℤ) → IsNearValue (hills at top other_at other_top rate) 0 m ((hills at top other_at other_top rate).track.value m)
+hills-close at top other_at other_top rate m = no_gap (int_max (hill at top m) (hill other_at other_top m))
 
 pub none_is_narrow : 0 ≤ 10 ^ 36
 none_is_narrow = omega arith

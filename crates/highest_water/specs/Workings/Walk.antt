@@ -26,7 +26,7 @@ pub record Stands (c : Meaning) (count : ℕ) (end : ℤ) (at : Point) (ahead : 
   pub value : at.value ≡ c.track.value at.minute
   pub first : c.first ≤ℤ at.minute
   pub last : end ≤ℤ c.last
-  pub pieces : ArePieces c 0 end at.minute ahead
+  pub pieces : ArePieces c.track.value end at.minute ahead
   pub few : count + minutes_to at.minute end ≤ length ahead + (2 ^ 62 + 2 ^ 61 + 2 ^ 60 + 1)
 
 -- a cell is one minute, or is under a minute's value

@@ -2,7 +2,7 @@
 use Rattle.std.specs.Prelude.{◌≡◌, ℕ, ◌+◌, ◌-◌, ◌*◌, ◌^◌, ◌≤◌, ℤ, pos, ◌+ℤ◌, ◌-ℤ◌, ◌≤ℤ◌, ◌<ℤ◌, unsigned_abs, false, List, [], ◌∷◌, ◌++◌, length, Option, Some, None}
 use Rattle.curve_law.specs.declared.cell.Cell.{Cell}
 use Rattle.curve_law.specs.declared.quiet.TheConstants.{MOST_MINUTES}
-use Rattle.curve_law.specs.Meaning.{Meaning, IsNearValue}
+use Rattle.curve_law.specs.Meaning.{Meaning}
 use Rattle.curve_law.specs.Cover.{is_quiet, split, cover}
 use Rattle.interval_search.specs.declared.front.Front.{Front}
 use Rattle.curve_law.specs.declared.point.Point.{Point}
@@ -11,14 +11,14 @@ use Rattle.interval_search.specs.Looking.{Looking}
 abbrev pub minutes_to : ℤ → ℤ → ℕ
 minutes_to a b = unsigned_abs (b -ℤ a)
 
--- points near those of a curve, which begin and end a piece of at most 1,024 minutes
-pub record IsPiece (c : Meaning) (error : ℕ) (begin end : Point) : Type 0 where
+-- points that have these values of a curve, and begin and end a piece of at most 1,024 minutes
+pub record IsPiece (c : Meaning) (values : ℤ → ℤ) (begin end : Point) : Type 0 where
   pub first : c.first ≤ℤ begin.minute
   pub last : end.minute ≤ℤ c.last
   pub some : begin.minute <ℤ end.minute
   pub few : end.minute ≤ℤ (begin.minute +ℤ pos MOST_MINUTES)
-  pub near : IsNearValue c error begin.minute begin.value
-  pub end_near : IsNearValue c error end.minute end.value
+  pub value : begin.value ≡ values begin.minute
+  pub end_value : end.value ≡ values end.minute
 
 -- the one cell of so many minutes, or none where they are to be halved
 abbrev pub IsSplit : Meaning → ℤ → ℕ → Option Cell → Type 0
@@ -30,22 +30,22 @@ unfoldable pub cells_ahead : Meaning → ℤ → ℤ → List Point → List Cel
 cells_ahead c end a [] = cover c a (minutes_to a end)
 cells_ahead c end a (p ∷ ps) = split c a (minutes_to a p.minute) ++ cells_ahead c end p.minute ps
 
--- the points are near those of the curve, and each piece was halved once more than the next one
-unfoldable pub ArePieces : Meaning → ℕ → ℤ → ℤ → List Point → Type 0
-ArePieces c error end a [] = a ≤ℤ end
-ArePieces c error end a (p ∷ ps) =
-    (a <ℤ p.minute) × (minutes_to a p.minute * 2 ^ length ps ≤ MOST_MINUTES) × IsNearValue c error p.minute p.value × ArePieces c error end p.minute ps
+-- the points have these values, and each piece was halved once more than the next one
+unfoldable pub ArePieces : (ℤ → ℤ) → ℤ → ℤ → List Point → Type 0
+ArePieces values end a [] = a ≤ℤ end
+ArePieces values end a (p ∷ ps) =
+    (a <ℤ p.minute) × (minutes_to a p.minute * 2 ^ length ps ≤ MOST_MINUTES) × (p.value ≡ values p.minute) × ArePieces values end p.minute ps
 
 -- the values that are asked for until all cells are given, and one more for each point that is ahead
 abbrev pub IsFew : ℕ → ℕ → ℕ → Type 0
 IsFew count cells points = count + cells ≤ points + (2 ^ 62 + 2 ^ 61 + 1)
 
 -- how far a search has come: to a point, with the ends of the pieces ahead, the nearest one first
-pub record Stands (c : Meaning) (error : ℕ) (count : ℕ) (end : ℤ) (at : Point) (ahead : List Point) : Type 0 where
-  pub near : IsNearValue c error at.minute at.value
+pub record Stands (c : Meaning) (values : ℤ → ℤ) (count : ℕ) (end : ℤ) (at : Point) (ahead : List Point) : Type 0 where
+  pub value : at.value ≡ values at.minute
   pub first : c.first ≤ℤ at.minute
   pub last : end ≤ℤ c.last
-  pub pieces : ArePieces c error end at.minute ahead
+  pub pieces : ArePieces values end at.minute ahead
   pub few : IsFew count (length (cells_ahead c end at.minute ahead)) (length ahead)
 
 -- what a search with a curve of this meaning and count, which has come this far, is seen as

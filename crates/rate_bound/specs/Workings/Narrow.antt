@@ -1,12 +1,25 @@
 -- Near values of both curves are near enough for sums of such.
-use Rattle.std.proofs.Common.{◌*◌, ◌^◌, ◌≤◌, ℤ, unsigned_abs, arith}
+use Rattle.std.proofs.Common.{◌*◌, ◌^◌, ◌≤◌, ℕ, ℤ, pos, ◌-ℤ◌, ◌*ℤ◌, unsigned_abs, length, Bool, refl, arith}
 use Rattle.std.proofs.lemmas.Int.{ints}
 use Rattle.std.proofs.lemmas.Nat.{mul-le}
+use Rattle.curve_law.specs.Meaning.{IsMinute, IsNearValue}
+use Rattle.year_blend.specs.Places.{InDomain}
+use Rattle.year_blend.specs.Weights.{total_weight}
+use Rattle.year_blend.proofs.PlaceLemmas.{place_of-rule}
 use Rattle.station_curve.specs.Waves.{Tide, amount_of, steepness_of}
+use Rattle.station_curve.specs.Levels.{place_in_tide, level_of}
+use Rattle.station_curve.specs.Near.{near_level_of, near_slope_of}
+use Rattle.station_curve.specs.Workings.Nearness.{IsNearPlace}
+use Rattle.station_curve.proofs.Gaps.{scaled_gap}
+use Rattle.station_curve.proofs.Near.{near_place}
+use Rattle.station_curve.proofs.Nearly.{level_near, slope_near}
 use Rattle.station_curve.specs.Limits.{IsGentle}
 use Rattle.station_curve.specs.Errors.{level_error_of, slope_error_of}
 use Rattle.station_curve.proofs.GreatestYear.{greatest-most}
+use Rattle.rate_bound.specs.declared.version.Version.{Version}
+use Rattle.rate_bound.specs.Meanings.{over_mark, turn_meaning, mark_meaning}
 use Rattle.rate_bound.specs.Scale.{IsScale}
+use Rattle.rate_bound.specs.Workings.MarkLaw.{same_mark}
 
 pub slope_narrow : (tide : Tide) → IsGentle tide → slope_error_of tide ≤ 10 ^ 36
 unfolding slope_error_of
@@ -24,3 +37,24 @@ level_narrow tide times plus mark gentle scale =
     let error : level_error_of tide ≤ 10 ^ 24 = omega (arith, most) in
     let product = mul-le (unsigned_abs times) (level_error_of tide) (10 ^ 8) (10 ^ 24) few error in
     omega (arith, product)
+
+place_near : (tide : Tide) (m : ℤ) → IsGentle tide → InDomain tide.first_year (length tide.years) m → IsNearPlace tide.first_year (length tide.years) m (place_in_tide tide m)
+place_near tide m gentle domain =
+    near_place tide.first_year (length tide.years) m (place_in_tide tide m) gentle.years.least (place_of-rule tide.first_year (length tide.years) m gentle.years domain)
+
+pub slope_close : (version : Version) (tide : Tide) (m : ℤ) → IsGentle tide → IsMinute (turn_meaning version tide) m
+    → IsNearValue (turn_meaning version tide) (slope_error_of tide) m (near_slope_of tide m)
+slope_close version tide m gentle at =
+    slope_near tide m (place_in_tide tide m) refl (place_near tide m gentle (record { least = at.first; most = at.last }))
+
+-- a level that is near the station's, scaled and set against a mark
+near-mark : (times plus mark near level : ℤ) (error : ℕ) → unsigned_abs (near -ℤ level) ≤ error → unsigned_abs (over_mark times plus mark near -ℤ over_mark times plus mark level) ≤ unsigned_abs times * error
+near-mark times plus mark near level error close =
+    let raised = pos (10 ^ 6 * total_weight * 10 ^ 9) *ℤ (plus -ℤ mark) in
+    rw (same_mark (times *ℤ near) (times *ℤ level) raised) (scaled_gap times near level error close)
+
+pub level_close : (version : Version) (tide : Tide) (times plus mark : ℤ) (slack : Bool) (m : ℤ) → IsGentle tide → IsMinute (mark_meaning version tide times plus mark slack) m
+    → IsNearValue (mark_meaning version tide times plus mark slack) (unsigned_abs times * level_error_of tide) m (over_mark times plus mark (near_level_of tide m))
+level_close version tide times plus mark slack m gentle at =
+    near-mark times plus mark (near_level_of tide m) (level_of tide m) (level_error_of tide)
+    (level_near tide m (place_in_tide tide m) refl (place_near tide m gentle (record { least = at.first; most = at.last })))

@@ -21,6 +21,12 @@ returns-then-branch g c =
       | inr short ↦ too_short meaning c.args.a c.args.n short.1
     ]
 
+pub side_of-requires-2-clause-near : goal.side_of-requires-2-clause-near
+side_of-requires-2-clause-near g c =
+    let end_near = to_z-of_z w128 c.args.end_near c.ranges.end_near in
+    let sizes = near-sizes (g.C.Curve.meaning c.args.curve.now) c.args.a c.args.n _ c.args.near c.args.end_near (g.met.C.Curve.lawful c.args.curve.now) (g.met.C.Curve.narrow c.args.curve.now) c.requires.span c.requires.near c.requires.end_near in
+    rw end_near sizes.1
+
 pub overflow_add-near : goal.overflow_add-near
 overflow_add-near g c =
     let sizes = near-sizes (g.C.Curve.meaning c.args.curve.now) c.args.a c.args.n _ c.args.near c.args.end_near (g.met.C.Curve.lawful c.args.curve.now) (g.met.C.Curve.narrow c.args.curve.now) c.requires.span c.requires.near c.requires.end_near in

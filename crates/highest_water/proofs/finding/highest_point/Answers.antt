@@ -1,7 +1,7 @@
 use Rattle.std.proofs.Common.{w64, to_z, of_z, ◌≤ℤ◌, length, ap, arith, ◌∙◌}
 use Rattle.std.proofs.lemmas.Int.{ints, to_z-of_z}
 use Rattle.curve_law.specs.declared.point.Point.{Point}
-use Rattle.highest_water.proofs.FindingLemmas.{first-so_far, cell-so_far, all-so_far, right-some, point-small}
+use Rattle.highest_water.proofs.FindingLemmas.{first-so_far, cell-so_far, all-so_far, right-some, point-small, highest-is}
 use Rattle.highest_water.proofs.finding.highest_point.Goals as goal
 
 pub loop-found-init : goal.loop-found-init
@@ -52,6 +52,12 @@ returns-clause-highest g c =
     let done = c.in_default.ensures.found.0 ∙ c.loop-found.invariant.until in
     rw (to_z-of_z w64 c.args.begin c.ranges.begin, to_z-of_z w64 c.args.end c.ranges.end) at
     (all-so_far (g.C.Curve.meaning c.args.curve.now) _ _ c.loop-found.walk.at.minute c.loop-found.highest done c.loop-found.invariant.so_far)
+
+pub returns-clause-minute : goal.returns-clause-minute
+returns-clause-minute g c = (highest-is (g.C.Curve.meaning c.args.curve.now) c.args.begin c.args.end _ _ (returns-clause-highest g c)).0
+
+pub returns-clause-value : goal.returns-clause-value
+returns-clause-value g c = (highest-is (g.C.Curve.meaning c.args.curve.now) c.args.begin c.args.end _ _ (returns-clause-highest g c)).1
 
 pub returns-clause-count : goal.returns-clause-count
 returns-clause-count g c =

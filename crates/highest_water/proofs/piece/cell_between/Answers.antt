@@ -3,7 +3,6 @@ use Rattle.std.proofs.lemmas.Int.{ints, to_z-of_z}
 use mir.Syntax.{w128}
 use Rattle.highest_water.specs.Covers.{peak_split}
 use Rattle.highest_water.proofs.CoverLemmas.{split-single, split-under}
-use Rattle.highest_water.proofs.WalkLemmas.{near-exact}
 use Rattle.highest_water.proofs.piece.cell_between.Goals as goal
 
 pub returns-then-n-eq1 : goal.returns-then-n-eq1
@@ -28,4 +27,4 @@ is_under-requires-clause-end_value g c =
     let value : FitsSigned w128 c.args.end.value = search rules in
     let n = simp to_z-of_z at c.minutes_to-n.ensures in
     let there : c.args.begin.minute +ℤ pos c.minutes_to-n.result ≡ c.args.end.minute = omega (arith, ints, n, c.requires.piece.some) in
-    rw (to_z-of_z w128 c.args.end.value value, there) (near-exact c.args.end.value _ c.requires.piece.end_near)
+    rw (to_z-of_z w128 c.args.end.value value, there) c.requires.piece.end_value

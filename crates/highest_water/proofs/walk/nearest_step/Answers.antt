@@ -10,7 +10,7 @@ cell_between-requires-clause-piece g c =
 
 pub push-requires : goal.push-requires
 push-requires g c =
-    waiting-few _ _ _ _ _ _ c.loop-cell.invariant.stands.pieces
+    waiting-few _ _ _ _ _ c.loop-cell.invariant.stands.pieces
 
 pub middle-near-requires-clause-piece : goal.middle-near-requires-clause-piece
 middle-near-requires-clause-piece g c = rw c.loop-cell.invariant.same (nearest-piece _ _ _ _ _ _ c.loop-cell.invariant.stands)

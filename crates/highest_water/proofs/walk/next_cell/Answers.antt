@@ -15,7 +15,7 @@ returns-then-at-end-clause-found g c =
 pub nearest_end-near-requires-clause-onward : goal.nearest_end-near-requires-clause-onward
 nearest_end-near-requires-clause-onward g c =
     let end : FitsSigned w64 c.args.walk.now.end = search rules in
-    let onward = before-end (g.C.Curve.meaning c.args.curve.now) 0 c.args.walk.now.end c.args.walk.now.at.minute c.args.walk.now.waiting c.requires.stands.pieces (λ e. c.if-at-end.false (ap (of_z w64) e)) in
+    let onward = before-end (g.C.Curve.meaning c.args.curve.now).track.value c.args.walk.now.end c.args.walk.now.at.minute c.args.walk.now.waiting c.requires.stands.pieces (λ e. c.if-at-end.false (ap (of_z w64) e)) in
     rw (to_z-of_z w64 c.args.walk.now.end end) onward
 
 pub returns-clause-stands : goal.returns-clause-stands
@@ -36,4 +36,4 @@ returns-clause-found g c =
     let onward = given-onward meaning c.args.highest _ c.args.walk.now.end c.args.walk.now.at _ _ _ stands cell in
     let right = given-right meaning c.args.highest _ c.args.walk.now.end c.args.walk.now.at _ _ _ stands cell in
     let left = given-stands meaning _ c.args.walk.now.end c.args.walk.now.at _ _ stands in
-    (refl {a = c.args.walk.now.at}, sym begun ∙ sym halved ∙ given, onward, right, pieces-end meaning 0 c.args.walk.now.end _ _ left.pieces)
+    (refl {a = c.args.walk.now.at}, sym begun ∙ sym halved ∙ given, onward, right, pieces-end meaning.track.value c.args.walk.now.end _ _ left.pieces)

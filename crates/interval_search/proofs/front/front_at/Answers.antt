@@ -1,5 +1,6 @@
-use Rattle.std.proofs.Common.{w64, FitsSigned}
+use Rattle.std.proofs.Common.{ap, w64, FitsSigned}
 use Rattle.std.proofs.lemmas.Int.{to_z-of_z}
+use Rattle.curve_law.specs.declared.point.Point.{Point}
 use Rattle.interval_search.proofs.AheadLemmas.{first-stands}
 use Rattle.interval_search.proofs.front.front_at.Goals as goal
 
@@ -7,16 +8,18 @@ pub returns-clause-stands : goal.returns-clause-stands
 returns-clause-stands g c =
     let begin : FitsSigned w64 c.args.begin = c.ranges.begin in
     let end = to_z-of_z w64 c.args.end c.ranges.end in
-    let minute = simp to_z-of_z at c.near_point_at.ensures.minute in
-    let near = simp to_z-of_z at c.near_point_at.ensures.near in
-    let first = first-stands (g.C.Curve.meaning c.args.curve.now) (g.C.Curve.error c.args.curve.now) (g.C.Curve.count c.args.curve.now) (g.C.Curve.count c.near_point_at.new.curve) c.args.begin c.args.end c.near_point_at.result c.new.result (g.met.C.Curve.lawful c.args.curve.now) c.requires.forward c.requires.first c.requires.last c.requires.few c.near_point_at.ensures.counted minute near c.new.ensures in
+    let point = simp to_z-of_z at c.near_point_at.ensures.point in
+    let minute = ap (λ (p : Point). p.minute) point in
+    let near = ap (λ (p : Point). p.value) point in
+    let first = first-stands (g.C.Curve.meaning c.args.curve.now) (g.C.Curve.near c.args.curve.now) (g.C.Curve.count c.args.curve.now) (g.C.Curve.count c.near_point_at.new.curve) c.args.begin c.args.end c.near_point_at.result c.new.result (g.met.C.Curve.lawful c.args.curve.now) c.requires.forward c.requires.first c.requires.last c.requires.few c.near_point_at.ensures.counted minute near c.new.ensures in
     rw end first.0
 
 pub returns-clause-cells : goal.returns-clause-cells
 returns-clause-cells g c =
     let begin : FitsSigned w64 c.args.begin = c.ranges.begin in
     let end = to_z-of_z w64 c.args.end c.ranges.end in
-    let minute = simp to_z-of_z at c.near_point_at.ensures.minute in
-    let near = simp to_z-of_z at c.near_point_at.ensures.near in
-    let first = first-stands (g.C.Curve.meaning c.args.curve.now) (g.C.Curve.error c.args.curve.now) (g.C.Curve.count c.args.curve.now) (g.C.Curve.count c.near_point_at.new.curve) c.args.begin c.args.end c.near_point_at.result c.new.result (g.met.C.Curve.lawful c.args.curve.now) c.requires.forward c.requires.first c.requires.last c.requires.few c.near_point_at.ensures.counted minute near c.new.ensures in
+    let point = simp to_z-of_z at c.near_point_at.ensures.point in
+    let minute = ap (λ (p : Point). p.minute) point in
+    let near = ap (λ (p : Point). p.value) point in
+    let first = first-stands (g.C.Curve.meaning c.args.curve.now) (g.C.Curve.near c.args.curve.now) (g.C.Curve.count c.args.curve.now) (g.C.Curve.count c.near_point_at.new.curve) c.args.begin c.args.end c.near_point_at.result c.new.result (g.met.C.Curve.lawful c.args.curve.now) c.requires.forward c.requires.first c.requires.last c.requires.few c.near_point_at.ensures.counted minute near c.new.ensures in
     rw end first.1

@@ -1,5 +1,6 @@
-use Rattle.std.proofs.Common.{w64, FitsSigned, rules}
+use Rattle.std.proofs.Common.{ap, w64, FitsSigned, rules}
 use Rattle.std.proofs.lemmas.Int.{to_z-of_z}
+use Rattle.curve_law.specs.declared.point.Point.{Point}
 use Rattle.interval_search.proofs.AheadLemmas.{begun-at}
 use Rattle.interval_search.proofs.front.nearest_end.Goals as goal
 
@@ -9,10 +10,11 @@ returns-in-None-clause-stands g c =
     let last : FitsSigned w64 c.args.end = c.ranges.end in
     let block : FitsSigned w64 c.block_end.result = search rules in
     let end = simp to_z-of_z at c.block_end.ensures in
-    let minute = simp to_z-of_z at c.near_point_at.ensures.minute in
-    let near = simp to_z-of_z at c.near_point_at.ensures.near in
+    let point = simp to_z-of_z at c.near_point_at.ensures.point in
+    let minute = ap (λ (p : Point). p.minute) point in
+    let near = ap (λ (p : Point). p.value) point in
     let empty = c.in-None.ensures in
-    (begun-at (g.C.Curve.meaning c.args.curve.now) (g.C.Curve.error c.args.curve.now) (g.C.Curve.count c.args.curve.now) (g.C.Curve.count c.near_point_at.new.curve) c.args.end c.args.at c.block_end.result c.near_point_at.result c.args.waiting.now c.pop.new.self c.requires.onward end minute near c.near_point_at.ensures.counted empty.0 empty.1 c.requires.stands).0
+    (begun-at (g.C.Curve.meaning c.args.curve.now) (g.C.Curve.near c.args.curve.now) (g.C.Curve.count c.args.curve.now) (g.C.Curve.count c.near_point_at.new.curve) c.args.end c.args.at c.block_end.result c.near_point_at.result c.args.waiting.now c.pop.new.self c.requires.onward end minute near c.near_point_at.ensures.counted empty.0 empty.1 c.requires.stands).0
 
 pub returns-in-None-clause-cells : goal.returns-in-None-clause-cells
 returns-in-None-clause-cells g c =
@@ -20,7 +22,8 @@ returns-in-None-clause-cells g c =
     let last : FitsSigned w64 c.args.end = c.ranges.end in
     let block : FitsSigned w64 c.block_end.result = search rules in
     let end = simp to_z-of_z at c.block_end.ensures in
-    let minute = simp to_z-of_z at c.near_point_at.ensures.minute in
-    let near = simp to_z-of_z at c.near_point_at.ensures.near in
+    let point = simp to_z-of_z at c.near_point_at.ensures.point in
+    let minute = ap (λ (p : Point). p.minute) point in
+    let near = ap (λ (p : Point). p.value) point in
     let empty = c.in-None.ensures in
-    (begun-at (g.C.Curve.meaning c.args.curve.now) (g.C.Curve.error c.args.curve.now) (g.C.Curve.count c.args.curve.now) (g.C.Curve.count c.near_point_at.new.curve) c.args.end c.args.at c.block_end.result c.near_point_at.result c.args.waiting.now c.pop.new.self c.requires.onward end minute near c.near_point_at.ensures.counted empty.0 empty.1 c.requires.stands).1
+    (begun-at (g.C.Curve.meaning c.args.curve.now) (g.C.Curve.near c.args.curve.now) (g.C.Curve.count c.args.curve.now) (g.C.Curve.count c.near_point_at.new.curve) c.args.end c.args.at c.block_end.result c.near_point_at.result c.args.waiting.now c.pop.new.self c.requires.onward end minute near c.near_point_at.ensures.counted empty.0 empty.1 c.requires.stands).1

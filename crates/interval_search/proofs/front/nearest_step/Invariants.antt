@@ -8,8 +8,8 @@ invariant-loop-cell g l =
     let meaning = g.C.Curve.meaning l.fn.curve in
     record {
       same : g.C.Curve.meaning l.curve ≡ meaning;
-      same_error : g.C.Curve.error l.curve ≡ g.C.Curve.error l.fn.curve;
-      stands : Stands meaning (g.C.Curve.error l.fn.curve) (g.C.Curve.count l.curve) l.end l.at (l.near ∷ l.waiting);
+      same_near : g.C.Curve.near l.curve ≡ g.C.Curve.near l.fn.curve;
+      stands : Stands meaning (g.C.Curve.near l.fn.curve) (g.C.Curve.count l.curve) l.end l.at (l.near ∷ l.waiting);
       cells : cells_ahead meaning l.end l.at.minute (l.near ∷ l.waiting) ≡ cells_ahead meaning l.end l.at.minute (l.fn.near ∷ l.fn.waiting);
       counted : g.C.Curve.count l.curve + length l.fn.waiting ≡ g.C.Curve.count l.fn.curve + length l.waiting;
     }

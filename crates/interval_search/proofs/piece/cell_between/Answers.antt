@@ -29,7 +29,7 @@ unit_cell_near-requires-clause-next_near g c =
     let value : FitsSigned w128 c.args.end.value = search rules in
     let one = simp to_z-of_z at c.minutes_to-n.ensures in
     let end : c.args.begin.minute +ℤ pos 1 ≡ c.args.end.minute = omega (arith, ints, one, c.if-n-eq1.true, c.requires.some) in
-    rw (to_z-of_z w64 c.args.begin.minute begin, to_z-of_z w128 c.args.end.value value, end) c.requires.end_near
+    rw (to_z-of_z w64 c.args.begin.minute begin, to_z-of_z w128 c.args.end.value value, end) c.requires.end_value
 
 pub is_quiet_near-requires-clause-end_near : goal.is_quiet_near-requires-clause-end_near
 is_quiet_near-requires-clause-end_near g c =
@@ -37,4 +37,4 @@ is_quiet_near-requires-clause-end_near g c =
     let value : FitsSigned w128 c.args.end.value = search rules in
     let n = simp to_z-of_z at c.minutes_to-n.ensures in
     let end : c.args.begin.minute +ℤ pos c.minutes_to-n.result ≡ c.args.end.minute = omega (arith, ints, n, c.requires.some) in
-    rw (to_z-of_z w64 c.args.begin.minute begin, to_z-of_z w128 c.args.end.value value, end) c.requires.end_near
+    rw (to_z-of_z w64 c.args.begin.minute begin, to_z-of_z w128 c.args.end.value value, end) c.requires.end_value

@@ -11,8 +11,8 @@ invariant-loop-found g l =
     let left = cells_ahead meaning l.front.end l.front.at.minute l.front.waiting in
     record {
       same : g.C.Curve.meaning l.curve ≡ meaning;
-      same_error : g.C.Curve.error l.curve ≡ g.C.Curve.error l.fn.curve;
-      stands : Stands meaning (g.C.Curve.error l.fn.curve) (g.C.Curve.count l.curve) l.front.end l.front.at l.front.waiting;
+      same_near : g.C.Curve.near l.curve ≡ g.C.Curve.near l.fn.curve;
+      stands : Stands meaning (g.C.Curve.near l.fn.curve) (g.C.Curve.count l.curve) l.front.end l.front.at l.front.waiting;
       cells : l.cells.items ++ left ≡ cover meaning l.begin (unsigned_abs (l.end -ℤ l.begin));
       most : g.C.Curve.count l.curve + length left - length l.front.waiting
           ≡ g.C.Curve.count l.fn.curve + length (cover meaning l.begin (unsigned_abs (l.end -ℤ l.begin))) + 1;

@@ -3,11 +3,8 @@ use Rattle.std.proofs.lemmas.Int.{to_z-of_z}
 use mir.Syntax.{w64, w128}
 use mir.Val.{to_z, of_z}
 use Rattle.year_blend.specs.Weights.{total_weight}
-use Rattle.station_curve.specs.Levels.{level_of}
-use Rattle.station_curve.specs.Errors.{level_error_of}
 use Rattle.station_curve.proofs.Products.{cast_small}
 use Rattle.rate_bound.specs.Meanings.{over_mark}
-use Rattle.rate_bound.proofs.Telling.{near-mark}
 use Rattle.rate_bound.proofs.mark.MarkCurveCurve.near_value.Goals as goal
 use Rattle.rate_bound.proofs.mark.MarkCurveCurve.near_value.Goals.{After-over_mark}
 
@@ -27,10 +24,3 @@ returns-clause-value c =
     let curve = c.args.self.now in
     let minute = to_z-of_z w64 c.args.m c.ranges.m in
     scaled c ∙ ap (over_mark curve.times curve.plus curve.mark) (rw minute at c.near_level.ensures.value)
-
-pub returns-clause-near : goal.returns-clause-near
-returns-clause-near c =
-    let curve = c.args.self.now in
-    let minute = to_z-of_z w64 c.args.m c.ranges.m in
-    let near = rw minute at c.near_level.ensures.near in
-    rw (scaled c) (near-mark curve.times curve.plus curve.mark c.near_level.result (level_of curve.station.now c.args.m) (level_error_of curve.station.now) near)
