@@ -23,9 +23,10 @@ use std::alloc::{AllocError, Global};
 use std::process::Abort;
 use std::test::Fail;
 use tide_answer::{
-    Fault, Listed, Slot, accepted_is_true, accepted_peak_is_true, answer_alone,
-    certified_is_accepted, fault_line, fault_status, highest_is_told, peak_certified_is_accepted,
-    peak_certified_is_short, station_events, worked_rows,
+    Fault, Listed, Slot, accepted_is_short, accepted_is_true, accepted_peak_is_short,
+    accepted_peak_is_true, answer_alone, certified_is_accepted, fault_line, fault_status,
+    highest_is_told, peak_certified_is_accepted, peak_certified_is_short, station_events,
+    worked_rows,
 };
 use tide_edge::MemorySink;
 use tide_fault::worked_lines;
@@ -214,8 +215,10 @@ fn laws_and_rows_stand(_rt: HostRuntime) {
     worked_levels();
     certified_is_accepted();
     accepted_is_true();
+    accepted_is_short();
     highest_is_told();
     peak_certified_is_accepted();
     peak_certified_is_short();
     accepted_peak_is_true();
+    accepted_peak_is_short();
 }

@@ -1,5 +1,5 @@
 -- The cells of a track's curve may stand in the track, and have usual levels.
-use Rattle.std.proofs.Common.{◌≡◌, ℕ, suc, ◌≤◌, ◌==◌, ℤ, pos, ◌+ℤ◌, Bool, true, false, ◌&&◌, cond, nat_le, List, [], ◌∷◌, All, refl, ap, ◌∙◌, arith}
+use Rattle.std.proofs.Common.{◌≡◌, ℕ, suc, ◌≤◌, ◌==◌, ℤ, pos, ◌+ℤ◌, Bool, true, false, ◌&&◌, cond, nat_le, List, [], ◌∷◌, length, All, refl, ap, ◌∙◌, arith}
 use Rattle.std.specs.Prelude.{unsigned_abs}
 use Rattle.std.specs.Ordering.{int_eq}
 use Rattle.std.proofs.lemmas.Bool.Decides.{nat_tests, Decides-int_eq, Decides-eqb}
@@ -111,3 +111,28 @@ accepted_track track c s cells is span ok =
 pub usual_track : (track : TrackName) (c : Meaning) (s : Span) (cells : List Cell) → IsOf track c → IsSpan c s.begin (minutes_in s) → verdict c s.begin (minutes_in s) cells ≡ Accepted → All HasUsualLevel cells
 usual_track track c s cells is span ok =
     accepted_all HasUsualLevel c s cells (λ a number cell at right. usual_cell track c a number cell is at right) span ok
+
+-- ---- no more cells than minutes
+
+accepted_least : (c : Meaning) (a : ℤ) (number : ℕ) (cell : Cell) → cell_verdict c a number cell ≡ Accepted → 1 ≤ minutes_of cell
+unfolding cell_verdict
+accepted_least c a number (Quiet n) ok =
+    let least = (quiet_length c a n (accepted_if (is_quiet c a n) _ (NotQuiet number) (λ e. cc) ok).0).0 in omega (arith, least)
+accepted_least c a number Still ok = omega arith
+accepted_least c a number (Turn kind level) ok = omega arith
+
+few_cells : (c : Meaning) (a : ℤ) (number : ℕ) (cells : List Cell) → cells_verdict c a number cells ≡ Accepted → length cells ≤ all_minutes cells
+unfolding cells_verdict all_minutes
+few_cells c a number [] ok = omega arith
+few_cells c a number (cell ∷ cells) ok =
+    let parts = both_accepted (cell_verdict c a number cell) (cells_verdict c (a +ℤ pos (minutes_of cell)) (suc number) cells) ok in
+    let one = accepted_least c a number cell parts.0 in
+    let more = few_cells c (a +ℤ pos (minutes_of cell)) (suc number) cells parts.1 in
+    omega (arith, one, more)
+
+pub few_track : (c : Meaning) (s : Span) (cells : List Cell) → verdict c s.begin (minutes_in s) cells ≡ Accepted → length cells ≤ minutes_in s
+unfolding verdict
+few_track c s cells ok =
+    let whole = accepted_if (all_minutes cells == minutes_in s) _ _ (λ e. cc) ok in
+    let all : all_minutes cells ≡ minutes_in s = (Decides-eqb (all_minutes cells) (minutes_in s)).0 whole.0 in
+    rw (← all) (few_cells c s.begin 1 cells whole.1)

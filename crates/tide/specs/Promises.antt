@@ -1,5 +1,5 @@
 -- What the program promises, whatever the objects are that it works on (this project).
-use Rattle.std.specs.Prelude.{◌≡◌, ℕ, List, [], ◌∷◌, IsSome, IfSome}
+use Rattle.std.specs.Prelude.{◌≡◌, ◌⊎◌, ℕ, Bool, List, [], ◌∷◌, IsSome, IfSome}
 use Rattle.ical_sheet.specs.Calendars.{ical_sheet}
 use Rattle.report_sheets.specs.Listings.{first_sheet}
 use Rattle.report_sheets.specs.Ranges.{range_sheet}
@@ -8,13 +8,15 @@ use Rattle.report_sheets.specs.Tallies.{tally_sheet}
 use Rattle.tide_desk.specs.Outcomes.{EndsAs, outputs}
 use Rattle.tide_desk.specs.Promises.{AnswersAs, objects, states}
 use Rattle.tide_edge.specs.Clocks.{ClockState}
-use Rattle.tide_edge.specs.Doors.{DoorState}
-use Rattle.tide_edge.specs.FileStates.{FilesState}
-use Rattle.tide_edge.specs.SinkStates.{SinkState}
+use Rattle.tide_edge.specs.Doors.{DoorState, no_connections, unasked}
+use Rattle.tide_edge.specs.FileStates.{FilesState, no_openings}
+use Rattle.tide_edge.specs.SinkStates.{SinkState, Wrote}
 use Rattle.tide_fault.specs.declared.status.Status.{Status}
 use Rattle.tide_fault.specs.declared.status.Status.TheVariants.{NoMemory}
 use Rattle.tide_server.specs.Promises.{ServesAs, services, service_states}
+use Rattle.tide.specs.NoWords.{Given, HasWords, LacksWords, line_of, status_of}
 use Rattle.tide.specs.Pages.{AsksAnswer, AsksService, page_answer, page_of}
+use Rattle.tide.specs.declared.arguments.NoWords.{NoWords}
 
 -- the sheets of a report, in their order, each with how many events it takes
 abbrev pub program_sheets : List SheetMeaning
@@ -57,3 +59,46 @@ pub record RespondsAs {F D O E K : Type 0} (s : WorldStates F D O E K) (sheets :
   pub service : AsksService words → ServesAs (service_states s.files s.door s.err s.clock) words status
       (services before.files before.door before.err before.clock) (services after.files after.door after.err after.clock)
   pub same_out : AsksService words → after.out ≡ before.out
+
+-- ---- The program's arguments
+
+-- There are no words: one line on standard error and the status say why, and nothing else is touched.
+pub record RefusesAs {F D O E K : Type 0} (s : WorldStates F D O E K) (why : NoWords) (status : Status) (before after : World F D O E K)
+    : Type 0 where
+  pub says : status ≡ status_of why
+  pub failed : Bool
+  pub line : Wrote (s.err before.err) (s.err after.err) failed (line_of why)
+  pub same_files : after.files ≡ before.files
+  pub same_door : after.door ≡ before.door
+  pub same_out : after.out ≡ before.out
+  pub same_clock : after.clock ≡ before.clock
+
+-- The program responds to the words of its arguments, with its own sheets for a report; or there are no words, or no memory for the sheets.
+abbrev pub AnswersArguments : {F D O E K A : Type 0} → WorldStates F D O E K → Given A → Status → World F D O E K → World F D O E K → Type 0
+AnswersArguments s arguments status before after =
+    ((words : List (List ℕ)) × HasWords arguments words × RespondsAs s program_sheets words status before after)
+    ⊎ ((why : NoWords) × LacksWords arguments why × RefusesAs s why status before after)
+
+-- ---- The machine
+
+-- nothing was done yet: no file opened, no byte accepted, the clock not read, and the door not asked to listen
+pub record IsFresh {F D O E K : Type 0} (s : WorldStates F D O E K) (w : World F D O E K) : Type 0 where
+  pub openings : (s.files w.files).openings ≡ no_openings
+  pub reads : (s.files w.files).reads ≡ record { opens = 0; ends = 0; bytes = 0 }
+  pub files_faults : (s.files w.files).faults ≡ 0
+  pub doorway : (s.door w.door).doorway ≡ unasked
+  pub connections : (s.door w.door).connections ≡ no_connections
+  pub door_faults : (s.door w.door).faults ≡ 0
+  pub line_faults : (s.door w.door).line_faults ≡ 0
+  pub out : s.out w.out ≡ record { taken = []; faults = 0 }
+  pub err : s.err w.err ≡ record { taken = []; faults = 0 }
+  pub given : (s.clock w.clock).given ≡ []
+  pub clock_read : (s.clock w.clock).asked ≡ 0
+  pub clock_faults : (s.clock w.clock).faults ≡ 0
+
+-- There are objects of these types, fresh before and as they were left after, over which the program answers its arguments. The two
+-- that it writes to are over the streams that were passed.
+abbrev pub AnswersOver : {F D O E K A : Type 0} → WorldStates F D O E K → (O → Type 0) → (E → Type 0) → Given A → Status → Type 0
+AnswersOver {F} {D} {O} {E} {K} s is_out is_err arguments status =
+    (before : World F D O E K) × (after : World F D O E K) × IsFresh s before × is_out before.out × is_err before.err
+    × AnswersArguments s arguments status before after

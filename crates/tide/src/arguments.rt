@@ -1,16 +1,13 @@
 //! The program's words.
 
-ghost use Rattle.std.specs.Prelude.{◌≡◌, ◌↔◌, Bool, IsOk, IfOk, IfErr, map, drop, string_bytes};
-ghost use Rattle.std.specs.IoError.{error_kind};
-ghost use Rattle.std.specs.Result.{IsOkAnd};
+ghost use Rattle.std.specs.Prelude.{◌≡◌, ◌↔◌, Bool, IfOk, IfErr, map, drop, string_bytes};
 ghost use Rattle.std.specs.Vec.Iter.{into_iter_items};
 ghost use Rattle.tide_edge.specs.SinkStates.{Wrote};
-ghost use Rattle.tide.specs.NoWords.{line_of, status_of};
+ghost use Rattle.tide.specs.NoWords.{HasWords, LacksWords, line_of, status_of};
 
 use decimal_text::{Text, Words};
 use named_files::refuse;
 use std::alloc::{AllocError, Global};
-use std::env;
 use std::env::Args;
 use std::io::{self, ErrorKind};
 use tide_edge::Sink;
@@ -24,16 +21,10 @@ pub enum NoWords {
     NoMemory,
 }
 
-/// The words behind the program's name.
-pub fn read_words(rt: &HostRuntime) -> Result<Words, NoWords> {
-    words_from(rt.alloc(), env::args(rt))
-}
-
 /// The words behind the program's name, by the arguments that the system gave, or why there are none.
 pub fn words_from(alloc: Global, arguments: io::Result<Args>) -> Result<Words, NoWords>
-    ensures words { IfOk result (λ words. IsOkAnd arguments (λ all. words ≡ map string_bytes (drop 1 (into_iter_items all)))) }
-    ensures refused { IfErr arguments (λ fault. IfErr result (λ why. (why ≡ NoWords.NoMemory) ↔ (error_kind fault ≡ ErrorKind.OutOfMemory))) }
-    ensures memory { IsOk arguments → IfErr result (λ why. why ≡ NoWords.NoMemory) }
+    ensures words { IfOk result (HasWords arguments) }
+    ensures refused { IfErr result (LacksWords arguments) }
 {
     match arguments {
         Ok(arguments) => words_of(alloc, arguments).map_err(|_| NoWords::NoMemory),

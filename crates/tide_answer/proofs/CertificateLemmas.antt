@@ -1,8 +1,9 @@
 -- The certificate that is written of a station's tracks.
 use Rattle.std.proofs.Common.{◌≡◌, ℕ, ◌^◌, ◌<◌, ◌≤◌, ℤ, Bool, true, false, List, [], length, Option, Some, None, is_some, option_map, Ok, All, refl, ap, ◌∙◌, inr, arith}
-use Rattle.std.specs.Prelude.{unsigned_abs, IfSome, sum_by, option_to_list, unwrap_or}
+use Rattle.std.specs.Prelude.{unsigned_abs, IfSome, unwrap_or}
 use Rattle.std.specs.Option.{ForSome}
 use Rattle.std.proofs.lemmas.Int.{ints}
+use Rattle.cert_text.specs.declared.certificate.Certificate.{Certificate}
 use Rattle.cert_text.specs.declared.track_name.TrackName.{TrackName}
 use Rattle.cert_text.specs.declared.track_name.TrackName.TheVariants.{Turn, Slack, Mark}
 use Rattle.cert_text.specs.Certificates.{IsCertificate, IsCellOf, IsStationName, HasUsualLevel, HasUsualLevels, cell_count as cells_of_all}
@@ -15,10 +16,11 @@ use Rattle.curve_law.specs.Meaning.{Meaning, IsSpan}
 use Rattle.curve_law.specs.Verdicts.{verdict}
 use Rattle.curve_law.proofs.AgreeLemmas.{cover-agrees}
 use Rattle.event_list.specs.declared.span.Span.{Span}
-use Rattle.event_list.specs.Events.{Followed, IsKnown, IsAccepted, AgreeIfFollowed, AllAgree, minutes_in, cover_over, covers_of, cell_count, cells_in}
+use Rattle.event_list.specs.Events.{Followed, IsKnown, AreAccepted, IsAccepted, AgreeIfFollowed, AllAgree, minutes_in, cover_over, covers_of, cell_count, cells_in}
 use Rattle.event_list.specs.Shifts.{widened_of}
-use Rattle.event_list.proofs.EventLemmas.{covers-accepted, cells-parts, count-few}
+use Rattle.event_list.proofs.EventLemmas.{covers-accepted}
 use Rattle.harmonics_text.specs.declared.book.Book.{Book}
+use Rattle.rate_bound.specs.declared.version.Version.{Version}
 use Rattle.rate_bound.specs.declared.version.Version.TheVariants.{Second}
 use Rattle.rate_bound.specs.Meanings.{turn_meaning}
 use Rattle.station_curve.specs.Levels.{millionths_of}
@@ -35,7 +37,7 @@ use Rattle.station_span.specs.Sites.{Site, site_in}
 use Rattle.tide_answer.specs.Workings.Certifying.{certificate_in}
 use Rattle.station_span.specs.Workings.Curves.{followed_tide, IsReady}
 use Rattle.station_span.specs.Workings.Spans.{IsFound}
-use Rattle.station_cells.proofs.CellLemmas.{IsOf, accepted_track, usual_track}
+use Rattle.station_cells.proofs.CellLemmas.{IsOf, accepted_track, few_track, usual_track}
 use Rattle.station_span.proofs.FollowLemmas.{found_alike, ready_known, few_cells}
 use Rattle.station_span.proofs.MovableLemmas.{millionths_small}
 
@@ -92,9 +94,9 @@ record AreOf (f : Followed) : Type 0 where
   pub slack : ForSome f.slack (IsOf Slack)
   pub mark : ForSome f.mark (IsOf Mark)
 
-followed_of : (found : Found) (mark : Option ℤ) → IsGentle found.curve → AreOf (followed_tide Second found mark)
+followed_of : (version : Version) (found : Found) (mark : Option ℤ) → IsGentle found.curve → AreOf (followed_tide version found mark)
 unfolding followed_tide
-followed_of found mark gentle = record {
+followed_of version found mark gentle = record {
   turn = of_notes Turn found.curve _ gentle refl refl refl refl refl;
   slack = of_if_asked _ _ (of_notes Slack found.curve _ gentle refl refl refl refl refl);
   mark = of_if_marked mark _ (λ level. of_notes Mark found.curve _ gentle refl refl refl refl refl);
@@ -124,7 +126,7 @@ certificate_sound name asked found tracks named begin end ready same =
     let f = followed_tide Second found asked.mark in
     let known = ready_known Second asked found ready in
     let accepted = covers-accepted f s in
-    let of = followed_of found asked.mark ready.gentle in
+    let of = followed_of Second found asked.mark ready.gentle in
     rw same (record {
       version = inr refl;
       station = named;
@@ -137,20 +139,20 @@ certificate_sound name asked found tracks named begin end ready same =
       marked = marked_alike asked.mark _ (cover_over s);
     })
 
--- ---- the text is short
+-- ---- the text is short, whoever wrote it
 
-pub certificate_usual : (name : List ℕ) (asked : Asked) (found : Found) (tracks : Tracks) → IsReady asked found → tracks ≡ covers_of (followed_tide Second found asked.mark) (widened_of found.basis asked.begin asked.end) → HasUsualLevels (certificate_in name asked tracks)
-certificate_usual name asked found tracks ready same =
+pub accepted_usual : (version : Version) (asked : Asked) (found : Found) (c : Certificate) → IsReady asked found
+    → AreAccepted (followed_tide version found asked.mark) (widened_of found.basis asked.begin asked.end) c.tracks → HasUsualLevels c
+accepted_usual version asked found c ready accepted =
     let s = widened_of found.basis asked.begin asked.end in
-    let f = followed_tide Second found asked.mark in
-    let known = ready_known Second asked found ready in
-    let accepted = covers-accepted f s in
-    let of = followed_of found asked.mark ready.gentle in
-    rw same (record {
-      turn = usual_track Turn f.turn s (cover_over s f.turn) of.turn known.turn.span accepted.turn;
-      slack = track_usual Slack s f.slack (option_map (cover_over s) f.slack) of.slack known.slack accepted.slack;
-      crossings = track_usual Mark s f.mark (option_map (cover_over s) f.mark) of.mark known.mark accepted.mark;
-    })
+    let f = followed_tide version found asked.mark in
+    let known = ready_known version asked found ready in
+    let of = followed_of version found asked.mark ready.gentle in
+    record {
+      turn = usual_track Turn f.turn s c.tracks.turn of.turn known.turn.span accepted.turn;
+      slack = track_usual Slack s f.slack c.tracks.slack of.slack known.slack accepted.slack;
+      crossings = track_usual Mark s f.mark c.tracks.mark of.mark known.mark accepted.mark;
+    }
 
 -- the longest span, and a day at both ends
 pub looked_few : (asked : Asked) (found : Found) → IsReady asked found → minutes_in (widened_of found.basis asked.begin asked.end) ≤ 5273280
@@ -161,17 +163,33 @@ looked_few asked found ready =
     let ends = ready.beside.ends in
     omega (arith, ints)
 
-cells_there : (cells : Option (List Cell)) → sum_by length (option_to_list cells) ≡ length (unwrap_or cells [])
-cells_there None = refl
-cells_there (Some cells) = omega arith
+track_few : (s : Span) (curve : Option Meaning) (cells : Option (List Cell)) → IsAccepted s curve cells → length (unwrap_or cells []) ≤ minutes_in s
+track_few s None None accepted = omega arith
+track_few s None (Some cells) accepted = absurd accepted
+track_few s (Some c) None accepted = absurd accepted
+track_few s (Some c) (Some cells) accepted = few_track c s cells accepted
+
+pub accepted_few : (version : Version) (asked : Asked) (found : Found) (c : Certificate) → IsReady asked found
+    → AreAccepted (followed_tide version found asked.mark) (widened_of found.basis asked.begin asked.end) c.tracks → cells_of_all c ≤ 15819840
+accepted_few version asked found c ready accepted =
+    let s = widened_of found.basis asked.begin asked.end in
+    let f = followed_tide version found asked.mark in
+    let turn = few_track f.turn s c.tracks.turn accepted.turn in
+    let slack = track_few s f.slack c.tracks.slack accepted.slack in
+    let crossings = track_few s f.mark c.tracks.mark accepted.mark in
+    omega (arith, looked_few asked found ready, turn, slack, crossings)
+
+pub certificate_usual : (name : List ℕ) (asked : Asked) (found : Found) (tracks : Tracks) → IsReady asked found → tracks ≡ covers_of (followed_tide Second found asked.mark) (widened_of found.basis asked.begin asked.end) → HasUsualLevels (certificate_in name asked tracks)
+certificate_usual name asked found tracks ready same =
+    let s = widened_of found.basis asked.begin asked.end in
+    let f = followed_tide Second found asked.mark in
+    rw same (accepted_usual Second asked found (certificate_in name asked (covers_of f s)) ready (covers-accepted f s))
 
 pub certificate_few : (name : List ℕ) (asked : Asked) (found : Found) (tracks : Tracks) → IsReady asked found → tracks ≡ covers_of (followed_tide Second found asked.mark) (widened_of found.basis asked.begin asked.end) → cells_of_all (certificate_in name asked tracks) ≤ 15819840
-unfolding cell_count
 certificate_few name asked found tracks ready same =
     let s = widened_of found.basis asked.begin asked.end in
     let f = followed_tide Second found asked.mark in
-    let few = count-few f s in
-    rw same (omega (arith, looked_few asked found ready, few, cells-parts (covers_of f s), cells_there (covers_of f s).slack, cells_there (covers_of f s).mark))
+    rw same (accepted_few Second asked found (certificate_in name asked (covers_of f s)) ready (covers-accepted f s))
 
 -- ---- the answer
 

@@ -1,4 +1,4 @@
--- What certificates come to: what is accepted is true, and what is certified is accepted and short.
+-- What certificates come to: what is accepted is true and short, and what is certified is accepted and short.
 use Rattle.std.proofs.Common.{◌≡◌, ◌<◌, ◌≤◌, ℕ, ℤ, pos, Bool, true, false, List, length, Option, Some, None, is_some, option_map, Result, Ok, Err, refl, sym, subst, ap, ◌∙◌}
 use Rattle.std.specs.Option.{ForSome}
 use Rattle.cert_text.specs.declared.certificate.Certificate.{Certificate}
@@ -34,14 +34,14 @@ use Rattle.tide_answer.specs.declared.text.Answer.{Answer}
 use Rattle.tide_answer.specs.Answers.{predicted, certified, checked, certificate_by, certificate_from, version_of, judged, text_of_events, events_text}
 use Rattle.tide_answer.specs.Asking.{asked_in}
 use Rattle.station_span.specs.Following.{asks_slack, slack_times, slack_plus, if_asked, followed, followed_by, events_of, tracks_of}
-use Rattle.tide_answer.specs.Laws.{IsAskable, AcceptsListing, TellsTrack, TellsTracks, AcceptsWhatIsCertified, AcceptsOnlyWhatIsTrue, CertifiesInShort}
+use Rattle.tide_answer.specs.Laws.{IsAskable, AcceptsListing, TellsTrack, TellsTracks, AcceptsWhatIsCertified, AcceptsOnlyInShort, AcceptsOnlyWhatIsTrue, CertifiesInShort}
 use Rattle.station_cells.specs.Rejections.{slack_fault, fault_from, track_fault, rejection_of}
 use Rattle.station_span.specs.Sites.{Site, site_in}
 use Rattle.tide_answer.specs.Workings.Certifying.{tide_rejection}
 use Rattle.station_span.specs.Workings.Curves.{followed_tide, IsReady}
 use Rattle.station_span.specs.Workings.Spans.{IsFound, IsNear}
 use Rattle.tide_answer.proofs.AnswerLemmas.{moment_near}
-use Rattle.tide_answer.proofs.CertificateLemmas.{certificate_few, certificate_sound, certificate_usual, tracks_alike}
+use Rattle.tide_answer.proofs.CertificateLemmas.{accepted_few, accepted_usual, certificate_few, certificate_sound, certificate_usual, tracks_alike}
 use Rattle.tide_answer.proofs.CheckLemmas.{checked_by, judged_by, near_read, site_rejection, tide_accepted}
 use Rattle.station_span.proofs.FollowLemmas.{found_alike, ready_known, ready_of_found}
 use Rattle.station_span.proofs.NameLemmas.{site_name}
@@ -243,3 +243,26 @@ certified_short fits book table name asked certificate is rows askable ok =
     (fits (certificate_by book was.site name asked) was.sound
     (certificate_usual name asked found tracks was.ready was.tracks)
     (certificate_few name asked found tracks was.ready was.tracks))
+
+-- ---- what is accepted is short
+
+pub accepted_short : ((bytes : List ℕ) → Reads bytes (certificate_of bytes))
+    → ((c : Certificate) (bytes : List ℕ) → IsTextOf c bytes → IsCertificate c × (certificate_text c ≡ bytes))
+    → ((c : Certificate) → IsCertificate c → HasUsualLevels c → cell_count c ≤ 15819840 → length (certificate_text c) < 333000000)
+    → AcceptsOnlyInShort
+accepted_short reads only fits book table bytes zone answer is rows ok accepted =
+    let was = was_judged book table bytes zone answer ok in
+    let cert = was.certificate in
+    let site = was.site in
+    let found = found_at book site in
+    let written : IsTextOf cert bytes = rw was.read at (reads bytes) in
+    let one = only cert bytes written in
+    let near = near_read cert one.0 in
+    let sound = found_of_site Events book table cert.station (asked_in cert) site is rows near was.found in
+    let ready = ready_of_found book (asked_in cert) site found near sound in
+    let none = unrejected book site cert zone _ answer was.judged accepted in
+    let right = tide_accepted found cert one.0 (site_rejection book cert site found sound ∙ none) in
+    subst (λ text. length text < 333000000) one.1
+    (fits cert one.0
+    (accepted_usual (version_of cert) (asked_in cert) found cert ready right)
+    (accepted_few (version_of cert) (asked_in cert) found cert ready right))

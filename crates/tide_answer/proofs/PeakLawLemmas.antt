@@ -1,4 +1,4 @@
--- What certificates of a highest water come to: what is accepted is true, and what is certified is accepted and short.
+-- What certificates of a highest water come to: what is accepted is true and short, and what is certified is accepted and short.
 use Rattle.std.proofs.Common.{◌≡◌, ◌<◌, ◌≤◌, ℕ, ℤ, pos, ◌+ℤ◌, ◌-ℤ◌, ◌*ℤ◌, ◌≤ℤ◌, ◌<ℤ◌, false, List, length, None, Result, Ok, Err, refl, sym, subst, ap, ◌∙◌, arith}
 use Rattle.std.proofs.lemmas.Int.{ints}
 use Rattle.harmonics_text.specs.declared.book.Book.{Book}
@@ -32,7 +32,7 @@ use Rattle.tide_answer.specs.declared.text.Answer.{Answer}
 use Rattle.tide_answer.specs.Answers.{text_alone, highest, highest_text_at, peak_certificate_by, peak_certified, peak_checked, peak_from, peak_judged, text_accepted}
 use Rattle.tide_answer.specs.Asking.{asked_of_peak}
 use Rattle.tide_answer.specs.Laws.{IsAskable, AcceptsListing}
-use Rattle.tide_answer.specs.PeakLaws.{IsMovedInto, IsHighestWater, TellsTheHighest, AcceptsWhatPeakCertifies, PeakCertifiesInShort, AcceptsOnlyTruePeaks}
+use Rattle.tide_answer.specs.PeakLaws.{IsMovedInto, IsHighestWater, TellsTheHighest, AcceptsWhatPeakCertifies, PeakCertifiesInShort, AcceptsOnlyPeaksInShort, AcceptsOnlyTruePeaks}
 use Rattle.tide_answer.proofs.LawLemmas.{near_asked}
 use Rattle.tide_answer.proofs.PeakLemmas.{peak_near}
 
@@ -231,3 +231,24 @@ peak_short fits book table name asked certificate is rows askable ok =
     let few = was.highest.few in
     let whole = whole_cells book was.site asked (highest_of book was.site asked) (highest_of_accepted book was.site asked some) in
     rw was.text (fits (peak_certificate_by book was.site name asked) was.sound (omega (arith, ints)))
+
+-- ---- what is accepted is short
+
+pub accepted_peak_short : ((bytes : List ℕ) → ReadsPeak bytes (peak_of bytes))
+    → ((c : PeakCertificate) (bytes : List ℕ) → IsPeakTextOf c bytes → IsPeakCertificate c × (peak_text c ≡ bytes))
+    → ((c : PeakCertificate) → IsPeakCertificate c → all_minutes c.peak.cells ≤ 5270400 → length (peak_text c) < 10542000)
+    → AcceptsOnlyPeaksInShort
+accepted_peak_short reads only fits book table bytes answer is rows ok accepted =
+    let was = was_judged book table bytes answer ok in
+    let cert = was.certificate in
+    let asked = asked_of_peak cert in
+    let site = was.site in
+    let written : IsPeakTextOf cert bytes = rw was.read at (reads bytes) in
+    let one = only cert bytes written in
+    let parts = highest_parts book table cert.station asked site was.found in
+    let found = found_of_site Highest book table cert.station asked site is rows (peak_near cert one.0) parts.0 in
+    let right = unrejected book site cert _ answer was.judged accepted in
+    let whole = whole_cells book site asked cert.peak right in
+    let some = highest_minutes book table cert.station asked site was.found in
+    let few = found.few in
+    subst (λ text. length text < 10542000) one.1 (fits cert one.0 (omega (arith, ints)))

@@ -1,4 +1,5 @@
--- What certificates come to: what is certified is accepted and short, and what is accepted tells exactly the events of its own question (this project).
+-- What certificates come to: what is certified is accepted and short, and what is accepted is short and tells exactly the events of its own
+-- question (this project).
 use Rattle.std.specs.Prelude.{◌≡◌, ◌<◌, ℕ, false, List, ◌++◌, length, codes, Option, Some, None, Result, Ok}
 use Rattle.std.specs.Option.{ForSome}
 use Rattle.cert_text.specs.declared.certificate.Certificate.{Certificate}
@@ -74,3 +75,8 @@ pub record IsTrueCertificate (book : Book) (table : List Offsets) (bytes : List 
 abbrev pub AcceptsOnlyWhatIsTrue : Type 0
 AcceptsOnlyWhatIsTrue = (book : Book) (table : List Offsets) (bytes : List ℕ) (zone : Zone) (answer : Answer) →
     IsBook book → IsTable table → checked book table bytes zone ≡ Ok answer → answer.rejected ≡ false → IsTrueCertificate book table bytes zone answer
+
+-- whatever is accepted, whoever wrote it, has fewer than 333,000,000 bytes
+abbrev pub AcceptsOnlyInShort : Type 0
+AcceptsOnlyInShort = (book : Book) (table : List Offsets) (bytes : List ℕ) (zone : Zone) (answer : Answer) →
+    IsBook book → IsTable table → checked book table bytes zone ≡ Ok answer → answer.rejected ≡ false → length bytes < 333000000

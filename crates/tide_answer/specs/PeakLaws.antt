@@ -73,3 +73,8 @@ pub record IsTruePeak (book : Book) (table : List Offsets) (bytes : List ℕ) (a
 abbrev pub AcceptsOnlyTruePeaks : Type 0
 AcceptsOnlyTruePeaks = (book : Book) (table : List Offsets) (bytes : List ℕ) (answer : Answer) →
     IsBook book → IsTable table → peak_checked book table bytes ≡ Ok answer → answer.rejected ≡ false → IsTruePeak book table bytes answer
+
+-- whatever is accepted, whoever wrote it, has fewer than 10,542,000 bytes
+abbrev pub AcceptsOnlyPeaksInShort : Type 0
+AcceptsOnlyPeaksInShort = (book : Book) (table : List Offsets) (bytes : List ℕ) (answer : Answer) →
+    IsBook book → IsTable table → peak_checked book table bytes ≡ Ok answer → answer.rejected ≡ false → length bytes < 10542000

@@ -1,6 +1,6 @@
 //! What certificates come to.
 
-ghost use Rattle.tide_answer.specs.Laws.{AcceptsWhatIsCertified, AcceptsOnlyWhatIsTrue, CertifiesInShort};
+ghost use Rattle.tide_answer.specs.Laws.{AcceptsWhatIsCertified, AcceptsOnlyInShort, AcceptsOnlyWhatIsTrue, CertifiesInShort};
 
 use cert_text::{certificates_are_short, certificates_have_one_text, readings_go_by_the_grammar};
 
@@ -24,5 +24,14 @@ pub fn accepted_is_true()
     ensures { AcceptsOnlyWhatIsTrue }
 {
     certificates_have_one_text();
+    readings_go_by_the_grammar();
+}
+
+/// What is accepted has fewer than 333,000,000 bytes, whoever wrote it.
+pub fn accepted_is_short()
+    ensures { AcceptsOnlyInShort }
+{
+    certificates_have_one_text();
+    certificates_are_short();
     readings_go_by_the_grammar();
 }

@@ -40,10 +40,11 @@ pub use answering::answer;
 pub use book_loading::load_book;
 pub use given::Given;
 pub use heights::worked_rows;
-pub use laws::{accepted_is_true, certified_is_accepted, certified_is_short};
+pub use laws::{accepted_is_short, accepted_is_true, certified_is_accepted, certified_is_short};
 pub use listed::{Listed, station_events};
 pub use peak_laws::{
-    accepted_peak_is_true, highest_is_told, peak_certified_is_accepted, peak_certified_is_short,
+    accepted_peak_is_short, accepted_peak_is_true, highest_is_told, peak_certified_is_accepted,
+    peak_certified_is_short,
 };
 pub use ready::{Ready, answer_into, can_stream, prepare};
 pub use station_cells::Rejection;

@@ -1,6 +1,6 @@
 //! What certificates of a highest water come to.
 
-ghost use Rattle.tide_answer.specs.PeakLaws.{AcceptsOnlyTruePeaks, AcceptsWhatPeakCertifies, PeakCertifiesInShort, TellsTheHighest};
+ghost use Rattle.tide_answer.specs.PeakLaws.{AcceptsOnlyPeaksInShort, AcceptsOnlyTruePeaks, AcceptsWhatPeakCertifies, PeakCertifiesInShort, TellsTheHighest};
 
 use highest_water::{
     peak_certificates_have_one_text, peak_readings_go_by_the_grammar, peak_texts_are_short,
@@ -35,5 +35,14 @@ pub fn accepted_peak_is_true()
     ensures { AcceptsOnlyTruePeaks }
 {
     peak_certificates_have_one_text();
+    peak_readings_go_by_the_grammar();
+}
+
+/// What is accepted as a highest water has fewer than 10,542,000 bytes, whoever wrote it.
+pub fn accepted_peak_is_short()
+    ensures { AcceptsOnlyPeaksInShort }
+{
+    peak_certificates_have_one_text();
+    peak_texts_are_short();
     peak_readings_go_by_the_grammar();
 }

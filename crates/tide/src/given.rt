@@ -1,0 +1,37 @@
+//! What the program does with its arguments.
+
+ghost use Rattle.std.specs.Prelude.{◌≡◌, None};
+ghost use Rattle.tide.specs.Promises.{AnswersArguments, world, world_states};
+
+use crate::arguments::{NoWords, tell_no_words, words_from};
+use crate::sheets::respond_with_sheets;
+use std::alloc::Global;
+use std::env::Args;
+use std::io;
+use tide_edge::{Clock, Door, Files, Sink};
+use tide_fault::Status;
+
+/// Responds to the words of the arguments, with the program's sheets for a report, over the objects that are passed and no
+/// others; or writes to `err` why there are no words.
+pub fn respond_to<F: Files, D: Door, O: Sink, E: Sink, K: Clock>(
+    alloc: Global,
+    arguments: io::Result<Args>,
+    files: &mut F,
+    door: &mut D,
+    out: &mut O,
+    err: &mut E,
+    clock: &mut K,
+) -> Status
+    requires { (D.state door.old).doorway.port ≡ None }
+    ensures { AnswersArguments (world_states F.state D.state O.state E.state K.state) arguments result
+        (world files.old door.old out.old err.old clock.old) (world files.new door.new out.new err.new clock.new) }
+{
+    let words = match words_from(alloc, arguments) {
+        Ok(words) => words,
+        Err(why) => return tell_no_words(why, err),
+    };
+    match respond_with_sheets(alloc, &words, files, door, out, err, clock) {
+        Ok(status) => status,
+        Err(_) => tell_no_words(NoWords::NoMemory, err),
+    }
+}
