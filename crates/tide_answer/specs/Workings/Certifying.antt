@@ -33,20 +33,13 @@ certificate_in name asked tracks = record {
   tracks = tracks;
 }
 
--- what is wrong first by the tide that was found
-abbrev pub tide_rejection : Found → Certificate → Option Rejection
-tide_rejection found cert =
-    rejection_of (followed_tide (version_of cert) found cert.mark) (widened_of found.basis cert.begin cert.end) cert.tracks
-
--- the answers where nothing is wrong, and where something is
-abbrev pub accepted : List ℕ → Units → List Event → Zone → Answer
-accepted name units events zone = text_accepted (plain_events_of name units events zone)
-
-abbrev pub rejected : Rejection → Answer
-rejected rejection = text_rejected (rejection_line rejection)
+-- what is wrong first with its tracks
+abbrev pub rejection_in : Book → Site → Certificate → Option Rejection
+rejection_in book site cert =
+    rejection_of (followed_by (version_of cert) book site cert.mark) (widened_of site.basis cert.begin cert.end) cert.tracks
 
 -- the answer to a certificate that was read
 unfoldable pub judged_in : Book → List Offsets → Certificate → Zone → Result Answer Refusal
 judged_in book table cert zone = do
   site ← site_in Events book table cert.station (asked_in cert)
-  Ok (judged book site cert zone (rejection_of (followed_by (version_of cert) book site cert.mark) (widened_of site.basis cert.begin cert.end) cert.tracks))
+  Ok (judged book site cert zone (rejection_in book site cert))

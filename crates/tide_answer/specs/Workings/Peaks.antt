@@ -17,15 +17,8 @@ use Rattle.tide_answer.specs.declared.text.Answer.{Answer}
 use Rattle.tide_answer.specs.Answers.{text_accepted, peak_judged}
 use Rattle.tide_answer.specs.Asking.{asked_of_peak}
 
-abbrev pub tide_highest_text : Found → List ℕ → ℤ → Zone → List ℕ
-tide_highest_text found name at zone =
-    let minute = at +ℤ found.basis.high.add in highest_text_of name found.units minute (tide_level found minute) zone
-
 abbrev pub peak_certificate_in : List ℕ → Asked → Peak → PeakCertificate
 peak_certificate_in name asked peak = record { station = name; begin = asked.begin; end = asked.end; peak = peak }
-
-abbrev pub peak_accepted : Found → PeakCertificate → Answer
-peak_accepted found cert = text_accepted (tide_highest_text found cert.station cert.peak.at Utc)
 
 -- the answer to a certificate that was read
 unfoldable pub peak_judged_in : Book → List Offsets → PeakCertificate → Result Answer Refusal

@@ -22,28 +22,27 @@ use Rattle.tide_answer.specs.Workings.Certifying.{certificate_in}
 use Rattle.station_span.specs.Workings.Curves.{followed_tide, tide_cells, tide_events, IsReady}
 use Rattle.station_span.specs.Workings.Spans.{AreMoments, IsNear}
 
-abbrev pub tide_tracks : Found → Asked → Tracks
-tide_tracks found asked =
-    covers_of (followed_tide Second found asked.mark) (widened_of found.basis asked.begin asked.end)
+abbrev pub stream_text : Form → Book → Site → List ℕ → Asked → Zone → List ℕ
+stream_text Listing book site name asked zone = plain_events_of name site.station.units (events_of book site asked) zone
+stream_text Certificate book site name asked zone = certificate_text (certificate_by book site name asked)
 
-abbrev pub stream_text : Form → Found → List ℕ → Asked → Zone → List ℕ
-stream_text Listing found name asked zone = plain_events_of name found.units (tide_events found asked) zone
-stream_text Certificate found name asked zone = certificate_text (certificate_in name asked (tide_tracks found asked))
+-- a station's answer
+abbrev pub stream_answer : Form → Book → Site → List ℕ → Asked → Zone → Answer
+stream_answer form book site name asked zone =
+    record { text = stream_text form book site name asked zone; rejected = false; cells = cells_of book site asked }
 
--- the answer by a station's own tide
-abbrev pub stream_answer : Form → Found → List ℕ → Asked → Zone → Answer
-stream_answer form found name asked zone =
-    record { text = stream_text form found name asked zone; rejected = false; cells = tide_cells found asked }
+-- that of a station that was found
+abbrev pub stream_of : Form → Found → List ℕ → Zone → Answer
+stream_of form found name zone = stream_answer form found.origin.book (site_of found) name found.asked zone
 
 abbrev pub form_of : Command → Form
 form_of Certify = Certificate
 form_of _ = Listing
 
 -- what it takes to write it
-pub record IsStream (found : Found) (name : List ℕ) (asked : Asked) (zone : Zone) : Type 0 where
-  pub ready : IsReady asked found
-  pub near : IsNear asked
-  pub moments : AreMoments asked
+pub record IsStream (found : Found) (name : List ℕ) (zone : Zone) : Type 0 where
+  pub reach : found.reach ≡ Events
+  pub moments : AreMoments found.asked
   pub named : IsStationName name
   pub clock : IsZone zone
   pub plain : IsTrue (is_plain found.basis)
