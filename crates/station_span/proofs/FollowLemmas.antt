@@ -1,5 +1,5 @@
 -- The curves that are followed at a site, by its tide and by every constituent of the book.
-use Rattle.std.proofs.Common.{◌≡◌, ◌^◌, ◌<◌, ◌≤◌, ℤ, pos, ◌+ℤ◌, ◌≤ℤ◌, ◌<ℤ◌, unsigned_abs, Bool, true, false, Option, Some, None, option_map, IsTrue, List, All, subst, refl, sym, ◌∙◌, arith}
+use Rattle.std.proofs.Common.{◌≡◌, ◌^◌, ◌<◌, ◌≤◌, ℤ, pos, ◌+ℤ◌, ◌≤ℤ◌, ◌<ℤ◌, unsigned_abs, Bool, true, false, Option, Some, None, option_map, IsTrue, List, All, subst, ap, refl, sym, ◌∙◌, arith}
 use Rattle.std.proofs.lemmas.Int.{ints}
 use Rattle.std.specs.Option.{ForSome}
 use Rattle.curve_law.specs.declared.cell.Cell.{Cell}
@@ -182,7 +182,7 @@ plain_word : (units : Units) → HasLevels units → (has_word units High ≡ tr
 plain_word Feet levels = (refl, refl, refl, refl)
 plain_word Meters levels = (refl, refl, refl, refl)
 plain_word Knots levels = (refl, refl, refl, refl)
-plain_word KnotsSquared levels = absurd levels
+plain_word KnotsSquared levels = absurd cc
 
 pub followed_named : (version : Version) (found : SiteTide) (mark : Option ℤ) → HasLevels found.units → AreNamed found.units (followed_tide version found mark)
 unfolding followed_tide

@@ -1,9 +1,12 @@
 -- What a station that was found says, in the words of the definitions.
-use Rattle.std.proofs.Common.{◌≡◌, ℕ, ◌<◌, ◌^◌, ℤ, pos, ◌+ℤ◌, ◌-ℤ◌, ◌≤ℤ◌, ◌<ℤ◌, unsigned_abs, length, Bool, IsTrue, List, All, refl, sym, subst, ap, ◌∙◌, arith}
+use Rattle.std.proofs.Common.{◌≡◌, ℕ, ◌<◌, ◌^◌, ℤ, pos, ◌+ℤ◌, ◌-ℤ◌, ◌≤ℤ◌, ◌<ℤ◌, unsigned_abs, length, Bool, IsTrue, List, All, Option, refl, sym, subst, ap, ◌∙◌, arith}
 use Rattle.std.proofs.lemmas.Int.{ints}
+use Rattle.curve_law.specs.declared.cell.Cell.{Cell}
 use Rattle.curve_law.specs.declared.event.Event.{Event}
+use Rattle.station_span.specs.declared.following.FoundEvents.{FoundEvents}
 use Rattle.event_list.specs.declared.span.Span.{Span}
 use Rattle.event_list.specs.Events.{cells_in, covers_of, merged_of}
+use Rattle.event_text.specs.Lines.{IsListed}
 use Rattle.event_list.specs.Shifts.{IsMovable, greatest_add, least_add, shifted_of, widened_of}
 use Rattle.rate_bound.specs.declared.version.Version.TheVariants.{Second}
 use Rattle.station_curve.specs.Curves.{PredictsOver}
@@ -16,15 +19,18 @@ use Rattle.station_span.specs.Following.{cells_of, events_of, tracks_of}
 use Rattle.station_span.specs.Levels.{is_rising_at, level_at}
 use Rattle.station_span.specs.Sites.{moved, reached}
 use Rattle.station_span.specs.Workings.Curves.{AreMerged, HasMinutes, IsReady, followed_tide, tide_cells}
-use Rattle.station_span.specs.Workings.Finds.{AreLooked, AreReferences, HasPeak, IsLooked, site_of, tide_of_found}
+use Rattle.station_span.specs.Workings.Finds.{AreLooked, AreReferences, HasPeak, IsLooked, IsSiteList, site_of, tide_of_found}
 use Rattle.station_span.specs.Workings.Levels.{HasLevel, is_tide_rising, source_of, tide_level}
 use Rattle.station_span.specs.Workings.Spans.{IsFound}
-use Rattle.station_span.proofs.FollowLemmas.{counted_cells, few_cells, found_cells, found_events, merged_can_move, plain_is_whole, ready_minutes, ready_of_found, shifted_is_whole, tracks_alike}
+use Rattle.station_span.proofs.FollowLemmas.{asked_minute, counted_cells, few_cells, found_cells, found_events, merged_can_move, plain_is_whole, ready_minutes, ready_of_found, shifted_is_whole, tide_lines, tracks_alike}
 use Rattle.station_span.proofs.LevelLemmas.{IsPredicted, in_tide, site_level, site_rising, tide_years, within_adds}
-use Rattle.station_span.proofs.PeakLemmas.{has_highest, peak_alike, verdict_alike}
+use Rattle.station_span.proofs.PeakLemmas.{has_highest, peak_alike, tide_peak-is, verdict_alike}
+use Rattle.curve_law.specs.Meaning.{Meaning}
 use Rattle.highest_water.specs.declared.peak.Peak.{Peak}
+use Rattle.highest_water.specs.Covers.{peak_of}
+use Rattle.highest_water.specs.Verdicts.{peak_verdict}
 use Rattle.station_span.specs.Peaks.{highest_of, highest_verdict}
-use Rattle.station_span.specs.Workings.Peaks.{HasHighest, tide_peak, tide_verdict}
+use Rattle.station_span.specs.Workings.Peaks.{HasHighest, IsSourceIn, tide_levels, tide_peak, tide_verdict}
 
 -- ---- events
 
@@ -80,6 +86,29 @@ plain_for f events is references plain =
     plain_is_whole f.asked (tide_of_found f) events (ready_for f is) (merged_for f events is references) plain
     ∙ found_events f.origin.book f.asked (site_of f) (tide_of_found f) (found_for f Events is)
 
+-- the cells of its searches are the site's tracks
+pub tracks_are : (f : Found) (turn : List Cell) (slack mark : Option (List Cell)) → turn ≡ (tracks_of f.origin.book (site_of f) f.asked).turn → slack ≡ (tracks_of f.origin.book (site_of f) f.asked).slack → mark ≡ (tracks_of f.origin.book (site_of f) f.asked).mark → record { turn = turn; slack = slack; mark = mark } ≡ tracks_of f.origin.book (site_of f) f.asked
+tracks_are f turn slack mark t s m = rw (t, s, m) refl
+
+pub site_list : (f : Found) (listed : FoundEvents) → f.reach ≡ Events → listed.units ≡ f.origin.station.units → listed.events ≡ events_of f.origin.book (site_of f) f.asked → listed.cells ≡ cells_of f.origin.book (site_of f) f.asked → IsSiteList f.origin.book f.asked (site_of f) listed
+site_list f listed is units events cells =
+    let ready = ready_for f is in
+    let same = found_events f.origin.book f.asked (site_of f) (tide_of_found f) (found_for f Events is) in
+    record {
+      units = units;
+      levels = rw units f.sound.levels;
+      events = events;
+      cells = cells;
+      lines = rw (units, events, ← same) (tide_lines f.asked (tide_of_found f) ready);
+      forward = ready.forward;
+      begins = asked_minute f.asked (tide_of_found f) f.asked.begin ready (omega (arith, ints)) ready.forward;
+      ends = asked_minute f.asked (tide_of_found f) f.asked.end ready ready.forward (omega (arith, ints));
+    }
+
+pub event_lines : (f : Found) → f.reach ≡ Events → All (IsListed f.origin.station.units) (events_of f.origin.book (site_of f) f.asked)
+event_lines f is =
+    rw (← found_events f.origin.book f.asked (site_of f) (tide_of_found f) (found_for f Events is)) (tide_lines f.asked (tide_of_found f) (ready_for f is))
+
 -- ---- levels
 
 pub looked_level : (f : Found) (minute : ℤ) → IsLooked f minute → HasLevel (tide_of_found f) minute
@@ -119,7 +148,9 @@ first_looked f is =
     let least_first = adds.0 in
     let greatest_last = adds.1 in
     let forward = f.sound.span.forward in
-    rw (span_for f Events is) (record { from = omega (arith, ints); until = omega (arith, ints) })
+    let begins : f.span.begin ≡ (widened_of f.basis f.asked.begin f.asked.end).begin = ap (λ (s : Span). s.begin) (span_for f Events is) in
+    let ends : f.span.end ≡ (widened_of f.basis f.asked.begin f.asked.end).end = ap (λ (s : Span). s.end) (span_for f Events is) in
+    record { from = omega (arith, ints); until = omega (arith, ints) }
 
 -- where levels are, those of the whole span
 moved_looked : (f : Found) → f.span ≡ moved f.basis f.asked.begin f.asked.end → IsTrue (is_equal f.basis) → AreLooked f
@@ -153,3 +184,31 @@ peak_begins f has = ap (λ (s : Span). s.begin) (rw has.equal at (span_for f Hig
 
 pub peak_ends : (f : Found) → HasPeak f → f.span.end ≡ source_of (tide_of_found f) f.asked.end
 peak_ends f has = ap (λ (s : Span). s.end) (rw has.equal at (span_for f Highest has.reach))
+
+pub peak_some : (f : Found) → HasPeak f → f.span.begin <ℤ f.span.end
+peak_some f has =
+    let some = (highest_for f has).some in
+    let begins = peak_begins f has in
+    let ends = peak_ends f has in
+    omega (arith, ints)
+
+pub peak_short : (f : Found) → HasPeak f → (f.span.end -ℤ f.span.begin) ≤ℤ pos 5270400
+peak_short f has =
+    let few = f.sound.few in
+    let begins = peak_begins f has in
+    let ends = peak_ends f has in
+    omega (arith, ints)
+
+pub peak_is : (f : Found) (c : Meaning) → HasPeak f → c ≡ tide_levels (tide_of_found f) → peak_of c f.span.begin (unsigned_abs (f.span.end -ℤ f.span.begin)) ≡ highest_of f.origin.book (site_of f) f.asked
+peak_is f c has levels =
+    tide_peak-is (tide_of_found f) f.asked c f.span.begin f.span.end levels (peak_begins f has) (peak_ends f has) ∙ peak_for f has
+
+pub verdict_is : (f : Found) (c : Meaning) (peak : Peak) → HasPeak f → c ≡ tide_levels (tide_of_found f) → peak_verdict c f.span.begin (unsigned_abs (f.span.end -ℤ f.span.begin)) peak ≡ highest_verdict f.origin.book (site_of f) f.asked peak
+unfolding tide_verdict
+verdict_is f c peak has levels = rw (levels, peak_begins f has, peak_ends f has) (verdict_for f peak has)
+
+pub peak_inside : (f : Found) (at : ℤ) → HasPeak f → f.span.begin ≤ℤ at → at <ℤ f.span.end → IsSourceIn (tide_of_found f) f.asked at
+peak_inside f at has from before =
+    let begins = peak_begins f has in
+    let ends = peak_ends f has in
+    record { from = omega (arith, ints); before = omega (arith, ints) }

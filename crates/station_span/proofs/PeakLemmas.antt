@@ -69,6 +69,7 @@ as_levels book asked site found is = record {
   };
   few = is.few;
   mark = is.mark;
+  near = is.near;
 }
 
 pub has_highest : (book : Book) (asked : Asked) (site : Site) (found : SiteTide) → IsFound Highest book asked site found → IsTrue (is_equal found.basis) → HasHighest found asked

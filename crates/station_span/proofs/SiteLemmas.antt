@@ -89,9 +89,9 @@ was_found reach book table name asked site ok =
 -- ---- each step
 
 unit_levels : (units same : Units) → level_unit units ≡ Ok same → HasLevels units
-unit_levels Feet same ok = tt
-unit_levels Meters same ok = tt
-unit_levels Knots same ok = tt
+unit_levels Feet same ok = refl
+unit_levels Meters same ok = refl
+unit_levels Knots same ok = refl
 unit_levels KnotsSquared same ok = absurd cc
 
 no_fault : (tide : Tide) (fault : Option CurveFault) (same : Tide) → tide_from (tide_or tide fault) ≡ Ok same → fault ≡ None
@@ -262,6 +262,7 @@ found_of_site reach book table name asked site is rows near ok =
       span = span_reached reach book site.basis asked (has_offsets _ site.basis sound) near steps.curve.span;
       few = few_minutes asked.begin asked.end steps.few;
       mark = mark_here site.basis asked.mark steps.mark;
+      near = near;
     }
 
 -- ---- what any site that was found says

@@ -33,11 +33,11 @@ tide_of_found found = tide_with found.basis found.origin.station found.curve
 -- ---- what is found
 
 -- the expected site of the book, with the requested span
-pub record IsFoundIn (reach : Reach) (book : Book) (asked : Asked) (expected : Result Site Refusal) (found : Found) : Type 0 where
+pub record IsFoundIn (reach_for : Reach) (book_read : Book) (asked_for : Asked) (expected : Result Site Refusal) (found : Found) : Type 0 where
   pub site : expected ≡ Ok (site_of found)
-  pub reach : found.reach ≡ reach
-  pub book : found.origin.book ≡ book
-  pub asked : found.asked ≡ asked
+  pub reach : found.reach ≡ reach_for
+  pub book : found.origin.book ≡ book_read
+  pub asked : found.asked ≡ asked_for
 
 -- the expected site was found, or the expected refusal returned
 abbrev pub FindsIn : Reach → Book → Asked → Result Site Refusal → Result Found Refusal → Type 0

@@ -1,5 +1,5 @@
 -- What the steps of an answer hand on to each other.
-use Rattle.std.specs.Prelude.{◌≡◌, ℤ, negsuc, pos, ◌-ℤ◌, ◌≤ℤ◌, ◌≤◌, unsigned_abs, length, false, IsTrue}
+use Rattle.std.specs.Prelude.{◌≡◌, ℤ, negsuc, pos, ◌-ℤ◌, ◌≤ℤ◌, ◌≤◌, unsigned_abs, length, Bool, true, false, IsTrue}
 use Rattle.std.specs.Option.{ForSome}
 use Rattle.event_list.specs.declared.span.Span.{Span}
 use Rattle.harmonics_text.specs.declared.book.Book.{Book}
@@ -48,11 +48,14 @@ pub record IsReached (reach : Reach) (book : Book) (basis : Basis) (begin end : 
   pub some : lacks_minute reach begin end ≡ false
 
 -- any but a hydraulic current has levels
+abbrev pub has_levels : Units → Bool
+has_levels Feet = true
+has_levels Meters = true
+has_levels Knots = true
+has_levels KnotsSquared = false
+
 abbrev pub HasLevels : Units → Type 0
-HasLevels Feet = Unit {0}
-HasLevels Meters = Unit {0}
-HasLevels Knots = Unit {0}
-HasLevels KnotsSquared = ⊥
+HasLevels units = IsTrue (has_levels units)
 
 -- a minute from the begin of the year 2 to that of the year 9300
 pub record IsFileMinute (minute : ℤ) : Type 0 where
