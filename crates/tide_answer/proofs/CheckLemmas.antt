@@ -122,6 +122,10 @@ pub ok_same : (A E : Type 0) (r : Result A E) (x y : A) → x ≡ y → IfOk r (
 ok_same A E (Ok v) x y same is = is ∙ same
 ok_same A E (Err fault) x y same is = tt
 
+pub ok_has : (A E : Type 0) (r : Result A E) (x : A) (P : A → Type 0) → P x → IfOk r (λ v. v ≡ x) → IfOk r P
+ok_has A E (Ok v) x P has is = rw is has
+ok_has A E (Err fault) x P has is = tt
+
 -- ---- the events are those of either version
 
 slack_events : (s : Span) (asks : Bool) (c d : Meaning) → c.track ≡ d.track → flat_map (events_over s) (option_to_list (if_asked asks c)) ≡ flat_map (events_over s) (option_to_list (if_asked asks d))
@@ -204,7 +208,7 @@ ready_in found cert reach same = ready_of_found found.origin.book (asked_in cert
 pub rejection_for : (found : Found) (cert : Certificate) → found.reach ≡ Events → found.asked ≡ asked_in cert → tide_rejection (tide_of_found found) cert ≡ rejection_in found.origin.book (site_of found) cert
 rejection_for found cert reach same = site_rejection found.origin.book cert (site_of found) (tide_of_found found) (found_in found cert reach same)
 
-span_in : (found : Found) (cert : Certificate) → found.reach ≡ Events → found.asked ≡ asked_in cert → found.span ≡ widened_of found.basis cert.begin cert.end
+pub span_in : (found : Found) (cert : Certificate) → found.reach ≡ Events → found.asked ≡ asked_in cert → found.span ≡ widened_of found.basis cert.begin cert.end
 span_in found cert reach same = span_for found Events reach ∙ ap (λ (a : Asked). widened_of found.basis a.begin a.end) same
 
 pub found_short : (found : Found) (cert : Certificate) → found.reach ≡ Events → found.asked ≡ asked_in cert → IsCertificate cert → rejection_in found.origin.book (site_of found) cert ≡ None → AreShort cert.tracks

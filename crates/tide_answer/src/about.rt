@@ -10,7 +10,7 @@ use decimal_text::Text;
 use harmonics_text::{SoundBook, Station};
 use listing::about_text;
 use slope_agreement::{agreement, predicted_agreements};
-use station_span::{Known, find_known};
+use station_span::find_known;
 use station_table::OffsetTable;
 use std::alloc::Global;
 use tide_fault::Refusal;
@@ -27,10 +27,11 @@ pub fn tell_about(
     ensures exact { Gives wants_memory_of_refusal (known book.now table.now name.now) result }
     ensures told { IfErr result (IsToldRefusal table.now) }
 {
-    let Known { station, curve } = &find_known(alloc, book, table, name)?;
+    let found = find_known(alloc, book, table, name)?;
+    let station = found.station;
     let count = constituent_count(station);
     predicted_agreements();
-    let agreement = agreement(curve);
+    let agreement = agreement(&found.curve);
     let text = about_text(alloc, name, &station.name, station.units, count, agreement)?;
     Ok(text_alone(text))
 }

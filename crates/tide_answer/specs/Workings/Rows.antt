@@ -1,11 +1,11 @@
 -- The levels of a site, one each step, by the tide that predicts it.
-use Rattle.std.specs.Prelude.{◌≡◌, ℕ, ℤ, pos, ◌+ℤ◌, ◌*ℤ◌, ◌≤ℤ◌, List, All, map}
+use Rattle.std.specs.Prelude.{◌≡◌, ℕ, ℤ, pos, ◌≤ℤ◌, List, All, map}
 use Rattle.std.specs.List.{range_with_len}
 use Rattle.listing.specs.declared.row.Row.{Row}
-use Rattle.station_span.specs.declared.station.Found.{Found}
-use Rattle.station_span.specs.Workings.Levels.{tide_level}
+use Rattle.harmonics_text.specs.declared.book.Book.{Book}
+use Rattle.station_span.specs.Sites.{Site}
 use Rattle.zone_time.specs.Zones.{InZoneYears}
-use Rattle.tide_answer.specs.Answers.{row_count}
+use Rattle.tide_answer.specs.Answers.{row_at}
 
 -- a step that a question can name
 pub record IsStep (step : ℤ) : Type 0 where

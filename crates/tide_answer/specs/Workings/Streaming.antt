@@ -1,13 +1,10 @@
 -- What an answer that streams is made of.
-use Rattle.std.specs.Prelude.{ℕ, false, IsTrue, List, ◌++◌, All, IfSome, codes}
+use Rattle.std.specs.Prelude.{◌≡◌, ℕ, false, IsTrue, List, ◌++◌, All, IfSome, codes}
 use Rattle.cert_text.specs.Certificates.{IsCell, IsStationName}
 use Rattle.cert_text.specs.declared.track_name.TrackName.TheVariants.{Turn, Slack, Mark}
 use Rattle.cert_text.specs.Lines.{certificate_text, begin_line_of, end_line_of, mark_line_of, track_lines_of, lines_if_there, ended, joined}
 use Rattle.curve_law.specs.declared.tracks.Tracks.{Tracks}
-use Rattle.event_list.specs.Events.{covers_of}
-use Rattle.event_list.specs.Shifts.{widened_of}
 use Rattle.listing.specs.Listings.{plain_events_of}
-use Rattle.rate_bound.specs.declared.version.Version.TheVariants.{Second}
 use Rattle.question.specs.declared.command.Command.{Command}
 use Rattle.question.specs.declared.command.Command.TheVariants.{Certify}
 use Rattle.station_table.specs.Bases.{is_plain}
@@ -16,11 +13,15 @@ use Rattle.zone_time.specs.Zones.{IsZone}
 use Rattle.station_span.specs.declared.asked.Asked.{Asked}
 use Rattle.tide_answer.specs.declared.form.Form.{Form}
 use Rattle.tide_answer.specs.declared.form.Form.TheVariants.{Listing, Certificate}
-use Rattle.station_span.specs.declared.station.Found.{Found}
+use Rattle.station_span.specs.declared.found.Found.{Found}
+use Rattle.station_span.specs.declared.reach.Reach.TheVariants.{Events}
+use Rattle.station_span.specs.Following.{cells_of, events_of}
+use Rattle.station_span.specs.Sites.{Site}
+use Rattle.station_span.specs.Workings.Finds.{site_of}
+use Rattle.harmonics_text.specs.declared.book.Book.{Book}
+use Rattle.tide_answer.specs.Answers.{certificate_by}
 use Rattle.tide_answer.specs.declared.text.Answer.{Answer}
-use Rattle.tide_answer.specs.Workings.Certifying.{certificate_in}
-use Rattle.station_span.specs.Workings.Curves.{followed_tide, tide_cells, tide_events, IsReady}
-use Rattle.station_span.specs.Workings.Spans.{AreMoments, IsNear}
+use Rattle.station_span.specs.Workings.Spans.{AreMoments}
 
 abbrev pub stream_text : Form → Book → Site → List ℕ → Asked → Zone → List ℕ
 stream_text Listing book site name asked zone = plain_events_of name site.station.units (events_of book site asked) zone

@@ -1,9 +1,7 @@
-use Rattle.tide_answer.proofs.CheckLemmas.{found_lines}
 use Rattle.tide_answer.proofs.check.accept.Goals as goal
 
 pub plain_events-requires-clause-listed : goal.plain_events-requires-clause-listed
-plain_events-requires-clause-listed c =
-    rw (c.in_ok-events.ensures, c.args.found.now.unit) (found_lines c.args.found.now c.args.cert.now c.requires.reach c.requires.same)
+plain_events-requires-clause-listed c = rw c.args.found.now.unit c.in_ok-events.ensures.listed
 
 pub returns : goal.returns
-returns c = ?
+returns c = rw (c.in_ok-list.ensures, c.in_ok-events.ensures.exact, c.args.found.now.unit, c.zone.ensures.exact) at c.accepted.ensures

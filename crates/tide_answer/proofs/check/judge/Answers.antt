@@ -10,8 +10,8 @@ returns-in_err-found-clause-exact c =
     let p = err_from_is_err_and c.from_residual.result c.from_residual.ensures.1 in
     rw (p.1, p.2) (judged_refused _ c.args.book.now c.args.table.now c.args.cert.now c.args.zone.now _ (rw c.asked_in.ensures at c.in_err-found.ensures.exact))
 
-pub returns-in_ok-accept-in-None-clause-exact : goal.returns-in_ok-accept-in-None-clause-exact
-returns-in_ok-accept-in-None-clause-exact c =
+pub returns-in-None-clause-exact : goal.returns-in-None-clause-exact
+returns-in-None-clause-exact c =
     let is = rw c.asked_in.ensures at c.in_ok-found.ensures.exact in
     let rejection = rw is.book at c.find_rejection.ensures in
     judged_by c.args.book.now c.args.table.now c.args.cert.now c.args.zone.now (site_of c.in_ok-found.found) is.site

@@ -1,7 +1,8 @@
-use Rattle.std.proofs.Common.{FitsSigned, w64, rules, sym}
+use Rattle.std.proofs.Common.{FitsSigned, w64, rules, sym, subst}
 use Rattle.std.proofs.lemmas.Int.{to_z-of_z}
 use Rattle.std.proofs.lemmas.Result.{err_from_is_err_and}
-use Rattle.station_span.specs.Workings.Finds.{site_of, tide_of_found}
+use Rattle.station_span.specs.declared.asked.Asked.{Asked}
+use Rattle.station_span.specs.Workings.Finds.{IsLooked, site_of, tide_of_found}
 use Rattle.station_span.proofs.FoundLemmas.{excused_by}
 use Rattle.station_span.proofs.HeldLemmas.{looked_level}
 use Rattle.station_span.proofs.LevelLemmas.{zone_minute}
@@ -22,21 +23,21 @@ level_at-level-requires c =
     let now : FitsSigned w64 c.args.now = search rules in
     let asked = simp to_z-of_z at c.day_from-asked.ensures.exact in
     let is = rw asked at c.in_ok-found.ensures.exact in
-    simp to_z-of_z (rw is.asked at (c.in_ok-check_level.ensures.first is.reach))
+    simp to_z-of_z (subst (λ (a : Asked). IsLooked c.in_ok-found.found a.begin) is.asked (c.in_ok-check_level.ensures.first is.reach))
 
 pub is_rising-rising-requires : goal.is_rising-rising-requires
 is_rising-rising-requires c =
     let now : FitsSigned w64 c.args.now = search rules in
     let asked = simp to_z-of_z at c.day_from-asked.ensures.exact in
     let is = rw asked at c.in_ok-found.ensures.exact in
-    simp to_z-of_z (rw is.asked at (c.in_ok-check_level.ensures.first is.reach))
+    simp to_z-of_z (subst (λ (a : Asked). IsLooked c.in_ok-found.found a.begin) is.asked (c.in_ok-check_level.ensures.first is.reach))
 
 pub clock_text-requires-clause-now : goal.clock_text-requires-clause-now
 clock_text-requires-clause-now c =
     let now : FitsSigned w64 c.args.now = search rules in
     let asked = simp to_z-of_z at c.day_from-asked.ensures.exact in
     let is = rw asked at c.in_ok-found.ensures.exact in
-    let looked = rw is.asked at (c.in_ok-check_level.ensures.first is.reach) in
+    let looked = subst (λ (a : Asked). IsLooked c.in_ok-found.found a.begin) is.asked (c.in_ok-check_level.ensures.first is.reach) in
     simp to_z-of_z (zone_minute (tide_of_found c.in_ok-found.found) c.args.now (looked_level c.in_ok-found.found c.args.now looked))
 
 pub clock_text-requires-clause-listed : goal.clock_text-requires-clause-listed

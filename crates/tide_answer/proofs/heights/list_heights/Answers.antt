@@ -16,11 +16,11 @@ returns-in_err-check_rows-clause-exact c =
     (refused_rows _ c.args.book.now c.args.table.now c.args.name.now c.args.asked.now c.args.step c.args.layout c.args.zone.now (site_of c.in_ok-found.found) _
     is.site (sym c.in_ok-check_level.ensures.exact) (excused_by _ _ _ (sym excused)))
 
-pub rows_of-rows-requires-clause-levels : goal.rows_of-rows-requires-clause-levels
-rows_of-rows-requires-clause-levels c = c.in_ok-check_level.ensures.all c.in_ok-found.ensures.exact.reach
+pub rows_of-requires-clause-levels : goal.rows_of-requires-clause-levels
+rows_of-requires-clause-levels c = c.in_ok-check_level.ensures.all c.in_ok-found.ensures.exact.reach
 
-pub rows_of-rows-requires-clause-few : goal.rows_of-rows-requires-clause-few
-rows_of-rows-requires-clause-few c = rw c.in_ok-found.ensures.exact.asked c.in_ok-check_rows.ensures.few
+pub rows_of-requires-clause-few : goal.rows_of-requires-clause-few
+rows_of-requires-clause-few c = rw c.in_ok-found.ensures.exact.asked c.in_ok-check_rows.ensures.few
 
 pub returns-clause-exact : goal.returns-clause-exact
 returns-clause-exact c =

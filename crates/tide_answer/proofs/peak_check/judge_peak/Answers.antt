@@ -4,5 +4,11 @@ use Rattle.tide_answer.specs.Answers.{peak_judged}
 use Rattle.tide_answer.proofs.PeakLemmas.{judged_by}
 use Rattle.tide_answer.proofs.peak_check.judge_peak.Goals as goal
 
-pub returns-in_ok-accept_peak-in-Accepted-clause-exact : goal.returns-in_ok-accept_peak-in-Accepted-clause-exact
-returns-in_ok-accept_peak-in-Accepted-clause-exact c = ?
+pub returns-in-Accepted-clause-exact : goal.returns-in-Accepted-clause-exact
+returns-in-Accepted-clause-exact c =
+    let is = rw c.asked_of_peak.ensures at c.in_ok-found.ensures.exact in
+    let verdict = rw (is.book, is.asked) at c.judge_highest.ensures.exact in
+    let site = site_of c.in_ok-found.found in
+    judged_by c.args.book.now c.args.table.now c.args.cert.now site is.site
+    ∙ ap (λ v. Ok (peak_judged c.args.book.now site c.args.cert.now v)) (sym verdict ∙ c.in-Accepted.is)
+    ∙ ap (λ a. Ok a) (sym (rw is.book at c.in_ok-accept_peak-in-Accepted.ensures))

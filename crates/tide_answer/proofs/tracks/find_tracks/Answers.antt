@@ -1,4 +1,4 @@
-use Rattle.std.proofs.Common.{◌∙◌}
+use Rattle.std.proofs.Common.{◌≡◌, IfOk, rules}
 use Rattle.rate_bound.specs.declared.mark.MarkCurve.{MarkCurve}
 use Rattle.rate_bound.specs.declared.version.Version.TheVariants.{Second}
 use Rattle.rate_bound.specs.Meanings.{mark_meaning}
@@ -7,6 +7,8 @@ use Rattle.station_span.specs.Workings.Curves.{followed_tide}
 use Rattle.station_span.specs.Workings.Finds.{tide_of_found}
 use Rattle.station_span.proofs.HeldLemmas.{minutes_for, ready_for, span_for, tracks_for}
 use Rattle.station_span.proofs.TellLemmas.{tells_turn, tells_slack, tells_mark}
+use Rattle.event_list.specs.Events.{covers_of}
+use Rattle.tide_answer.proofs.CheckLemmas.{ok_same}
 use Rattle.tide_answer.proofs.tracks.find_tracks.Goals as goal
 
 pub tracks_over-requires-clause-turn : goal.tracks_over-requires-clause-turn
@@ -28,3 +30,10 @@ tracks_over-requires-clause-mark c =
     tells_mark Second (tide_of_found found) found.asked.mark found.span
     (λ (x : MarkCurve). mark_meaning x.version x.station.now x.times x.plus x.mark x.slack) (λ (x : MarkCurve). x.evaluations)
     c.mark_curve-mark.result (minutes_for found c.requires) c.mark_curve-mark.ensures.meaning c.mark_curve-mark.ensures.fresh
+
+pub returns : goal.returns
+unfolding followed_tide
+returns c =
+    let found = c.args.found.now in
+    let tide : IfOk c.tracks_over.result (λ t. t ≡ covers_of (followed_tide Second (tide_of_found found) found.asked.mark) found.span) = search rules in
+    ok_same _ _ c.tracks_over.result _ _ (tracks_for found c.requires) tide
