@@ -1,5 +1,5 @@
 -- The curves that are followed at a site, by its tide and by every constituent of the book.
-use Rattle.std.proofs.Common.{◌≡◌, ◌^◌, ◌<◌, ◌≤◌, ℤ, pos, ◌+ℤ◌, ◌≤ℤ◌, ◌<ℤ◌, unsigned_abs, Bool, true, false, Option, Some, None, option_map, IsTrue, List, All, subst, refl, sym, ◌∙◌, arith}
+use Rattle.std.proofs.Common.{◌≡◌, ◌^◌, ◌<◌, ◌≤◌, ℤ, pos, ◌+ℤ◌, ◌≤ℤ◌, ◌<ℤ◌, unsigned_abs, Bool, true, false, Option, Some, None, option_map, IsTrue, List, All, subst, ap, refl, sym, ◌∙◌, arith}
 use Rattle.std.proofs.lemmas.Int.{ints}
 use Rattle.std.specs.Option.{ForSome}
 use Rattle.curve_law.specs.declared.cell.Cell.{Cell}
@@ -7,8 +7,9 @@ use Rattle.curve_law.specs.declared.event.Event.{Event}
 use Rattle.curve_law.specs.declared.tracks.Tracks.{Tracks}
 use Rattle.curve_law.specs.declared.kind.Kind.TheVariants.{High, Low, MarkRising, MarkFalling}
 use Rattle.curve_law.specs.Meaning.{Meaning, IsLawful, AgreeOver}
+use Rattle.curve_law.proofs.AgreeLemmas.{cover-agrees}
 use Rattle.event_list.specs.declared.span.Span.{Span}
-use Rattle.event_list.specs.Events.{Followed, station_events, cell_count, cells_in, AreAccepted, covers_of, merged_of, AllAgree, AgreeIfFollowed, AreKnown, IsKnown, AreNamed, IsNamed, minutes_in}
+use Rattle.event_list.specs.Events.{Followed, station_events, cell_count, cells_in, cover_over, AreAccepted, covers_of, merged_of, AllAgree, AgreeIfFollowed, AreKnown, IsKnown, AreNamed, IsNamed, minutes_in}
 use Rattle.event_list.specs.Shifts.{HasOffsets, IsMovable, shifted_of, widened_of}
 use Rattle.event_list.proofs.EventLemmas.{count-agrees, count-few, covers-accepted, events-agree, shifted-events}
 use Rattle.event_list.proofs.NameLemmas.{events-lie, events-named}
@@ -34,14 +35,13 @@ use Rattle.station_table.specs.declared.offset.Slack.{Slack}
 use Rattle.station_table.specs.Bases.{is_plain}
 use Rattle.year_blend.specs.Places.{AreYears, InDomain}
 use Rattle.zone_time.specs.Zones.{InZoneYears}
-use Rattle.station_span.specs.declared.following.FoundEvents.{FoundEvents}
 use Rattle.station_span.specs.declared.asked.Asked.{Asked}
 use Rattle.station_span.specs.declared.reach.Reach.TheVariants.{Events}
-use Rattle.station_span.specs.declared.station.Found.{Found}
-use Rattle.station_span.specs.Following.{asks_slack, slack_times, slack_plus, if_asked, followed_by, events_of, cells_of}
+use Rattle.station_span.specs.Workings.Tides.{SiteTide}
+use Rattle.station_span.specs.Following.{asks_slack, slack_times, slack_plus, if_asked, followed_by, events_of, cells_of, tracks_of}
 use Rattle.station_span.specs.Sites.{Site}
-use Rattle.station_span.specs.Workings.Curves.{followed_tide, tide_cells, tide_events, AreMerged, HasMinutes, IsReady, IsSiteList, IsTideList}
-use Rattle.station_span.specs.Workings.Spans.{HasLevels, IsFound, IsNear}
+use Rattle.station_span.specs.Workings.Curves.{followed_tide, tide_cells, tide_events, AreMerged, HasMinutes, IsReady}
+use Rattle.station_span.specs.Workings.Spans.{HasLevels, IsFound}
 use Rattle.station_span.proofs.MovableLemmas.{AreSmall, HasSmallNotes, merged_movable, millionths_small}
 use Rattle.station_span.proofs.SpanLemmas.{file_minute, has_offsets}
 
@@ -53,8 +53,8 @@ for_some P v holds x e = let same : v ≡ x = cc in subst P same holds
 
 -- ---- what was found can be followed
 
-pub ready_of_found : (book : Book) (asked : Asked) (site : Site) (found : Found) → IsNear asked → IsFound Events book asked site found → IsReady asked found
-ready_of_found book asked site found near is = record {
+pub ready_of_found : (book : Book) (asked : Asked) (site : Site) (found : SiteTide) → IsFound Events book asked site found → IsReady asked found
+ready_of_found book asked site found is = record {
   offsets = has_offsets _ found.basis is.sound;
   levels = is.levels;
   gentle = is.gentle;
@@ -65,7 +65,7 @@ ready_of_found book asked site found near is = record {
   ends = rw (is.predicts.first_year, is.predicts.years) is.span.ends;
   near = is.span.near;
   beside = is.span.beside;
-  mark = near.mark;
+  mark = is.near.mark;
 }
 
 -- ---- both say the same
@@ -79,7 +79,7 @@ alike_if_marked s (Some level) f g agree = agree level
 alike_if_marked s None f g agree = tt
 
 -- a site and what was found of it, for the minutes of a span
-pub record IsSame (book : Book) (site : Site) (found : Found) (s : Span) : Type 0 where
+pub record IsSame (book : Book) (site : Site) (found : SiteTide) (s : Span) : Type 0 where
   pub basis : found.basis ≡ site.basis
   pub units : found.units ≡ site.station.units
   pub predicts : PredictsOver book site.station s.begin s.end found.curve
@@ -94,7 +94,7 @@ pub record IsOf (book : Book) (s : Span) : Type 0 where
 last_minute : (s : Span) → s.begin ≤ℤ s.end → s.begin +ℤ pos (minutes_in s) ≡ s.end
 last_minute s forward = omega (arith, ints)
 
-pub followed_alike : (version : Version) (book : Book) (site : Site) (found : Found) (mark : Option ℤ) (s : Span) → IsSame book site found s → IsOf book s → AllAgree (followed_tide version found mark) (followed_by version book site mark) s
+pub followed_alike : (version : Version) (book : Book) (site : Site) (found : SiteTide) (mark : Option ℤ) (s : Span) → IsSame book site found s → IsOf book s → AllAgree (followed_tide version found mark) (followed_by version book site mark) s
 unfolding followed_tide followed_by
 followed_alike version book site found mark s same of =
     let end = last_minute s of.forward in
@@ -158,7 +158,7 @@ in_known version tide s has c lawful first last =
     let end : s.begin +ℤ pos (minutes_in s) ≡ s.end = last_minute s has.forward in
     record { lawful = lawful; span = record { first = rw first has.begins.least; last = rw (end, last) has.ends.most } }
 
-pub followed_known : (version : Version) (found : Found) (mark : Option ℤ) (s : Span) → IsGentle found.curve → HasOffsets found.basis → ForSome mark (λ level. unsigned_abs level ≤ 10000000000) → HasMinutes found.curve s → AreKnown (followed_tide version found mark) s
+pub followed_known : (version : Version) (found : SiteTide) (mark : Option ℤ) (s : Span) → IsGentle found.curve → HasOffsets found.basis → ForSome mark (λ level. unsigned_abs level ≤ 10000000000) → HasMinutes found.curve s → AreKnown (followed_tide version found mark) s
 unfolding followed_tide
 followed_known version found mark s gentle has small minutes =
     let known = in_known version found.curve s minutes in
@@ -182,9 +182,9 @@ plain_word : (units : Units) → HasLevels units → (has_word units High ≡ tr
 plain_word Feet levels = (refl, refl, refl, refl)
 plain_word Meters levels = (refl, refl, refl, refl)
 plain_word Knots levels = (refl, refl, refl, refl)
-plain_word KnotsSquared levels = absurd levels
+plain_word KnotsSquared levels = absurd cc
 
-pub followed_named : (version : Version) (found : Found) (mark : Option ℤ) → HasLevels found.units → AreNamed found.units (followed_tide version found mark)
+pub followed_named : (version : Version) (found : SiteTide) (mark : Option ℤ) → HasLevels found.units → AreNamed found.units (followed_tide version found mark)
 unfolding followed_tide
 followed_named version found mark levels =
     let words = plain_word found.units levels in
@@ -196,10 +196,10 @@ followed_named version found mark levels =
 
 -- ---- the events over the minutes that are looked at
 
-pub ready_minutes : (asked : Asked) (found : Found) → IsReady asked found → HasMinutes found.curve (widened_of found.basis asked.begin asked.end)
+pub ready_minutes : (asked : Asked) (found : SiteTide) → IsReady asked found → HasMinutes found.curve (widened_of found.basis asked.begin asked.end)
 ready_minutes asked found ready = record { years = ready.years; forward = ready.near.forward; begins = ready.begins; ends = ready.ends }
 
-pub ready_known : (version : Version) (asked : Asked) (found : Found) → IsReady asked found → AreKnown (followed_tide version found asked.mark) (widened_of found.basis asked.begin asked.end)
+pub ready_known : (version : Version) (asked : Asked) (found : SiteTide) → IsReady asked found → AreKnown (followed_tide version found asked.mark) (widened_of found.basis asked.begin asked.end)
 ready_known version asked found ready =
     followed_known version found asked.mark (widened_of found.basis asked.begin asked.end) ready.gentle ready.offsets ready.mark (ready_minutes asked found ready)
 
@@ -208,7 +208,7 @@ small_notes : (tide : Tide) (c : Meaning) → IsGentle tide → c.first ≡ (tur
 small_notes tide c gentle first last note m minute =
     rw note (millionths_small tide m gentle (record { least = rw first at minute.first; most = rw last at minute.last }))
 
-pub followed_small : (version : Version) (found : Found) (mark : Option ℤ) → IsGentle found.curve → AreSmall (followed_tide version found mark)
+pub followed_small : (version : Version) (found : SiteTide) (mark : Option ℤ) → IsGentle found.curve → AreSmall (followed_tide version found mark)
 unfolding followed_tide
 followed_small version found mark gentle = record {
   turn = small_notes found.curve _ gentle refl refl refl;
@@ -217,18 +217,18 @@ followed_small version found mark gentle = record {
 }
 
 -- the events of accepted tracks can be moved
-pub ready_movable : (version : Version) (asked : Asked) (found : Found) (tracks : Tracks) → IsReady asked found → AreAccepted (followed_tide version found asked.mark) (widened_of found.basis asked.begin asked.end) tracks → All IsMovable (merged_of (widened_of found.basis asked.begin asked.end).begin tracks)
+pub ready_movable : (version : Version) (asked : Asked) (found : SiteTide) (tracks : Tracks) → IsReady asked found → AreAccepted (followed_tide version found asked.mark) (widened_of found.basis asked.begin asked.end) tracks → All IsMovable (merged_of (widened_of found.basis asked.begin asked.end).begin tracks)
 ready_movable version asked found tracks ready accepted =
     merged_movable (followed_tide version found asked.mark) (widened_of found.basis asked.begin asked.end) tracks ready.near
     (followed_small version found asked.mark ready.gentle) (ready_known version asked found ready) accepted
 
-covers_accept : (asked : Asked) (found : Found) → AreAccepted (followed_tide Second found asked.mark) (widened_of found.basis asked.begin asked.end) (covers_of (followed_tide Second found asked.mark) (widened_of found.basis asked.begin asked.end))
+covers_accept : (asked : Asked) (found : SiteTide) → AreAccepted (followed_tide Second found asked.mark) (widened_of found.basis asked.begin asked.end) (covers_of (followed_tide Second found asked.mark) (widened_of found.basis asked.begin asked.end))
 covers_accept asked found = covers-accepted (followed_tide Second found asked.mark) (widened_of found.basis asked.begin asked.end)
 
-pub merged_can_move : (asked : Asked) (found : Found) (events : List Event) → IsReady asked found → AreMerged asked found events → All IsMovable events
+pub merged_can_move : (asked : Asked) (found : SiteTide) (events : List Event) → IsReady asked found → AreMerged asked found events → All IsMovable events
 merged_can_move asked found events ready merged = rw merged (ready_movable Second asked found _ ready (covers_accept asked found))
 
-pub shifted_is_whole : (asked : Asked) (found : Found) (events : List Event) → IsReady asked found → AreMerged asked found events → shifted_of found.basis asked.begin asked.end events ≡ tide_events found asked
+pub shifted_is_whole : (asked : Asked) (found : SiteTide) (events : List Event) → IsReady asked found → AreMerged asked found events → shifted_of found.basis asked.begin asked.end events ≡ tide_events found asked
 shifted_is_whole asked found events ready merged =
     rw merged (shifted-events (followed_tide Second found asked.mark) found.basis asked.begin asked.end _ (ready_known Second asked found ready) (covers_accept asked found))
 
@@ -237,7 +237,7 @@ plain_over f b begin end s same plain forward =
     subst (λ (x : Span). AreKnown f x → AreAccepted f x (covers_of f x) → merged_of x.begin (covers_of f x) ≡ station_events f b begin end) same
     (λ known accepted. plain-merged f b begin end (covers_of f (record { begin = begin; end = end })) plain forward known accepted)
 
-pub plain_is_whole : (asked : Asked) (found : Found) (events : List Event) → IsReady asked found → AreMerged asked found events → IsTrue (is_plain found.basis) → events ≡ tide_events found asked
+pub plain_is_whole : (asked : Asked) (found : SiteTide) (events : List Event) → IsReady asked found → AreMerged asked found events → IsTrue (is_plain found.basis) → events ≡ tide_events found asked
 plain_is_whole asked found events ready merged plain =
     rw merged
     (plain_over (followed_tide Second found asked.mark) found.basis asked.begin asked.end (widened_of found.basis asked.begin asked.end)
@@ -246,10 +246,10 @@ plain_is_whole asked found events ready merged plain =
 -- ---- the searches of all curves
 
 -- the cells that they have left are those of the curves
-pub tracks_are : (asked : Asked) (found : Found) (turn : List Cell) (slack mark : Option (List Cell)) → turn ≡ (covers_of (followed_tide Second found asked.mark) (widened_of found.basis asked.begin asked.end)).turn → slack ≡ (covers_of (followed_tide Second found asked.mark) (widened_of found.basis asked.begin asked.end)).slack → mark ≡ (covers_of (followed_tide Second found asked.mark) (widened_of found.basis asked.begin asked.end)).mark → record { turn = turn; slack = slack; mark = mark } ≡ covers_of (followed_tide Second found asked.mark) (widened_of found.basis asked.begin asked.end)
+pub tracks_are : (asked : Asked) (found : SiteTide) (turn : List Cell) (slack mark : Option (List Cell)) → turn ≡ (covers_of (followed_tide Second found asked.mark) (widened_of found.basis asked.begin asked.end)).turn → slack ≡ (covers_of (followed_tide Second found asked.mark) (widened_of found.basis asked.begin asked.end)).slack → mark ≡ (covers_of (followed_tide Second found asked.mark) (widened_of found.basis asked.begin asked.end)).mark → record { turn = turn; slack = slack; mark = mark } ≡ covers_of (followed_tide Second found asked.mark) (widened_of found.basis asked.begin asked.end)
 tracks_are asked found turn slack mark t s m = rw (t, s, m) refl
 
-pub few_cells : (asked : Asked) (found : Found) → IsReady asked found → cells_in (covers_of (followed_tide Second found asked.mark) (widened_of found.basis asked.begin asked.end)) < 2 ^ 64
+pub few_cells : (asked : Asked) (found : SiteTide) → IsReady asked found → cells_in (covers_of (followed_tide Second found asked.mark) (widened_of found.basis asked.begin asked.end)) < 2 ^ 64
 unfolding cell_count
 few_cells asked found ready =
     let few = count-few (followed_tide Second found asked.mark) (widened_of found.basis asked.begin asked.end) in
@@ -258,14 +258,14 @@ few_cells asked found ready =
     let end = ready.near.end in
     omega (arith, ints, few)
 
-pub counted_cells : (asked : Asked) (found : Found) → cells_in (covers_of (followed_tide Second found asked.mark) (widened_of found.basis asked.begin asked.end)) ≡ tide_cells found asked
+pub counted_cells : (asked : Asked) (found : SiteTide) → cells_in (covers_of (followed_tide Second found asked.mark) (widened_of found.basis asked.begin asked.end)) ≡ tide_cells found asked
 unfolding cell_count
 counted_cells asked found = refl
 
 -- ---- the events have lines
 
 -- a minute of the span has a local time by every clock
-pub asked_minute : (asked : Asked) (found : Found) (m : ℤ) → IsReady asked found → asked.begin ≤ℤ m → m ≤ℤ asked.end → InZoneYears m
+pub asked_minute : (asked : Asked) (found : SiteTide) (m : ℤ) → IsReady asked found → asked.begin ≤ℤ m → m ≤ℤ asked.end → InZoneYears m
 asked_minute asked found m ready from until =
     let span = widened_of found.basis asked.begin asked.end in
     let first = file_minute _ _ span.begin ready.years ready.begins in
@@ -276,14 +276,14 @@ asked_minute asked found m ready from until =
     let after = ready.beside.ends in
     record { first = omega (arith, ints); last = omega (arith, ints) }
 
-listed_each : (asked : Asked) (found : Found) (units : Units) (events : List Event) → IsReady asked found → All (λ e. (asked.begin ≤ℤ e.minute) × (e.minute <ℤ asked.end)) events → All (λ e. IsTrue (has_word units e.kind)) events → All (IsListed units) events
+listed_each : (asked : Asked) (found : SiteTide) (units : Units) (events : List Event) → IsReady asked found → All (λ e. (asked.begin ≤ℤ e.minute) × (e.minute <ℤ asked.end)) events → All (λ e. IsTrue (has_word units e.kind)) events → All (IsListed units) events
 listed_each asked found units events ready lie named k d h =
     let within = lie k d h in
     let from = within.0 in
     let until = within.1 in
     record { minute = asked_minute asked found _ ready from (omega (arith, ints)); named = named k d h }
 
-pub tide_lines : (asked : Asked) (found : Found) → IsReady asked found → All (IsListed found.units) (tide_events found asked)
+pub tide_lines : (asked : Asked) (found : SiteTide) → IsReady asked found → All (IsListed found.units) (tide_events found asked)
 tide_lines asked found ready =
     listed_each asked found found.units (tide_events found asked) ready
     (events-lie (followed_tide Second found asked.mark) found.basis asked.begin asked.end)
@@ -291,35 +291,44 @@ tide_lines asked found ready =
 
 -- ---- and are those of the site
 
-same_site : (book : Book) (asked : Asked) (site : Site) (found : Found) → IsFound Events book asked site found → IsSame book site found (widened_of found.basis asked.begin asked.end)
+same_site : (book : Book) (asked : Asked) (site : Site) (found : SiteTide) → IsFound Events book asked site found → IsSame book site found (widened_of found.basis asked.begin asked.end)
 same_site book asked site found is = record { basis = is.basis; units = is.units; predicts = is.predicts; years = is.years }
 
-of_book : (book : Book) (asked : Asked) (site : Site) (found : Found) → IsFound Events book asked site found → IsOf book (widened_of found.basis asked.begin asked.end)
+of_book : (book : Book) (asked : Asked) (site : Site) (found : SiteTide) → IsFound Events book asked site found → IsOf book (widened_of found.basis asked.begin asked.end)
 of_book book asked site found is = record { forward = is.span.near.forward; begins = is.span.begins; ends = is.span.ends }
 
-pub found_alike : (version : Version) (book : Book) (asked : Asked) (site : Site) (found : Found) (mark : Option ℤ) → IsFound Events book asked site found → AllAgree (followed_tide version found mark) (followed_by version book site mark) (widened_of found.basis asked.begin asked.end)
+pub found_alike : (version : Version) (book : Book) (asked : Asked) (site : Site) (found : SiteTide) (mark : Option ℤ) → IsFound Events book asked site found → AllAgree (followed_tide version found mark) (followed_by version book site mark) (widened_of found.basis asked.begin asked.end)
 found_alike version book asked site found mark is =
     followed_alike version book site found mark (widened_of found.basis asked.begin asked.end) (same_site book asked site found is) (of_book book asked site found is)
 
-pub found_events : (book : Book) (asked : Asked) (site : Site) (found : Found) → IsFound Events book asked site found → tide_events found asked ≡ events_of book site asked
+pub found_events : (book : Book) (asked : Asked) (site : Site) (found : SiteTide) → IsFound Events book asked site found → tide_events found asked ≡ events_of book site asked
 unfolding events_of
 found_events book asked site found is =
     rw (events-agree (followed_tide Second found asked.mark) (followed_by Second book site asked.mark) found.basis asked.begin asked.end (found_alike Second book asked site found asked.mark is), is.basis) refl
 
-pub found_cells : (book : Book) (asked : Asked) (site : Site) (found : Found) → IsFound Events book asked site found → tide_cells found asked ≡ cells_of book site asked
+pub found_cells : (book : Book) (asked : Asked) (site : Site) (found : SiteTide) → IsFound Events book asked site found → tide_cells found asked ≡ cells_of book site asked
 unfolding cells_of
 found_cells book asked site found is =
     rw (count-agrees (followed_tide Second found asked.mark) (followed_by Second book site asked.mark) (widened_of found.basis asked.begin asked.end) (found_alike Second book asked site found asked.mark is), is.basis) refl
 
-pub site_list_of_tide : (book : Book) (asked : Asked) (site : Site) (found : Found) (listed : FoundEvents) → IsNear asked → IsFound Events book asked site found → IsTideList found asked listed → IsSiteList book asked site listed
-site_list_of_tide book asked site found listed near is list =
-    let ready = ready_of_found book asked site found near is in record {
-      units = list.units ∙ is.units;
-      levels = rw list.units is.levels;
-      events = list.events ∙ found_events book asked site found is;
-      cells = list.cells ∙ found_cells book asked site found is;
-      lines = list.lines;
-      forward = ready.forward;
-      begins = asked_minute asked found asked.begin ready (omega (arith, ints)) ready.forward;
-      ends = asked_minute asked found asked.end ready ready.forward (omega (arith, ints));
-    }
+
+-- ---- and so are the covers of its curves
+
+cover_if_alike : (s : Span) (c d : Option Meaning) → AgreeIfFollowed s c d → option_map (cover_over s) c ≡ option_map (cover_over s) d
+cover_if_alike s None None agree = refl
+cover_if_alike s None (Some d) agree = absurd agree
+cover_if_alike s (Some c) None agree = absurd agree
+cover_if_alike s (Some c) (Some d) agree = ap (λ (cells : List Cell). Some cells) (cover-agrees c d s.begin (minutes_in s) agree)
+
+covers_alike : (f g : Followed) (s : Span) → AllAgree f g s → covers_of f s ≡ covers_of g s
+covers_alike f g s agree =
+    let turn = cover-agrees f.turn g.turn s.begin (minutes_in s) agree.turn in
+    let slack = cover_if_alike s f.slack g.slack agree.slack in
+    let mark = cover_if_alike s f.mark g.mark agree.mark in
+    rw (turn, slack, mark) refl
+
+pub tracks_alike : (book : Book) (asked : Asked) (site : Site) (found : SiteTide) (tracks : Tracks) → IsFound Events book asked site found → tracks ≡ covers_of (followed_tide Second found asked.mark) (widened_of found.basis asked.begin asked.end) → tracks ≡ tracks_of book site asked
+unfolding tracks_of
+tracks_alike book asked site found tracks is same =
+    same ∙ covers_alike _ _ _ (found_alike Second book asked site found asked.mark is)
+    ∙ ap (λ b. covers_of (followed_by Second book site asked.mark) (widened_of b asked.begin asked.end)) is.basis

@@ -14,10 +14,10 @@ use Rattle.station_span.specs.declared.asked.Asked.{Asked}
 use Rattle.station_span.specs.declared.reach.Reach.{Reach}
 use Rattle.tide_fault.specs.declared.refusal.Refusal.{Refusal}
 use Rattle.tide_fault.specs.declared.refusal.Refusal.TheVariants.{NoReference, OutOfYears}
-use Rattle.station_span.specs.declared.station.Found.{Found}
 use Rattle.tide_fault.specs.Faults.{IsToldRefusal}
 use Rattle.station_span.specs.Sites.{Site, basis_from, level_unit, span_in, tide_from, length_in, mark_in, site_at, site_in, station_in}
-use Rattle.station_span.specs.Workings.Spans.{FindsIn}
+use Rattle.station_span.specs.declared.found.Found.{Found}
+use Rattle.station_span.specs.Workings.Finds.{FindsIn}
 
 pub excused_then : {A B : Type 0} (memory : Bool) (step : Result A Refusal) (next : A → Result B Refusal) (refusal : Refusal) → Excused memory step refusal → Excused memory (step >>= next) refusal
 excused_then true step next refusal excused = tt

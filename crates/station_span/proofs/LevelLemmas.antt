@@ -20,7 +20,7 @@ use Rattle.zone_time.specs.Zones.{InZoneYears}
 use Rattle.station_span.specs.declared.asked.Asked.{Asked}
 use Rattle.station_span.specs.declared.reach.Reach.{Reach}
 use Rattle.station_span.specs.declared.reach.Reach.TheVariants.{Events, Levels}
-use Rattle.station_span.specs.declared.station.Found.{Found}
+use Rattle.station_span.specs.Workings.Tides.{SiteTide}
 use Rattle.station_span.specs.Levels.{level_at, level_in, is_rising_at}
 use Rattle.station_span.specs.Sites.{Site, moved, reached}
 use Rattle.station_span.specs.Workings.Curves.{InTide}
@@ -30,7 +30,7 @@ use Rattle.station_span.proofs.SpanLemmas.{file_minute}
 
 -- ---- minutes whose level the tide has
 
-pub zone_minute : (found : Found) (minute : ℤ) → HasLevel found minute → InZoneYears minute
+pub zone_minute : (found : SiteTide) (minute : ℤ) → HasLevel found minute → InZoneYears minute
 zone_minute found minute has =
     let file = file_minute found.curve.first_year (length found.curve.years) (source_of found minute) has.years has.inside in
     let low = file.least in
@@ -38,11 +38,11 @@ zone_minute found minute has =
     let least = has.offset.add in
     record { first = omega (arith, ints); last = omega (arith, ints) }
 
-pub near_minute : (found : Found) (minute : ℤ) → HasLevel found minute → unsigned_abs minute ≤ 20000000000
+pub near_minute : (found : SiteTide) (minute : ℤ) → HasLevel found minute → unsigned_abs minute ≤ 20000000000
 near_minute found minute has = let in_years = zone_minute found minute has in omega (arith, ints)
 
 -- the minutes between two such
-pub between : (found : Found) (asked : Asked) (minute : ℤ) → HasLevelsIn found asked → asked.begin ≤ℤ minute → minute ≤ℤ asked.end → HasLevel found minute
+pub between : (found : SiteTide) (asked : Asked) (minute : ℤ) → HasLevelsIn found asked → asked.begin ≤ℤ minute → minute ≤ℤ asked.end → HasLevel found minute
 between found asked minute has after before =
     let least = has.first.inside.least in
     let most = has.last.inside.most in
@@ -54,17 +54,17 @@ between found asked minute has after before =
 
 -- ---- what was found of a site
 
-tide_years : (book : Book) (found : Found) → found.curve.first_year ≡ book.first_year → length found.curve.years ≡ book.years → AreYears book.first_year book.years → AreYears found.curve.first_year (length found.curve.years)
+pub tide_years : (book : Book) (found : SiteTide) → found.curve.first_year ≡ book.first_year → length found.curve.years ≡ book.years → AreYears book.first_year book.years → AreYears found.curve.first_year (length found.curve.years)
 tide_years book found first count are = rw (first, count) are
 
-in_tide : (book : Book) (found : Found) (minute : ℤ) → found.curve.first_year ≡ book.first_year → length found.curve.years ≡ book.years → InDomain book.first_year book.years minute → InTide found.curve minute
+pub in_tide : (book : Book) (found : SiteTide) (minute : ℤ) → found.curve.first_year ≡ book.first_year → length found.curve.years ≡ book.years → InDomain book.first_year book.years minute → InTide found.curve minute
 in_tide book found minute first count inside = rw (first, count) inside
 
-pub in_book : (book : Book) (found : Found) (minute : ℤ) → found.curve.first_year ≡ book.first_year → length found.curve.years ≡ book.years → InTide found.curve minute → InDomain book.first_year book.years minute
+pub in_book : (book : Book) (found : SiteTide) (minute : ℤ) → found.curve.first_year ≡ book.first_year → length found.curve.years ≡ book.years → InTide found.curve minute → InDomain book.first_year book.years minute
 in_book book found minute first count inside = rw (sym first, sym count) inside
 
 -- where levels are asked, the span's
-pub found_levels : (book : Book) (asked : Asked) (site : Site) (found : Found) → IsFound Levels book asked site found → IsTrue (is_equal found.basis) → HasLevelsIn found asked
+pub found_levels : (book : Book) (asked : Asked) (site : Site) (found : SiteTide) → IsFound Levels book asked site found → IsTrue (is_equal found.basis) → HasLevelsIn found asked
 found_levels book asked site found is equal =
     let begins = rw equal at is.span.begins in
     let ends = rw equal at is.span.ends in
@@ -76,27 +76,11 @@ found_levels book asked site found is equal =
     }
 
 -- where events are, that of the span's first minute
-within_adds : (basis : Basis) → (least_add basis ≤ℤ basis.high.add) × (basis.high.add ≤ℤ greatest_add basis)
+pub within_adds : (basis : Basis) → (least_add basis ≤ℤ basis.high.add) × (basis.high.add ≤ℤ greatest_add basis)
 within_adds basis = (
   (fold-int_min_bounds basis.high.add (basis.low.add ∷ slack_adds basis.slack) _ refl).0,
   (fold-int_max_bounds basis.high.add (basis.low.add ∷ slack_adds basis.slack) _ refl).0,
 )
-
-pub found_level : (book : Book) (asked : Asked) (site : Site) (found : Found) → IsFound Events book asked site found → HasLevel found asked.begin
-found_level book asked site found is =
-    let adds = within_adds found.basis in
-    let least_first = adds.0 in
-    let greatest_last = adds.1 in
-    let forward = is.span.forward in
-    let least = is.span.begins.least in
-    let most = is.span.ends.most in
-    let inside : InDomain book.first_year book.years (source_of found asked.begin) =
-    record { least = omega (arith, ints); most = omega (arith, ints) } in
-    record {
-      offset = is.sound.high;
-      years = tide_years book found is.predicts.first_year is.predicts.years is.years;
-      inside = in_tide book found _ is.predicts.first_year is.predicts.years inside;
-    }
 
 -- where levels aren't refused, all offsets are the same
 pub level_equal : (basis : Basis) → level_in basis ≡ Ok tt → IsTrue (is_equal basis)
@@ -107,36 +91,24 @@ level_equal basis ok = by_test (is_equal basis)
 -- ---- the levels by every constituent of the book
 
 -- a minute of the reference that its curve predicts
-pub record IsPredicted (book : Book) (site : Site) (found : Found) (first last minute : ℤ) : Type 0 where
+pub record IsPredicted (book : Book) (site : Site) (found : SiteTide) (first last minute : ℤ) : Type 0 where
   pub predicts : PredictsOver book site.station first last found.curve
   pub from : first ≤ℤ source_of found minute
   pub until : source_of found minute ≤ℤ last
 
-pub site_level : (book : Book) (site : Site) (found : Found) (first last minute : ℤ) → found.basis ≡ site.basis → IsPredicted book site found first last minute → HasLevel found minute → tide_level found minute ≡ level_at book site minute
+pub site_level : (book : Book) (site : Site) (found : SiteTide) (first last minute : ℤ) → found.basis ≡ site.basis → IsPredicted book site found first last minute → HasLevel found minute → tide_level found minute ≡ level_at book site minute
 site_level book site found first last minute basis is has =
     let inside = in_book book found _ is.predicts.first_year is.predicts.years has.inside in
     rw (is.predicts.millionths (source_of found minute) inside is.from is.until, basis) refl
 
-pub site_rising : (book : Book) (site : Site) (found : Found) (first last minute : ℤ) → found.basis ≡ site.basis → IsPredicted book site found first last minute → HasLevel found minute → is_tide_rising found minute ≡ is_rising_at book site minute
+pub site_rising : (book : Book) (site : Site) (found : SiteTide) (first last minute : ℤ) → found.basis ≡ site.basis → IsPredicted book site found first last minute → HasLevel found minute → is_tide_rising found minute ≡ is_rising_at book site minute
 site_rising book site found first last minute basis is has =
     let inside = in_book book found _ is.predicts.first_year is.predicts.years has.inside in
     rw (is.predicts.slope (source_of found minute) inside is.from is.until, basis) refl
 
 -- where levels are asked, each minute of the span
-pub predicts_sources : (reach : Reach) (book : Book) (asked : Asked) (site : Site) (found : Found) → reached reach found.basis asked.begin asked.end ≡ moved found.basis asked.begin asked.end → IsTrue (is_equal found.basis) → PredictsReached reach book asked site found → PredictsOver book site.station (source_of found asked.begin) (source_of found asked.end) found.curve
+pub predicts_sources : (reach : Reach) (book : Book) (asked : Asked) (site : Site) (found : SiteTide) → reached reach found.basis asked.begin asked.end ≡ moved found.basis asked.begin asked.end → IsTrue (is_equal found.basis) → PredictsReached reach book asked site found → PredictsOver book site.station (source_of found asked.begin) (source_of found asked.end) found.curve
 predicts_sources reach book asked site found is equal predicts = rw (is, equal) at predicts
-
-pub predicted_source : (book : Book) (asked : Asked) (site : Site) (found : Found) (minute : ℤ) → PredictsOver book site.station (source_of found asked.begin) (source_of found asked.end) found.curve → asked.begin ≤ℤ minute → minute ≤ℤ asked.end → IsPredicted book site found (source_of found asked.begin) (source_of found asked.end) minute
-predicted_source book asked site found minute predicts from until = record { predicts = predicts; from = omega (arith, ints); until = omega (arith, ints) }
-
--- where events are, the span's first minute
-pub predicted_first : (book : Book) (asked : Asked) (site : Site) (found : Found) → IsFound Events book asked site found → IsPredicted book site found (widened_of found.basis asked.begin asked.end).begin (widened_of found.basis asked.begin asked.end).end asked.begin
-predicted_first book asked site found is =
-    let adds = within_adds found.basis in
-    let least_first = adds.0 in
-    let greatest_last = adds.1 in
-    let forward = is.span.forward in
-    record { predicts = is.predicts; from = omega (arith, ints); until = omega (arith, ints) }
 
 -- ---- a level of the reference that isn't lower is moved to one that isn't
 

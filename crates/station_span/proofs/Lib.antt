@@ -1,5 +1,6 @@
 pub mod FollowLemmas
 pub mod FoundLemmas
+pub mod HeldLemmas
 pub mod LevelLemmas
 pub mod MovableLemmas
 pub mod NameLemmas

@@ -27,7 +27,7 @@ use Rattle.station_table.specs.declared.offsets.Offsets.{Offsets}
 use Rattle.tide_fault.specs.declared.refusal.Refusal.{Refusal}
 use Rattle.station_span.specs.declared.asked.Asked.{Asked}
 use Rattle.station_span.specs.declared.reach.Reach.TheVariants.{Levels, Highest}
-use Rattle.station_span.specs.declared.station.Found.{Found}
+use Rattle.station_span.specs.Workings.Tides.{SiteTide}
 use Rattle.station_span.specs.Levels.{level_in}
 use Rattle.station_span.specs.Peaks.{first_source, highest_of, highest_site, highest_verdict, level_curve, minute_count}
 use Rattle.station_span.specs.Sites.{Site, lacks_minute, site_in}
@@ -50,7 +50,7 @@ some_minute : (begin end : ℤ) → lacks_minute Highest begin end ≡ false →
 unfolding lacks_minute
 some_minute begin end some = grind (arith, ints)
 
-as_levels : (book : Book) (asked : Asked) (site : Site) (found : Found) → IsFound Highest book asked site found → IsFound Levels book asked site found
+as_levels : (book : Book) (asked : Asked) (site : Site) (found : SiteTide) → IsFound Highest book asked site found → IsFound Levels book asked site found
 as_levels book asked site found is = record {
   basis = is.basis;
   sound = is.sound;
@@ -69,9 +69,10 @@ as_levels book asked site found is = record {
   };
   few = is.few;
   mark = is.mark;
+  near = is.near;
 }
 
-pub has_highest : (book : Book) (asked : Asked) (site : Site) (found : Found) → IsFound Highest book asked site found → IsTrue (is_equal found.basis) → HasHighest found asked
+pub has_highest : (book : Book) (asked : Asked) (site : Site) (found : SiteTide) → IsFound Highest book asked site found → IsTrue (is_equal found.basis) → HasHighest found asked
 has_highest book asked site found is equal = record {
   levels = found_levels book asked site found (as_levels book asked site found is) equal;
   some = some_minute asked.begin asked.end is.span.some;
@@ -86,7 +87,7 @@ last_source begin end add forward = omega (arith, ints)
 values_alike : (c d : Meaning) (a : ℤ) (n : ℕ) → AgreeOver c d a n → AgreeOnValues c d a n
 values_alike c d a n agree = record { values = agree.values; rates = agree.rates }
 
-pub levels_alike : (book : Book) (asked : Asked) (site : Site) (found : Found) → IsFound Highest book asked site found → IsTrue (is_equal found.basis) → HasHighest found asked → AgreeOnValues (tide_levels found) (level_curve book site) (source_of found asked.begin) (minute_count asked)
+pub levels_alike : (book : Book) (asked : Asked) (site : Site) (found : SiteTide) → IsFound Highest book asked site found → IsTrue (is_equal found.basis) → HasHighest found asked → AgreeOnValues (tide_levels found) (level_curve book site) (source_of found asked.begin) (minute_count asked)
 levels_alike book asked site found is equal has =
     let end = last_source asked.begin asked.end found.basis.high.add has.levels.forward in
     let first = in_book book found (source_of found asked.begin) is.predicts.first_year is.predicts.years has.levels.first.inside in
@@ -97,7 +98,7 @@ levels_alike book asked site found is equal has =
 
 -- ---- its minutes
 
-pub source_minute : (found : Found) (asked : Asked) (at : ℤ) → HasHighest found asked → IsSourceIn found asked at → HasLevel found (at +ℤ found.basis.high.add)
+pub source_minute : (found : SiteTide) (asked : Asked) (at : ℤ) → HasHighest found asked → IsSourceIn found asked at → HasLevel found (at +ℤ found.basis.high.add)
 source_minute found asked at has inside = between found asked _ has.levels inside.from (let before = inside.before in omega (arith, ints))
 
 -- ---- the reference's minutes
@@ -105,32 +106,32 @@ source_minute found asked at has inside = between found asked _ has.levels insid
 pub count_moved : (begin end add : ℤ) → unsigned_abs ((end -ℤ add) -ℤ (begin -ℤ add)) ≡ unsigned_abs (end -ℤ begin)
 count_moved begin end add = let same : (end -ℤ add) -ℤ (begin -ℤ add) ≡ end -ℤ begin = omega (arith, ints) in ap unsigned_abs same
 
-pub near_source : (found : Found) (asked : Asked) (at : ℤ) → HasHighest found asked → IsSourceIn found asked at → unsigned_abs at ≤ 30000000000
+pub near_source : (found : SiteTide) (asked : Asked) (at : ℤ) → HasHighest found asked → IsSourceIn found asked at → unsigned_abs at ≤ 30000000000
 near_source found asked at has inside =
     let level = source_minute found asked at has inside in
     let near = near_minute found _ level in
     let add = level.offset.add in omega (arith, ints)
 
-pub source_inside : (found : Found) (asked : Asked) (at : ℤ) → source_of found asked.begin ≤ℤ at → at <ℤ source_of found asked.end → IsSourceIn found asked at
+pub source_inside : (found : SiteTide) (asked : Asked) (at : ℤ) → source_of found asked.begin ≤ℤ at → at <ℤ source_of found asked.end → IsSourceIn found asked at
 source_inside found asked at from before = record { from = omega (arith, ints); before = omega (arith, ints) }
 
 -- ---- what was found is what is expected
 
-pub peak_alike : (book : Book) (asked : Asked) (site : Site) (found : Found) → IsFound Highest book asked site found → IsTrue (is_equal found.basis) → HasHighest found asked → tide_peak found asked ≡ highest_of book site asked
+pub peak_alike : (book : Book) (asked : Asked) (site : Site) (found : SiteTide) → IsFound Highest book asked site found → IsTrue (is_equal found.basis) → HasHighest found asked → tide_peak found asked ≡ highest_of book site asked
 unfolding tide_peak highest_of
 peak_alike book asked site found is equal has =
     ap (λ n. peak_of (tide_levels found) (source_of found asked.begin) n) (count_moved asked.begin asked.end found.basis.high.add)
     ∙ peak_of-agrees _ _ (source_of found asked.begin) (minute_count asked) (levels_alike book asked site found is equal has)
     ∙ ap (λ b. peak_of (level_curve book site) (asked.begin -ℤ b.high.add) (minute_count asked)) is.basis
 
-pub verdict_alike : (book : Book) (asked : Asked) (site : Site) (found : Found) (peak : Peak) → IsFound Highest book asked site found → IsTrue (is_equal found.basis) → HasHighest found asked → tide_verdict found asked peak ≡ highest_verdict book site asked peak
+pub verdict_alike : (book : Book) (asked : Asked) (site : Site) (found : SiteTide) (peak : Peak) → IsFound Highest book asked site found → IsTrue (is_equal found.basis) → HasHighest found asked → tide_verdict found asked peak ≡ highest_verdict book site asked peak
 unfolding tide_verdict highest_verdict
 verdict_alike book asked site found peak is equal has =
     ap (λ n. peak_verdict (tide_levels found) (source_of found asked.begin) n peak) (count_moved asked.begin asked.end found.basis.high.add)
     ∙ verdict-agrees _ _ (source_of found asked.begin) (minute_count asked) peak (levels_alike book asked site found is equal has)
     ∙ ap (λ b. peak_verdict (level_curve book site) (asked.begin -ℤ b.high.add) (minute_count asked) peak) is.basis
 
-pub whole_site : (book : Book) (table : List Offsets) (name : List ℕ) (asked : Asked) (site : Site) (found : Found) → site_in Highest book table name asked ≡ Ok site → found.basis ≡ site.basis → level_in found.basis ≡ Ok tt → highest_site book table name asked ≡ Ok site
+pub whole_site : (book : Book) (table : List Offsets) (name : List ℕ) (asked : Asked) (site : Site) (found : SiteTide) → site_in Highest book table name asked ≡ Ok site → found.basis ≡ site.basis → level_in found.basis ≡ Ok tt → highest_site book table name asked ≡ Ok site
 unfolding highest_site
 whole_site book table name asked site found is basis level =
     let here : level_in site.basis ≡ Ok tt = subst (λ b. level_in b ≡ Ok tt) basis level in rw (is, here) refl
@@ -139,25 +140,25 @@ pub refused_site : (memory : Bool) (book : Book) (table : List Offsets) (name : 
 unfolding highest_site
 refused_site memory book table name asked refusal excused = excused_then memory (site_in Highest book table name asked) _ refusal excused
 
-pub refused_level : (memory : Bool) (book : Book) (table : List Offsets) (name : List ℕ) (asked : Asked) (site : Site) (found : Found) (refusal : Refusal) → site_in Highest book table name asked ≡ Ok site → found.basis ≡ site.basis → level_in found.basis ≡ Err refusal → Excused memory (highest_site book table name asked) refusal
+pub refused_level : (memory : Bool) (book : Book) (table : List Offsets) (name : List ℕ) (asked : Asked) (site : Site) (found : SiteTide) (refusal : Refusal) → site_in Highest book table name asked ≡ Ok site → found.basis ≡ site.basis → level_in found.basis ≡ Err refusal → Excused memory (highest_site book table name asked) refusal
 unfolding highest_site
 refused_level memory book table name asked site found refusal is basis level =
     let here : level_in site.basis ≡ Err refusal = subst (λ b. level_in b ≡ Err refusal) basis level in excused_by memory _ refusal (rw (is, here) refl)
 
-pub tide_peak-is : (found : Found) (asked : Asked) (c : Meaning) (b e : ℤ) → c ≡ tide_levels found → b ≡ source_of found asked.begin → e ≡ source_of found asked.end → peak_of c b (unsigned_abs (e -ℤ b)) ≡ tide_peak found asked
+pub tide_peak-is : (found : SiteTide) (asked : Asked) (c : Meaning) (b e : ℤ) → c ≡ tide_levels found → b ≡ source_of found asked.begin → e ≡ source_of found asked.end → peak_of c b (unsigned_abs (e -ℤ b)) ≡ tide_peak found asked
 unfolding tide_peak
 tide_peak-is found asked c b e levels first last = rw (levels, first, last) refl
 
 -- ---- what is accepted by the tide
 
-levels_lawful : (found : Found) → IsGentle found.curve → IsLawful (tide_levels found)
+levels_lawful : (found : SiteTide) → IsGentle found.curve → IsLawful (tide_levels found)
 levels_lawful found gentle = mark_lawful Second found.curve (pos 1000000) (pos 0) (pos 0) true gentle usual_scale
 
 source_end : (begin end add : ℤ) → begin ≤ℤ end → (begin -ℤ add) +ℤ pos (unsigned_abs ((end -ℤ add) -ℤ (begin -ℤ add))) ≡ end -ℤ add
 source_end begin end add forward = omega (arith, ints)
 
 -- it is the highest water
-pub tide_highest : (found : Found) (asked : Asked) (peak : Peak) → IsGentle found.curve → HasHighest found asked → tide_verdict found asked peak ≡ Accepted → IsHighest (tide_levels found) (source_of found asked.begin) (source_of found asked.end) peak.at peak.value
+pub tide_highest : (found : SiteTide) (asked : Asked) (peak : Peak) → IsGentle found.curve → HasHighest found asked → tide_verdict found asked peak ≡ Accepted → IsHighest (tide_levels found) (source_of found asked.begin) (source_of found asked.end) peak.at peak.value
 unfolding tide_verdict
 tide_highest found asked peak gentle has ok =
     let all = source_end asked.begin asked.end found.basis.high.add has.levels.forward in
@@ -166,7 +167,7 @@ tide_highest found asked peak gentle has ok =
     rw all at (verdict-highest (tide_levels found) (source_of found asked.begin) (source_count found asked) peak (levels_lawful found gentle) span ok)
 
 -- a certificate of it has a text
-pub accepted_certificate : (name : List ℕ) (asked : Asked) (found : Found) (peak : Peak) → IsStationName name → AreMoments asked → IsGentle found.curve → HasHighest found asked → tide_verdict found asked peak ≡ Accepted → IsPeakCertificate (record { station = name; begin = asked.begin; end = asked.end; peak = peak })
+pub accepted_certificate : (name : List ℕ) (asked : Asked) (found : SiteTide) (peak : Peak) → IsStationName name → AreMoments asked → IsGentle found.curve → HasHighest found asked → tide_verdict found asked peak ≡ Accepted → IsPeakCertificate (record { station = name; begin = asked.begin; end = asked.end; peak = peak })
 unfolding tide_verdict
 accepted_certificate name asked found peak named moments gentle has ok =
     let highest = tide_highest found asked peak gentle has ok in
@@ -185,7 +186,7 @@ accepted_certificate name asked found peak named moments gentle has ok =
     }
 
 -- the one that is found is accepted
-pub tide_peak_accepted : (found : Found) (asked : Asked) → HasHighest found asked → tide_verdict found asked (tide_peak found asked) ≡ Accepted
+pub tide_peak_accepted : (found : SiteTide) (asked : Asked) → HasHighest found asked → tide_verdict found asked (tide_peak found asked) ≡ Accepted
 unfolding tide_verdict tide_peak
 tide_peak_accepted found asked has =
     let some = has.some in

@@ -30,7 +30,7 @@ use Rattle.station_span.specs.declared.asked.Asked.{Asked}
 use Rattle.station_span.specs.declared.reach.Reach.{Reach}
 use Rattle.station_span.specs.declared.reach.Reach.TheVariants.{Events, Levels, Highest}
 use Rattle.tide_fault.specs.declared.refusal.Refusal.TheVariants.{NoStation}
-use Rattle.station_span.specs.declared.station.Found.{Found}
+use Rattle.station_span.specs.Workings.Tides.{SiteTide}
 use Rattle.station_span.specs.Sites.{Site, basis_from, lacks_minute, level_unit, moved, reached, has_span, span_in, tide_from, length_in, mark_in, span_limit, site_at, site_in}
 use Rattle.station_span.specs.Workings.Spans.{HasLevels, IsBeside, IsFound, IsNear, IsNearSpan, IsReached}
 use Rattle.station_span.proofs.FoundLemmas.{HasCurve, found_by, found_whole}
@@ -89,9 +89,9 @@ was_found reach book table name asked site ok =
 -- ---- each step
 
 unit_levels : (units same : Units) → level_unit units ≡ Ok same → HasLevels units
-unit_levels Feet same ok = tt
-unit_levels Meters same ok = tt
-unit_levels Knots same ok = tt
+unit_levels Feet same ok = refl
+unit_levels Meters same ok = refl
+unit_levels Knots same ok = refl
 unit_levels KnotsSquared same ok = absurd cc
 
 no_fault : (tide : Tide) (fault : Option CurveFault) (same : Tide) → tide_from (tide_or tide fault) ≡ Ok same → fault ≡ None
@@ -242,7 +242,7 @@ span_reached reach book basis asked has near ok =
 
 -- ---- a site that was found has a tide that predicts it
 
-abbrev pub found_at : Book → Site → Found
+abbrev pub found_at : Book → Site → SiteTide
 found_at book site = record { basis = site.basis; units = site.station.units; curve = tide_of book site.station }
 
 pub found_of_site : (reach : Reach) (book : Book) (table : List Offsets) (name : List ℕ) (asked : Asked) (site : Site) → IsBook book → IsTable table → IsNear asked → site_in reach book table name asked ≡ Ok site → IsFound reach book asked site (found_at book site)
@@ -262,6 +262,7 @@ found_of_site reach book table name asked site is rows near ok =
       span = span_reached reach book site.basis asked (has_offsets _ site.basis sound) near steps.curve.span;
       few = few_minutes asked.begin asked.end steps.few;
       mark = mark_here site.basis asked.mark steps.mark;
+      near = near;
     }
 
 -- ---- what any site that was found says

@@ -9,7 +9,7 @@ use Rattle.rate_bound.specs.declared.version.Version.TheVariants.{Second}
 use Rattle.rate_bound.specs.Meanings.{turn_meaning}
 use Rattle.station_curve.specs.Waves.{Tide}
 use Rattle.station_span.specs.declared.asked.Asked.{Asked}
-use Rattle.station_span.specs.declared.station.Found.{Found}
+use Rattle.station_span.specs.Workings.Tides.{SiteTide}
 use Rattle.station_span.specs.Following.{asks_slack}
 use Rattle.station_span.specs.Workings.Curves.{HasMinutes, IsReady}
 use Rattle.event_list.specs.Telling.{Tells}
@@ -25,17 +25,17 @@ tells_over tide s meaning count curve known has same over fresh x is =
     let at = over (meaning x) (sym same ∙ ap (option_map meaning) is) in
     record { forward = has.forward; first = rw at.0 has.begins.least; last = rw at.1 has.ends.most; fresh = fresh x is }
 
-pub tells_turn : (version : Version) (asked : Asked) (found : Found) (c : Meaning) (count : ℕ) → IsReady asked found → c ≡ turn_meaning version found.curve → count ≡ 0 → Tells (widened_of found.basis asked.begin asked.end) c count
+pub tells_turn : (version : Version) (asked : Asked) (found : SiteTide) (c : Meaning) (count : ℕ) → IsReady asked found → c ≡ turn_meaning version found.curve → count ≡ 0 → Tells (widened_of found.basis asked.begin asked.end) c count
 tells_turn version asked found c count ready same fresh =
     let has = ready_minutes asked found ready in
     record { forward = has.forward; first = rw same has.begins.least; last = rw same has.ends.most; fresh = fresh }
 
-pub tells_slack : {C : Type 0} (version : Version) (found : Found) (s : Span) (meaning : C → Meaning) (count : C → ℕ) (curve : Option C) → HasMinutes found.curve s → option_map meaning curve ≡ tide_slack version found → ForSome curve (λ c. count c ≡ 0) → ForSome curve (λ c. Tells s (meaning c) (count c))
+pub tells_slack : {C : Type 0} (version : Version) (found : SiteTide) (s : Span) (meaning : C → Meaning) (count : C → ℕ) (curve : Option C) → HasMinutes found.curve s → option_map meaning curve ≡ tide_slack version found → ForSome curve (λ c. count c ≡ 0) → ForSome curve (λ c. Tells s (meaning c) (count c))
 tells_slack version found s meaning count curve has same fresh =
     tells_over found.curve s meaning count curve (tide_slack version found) has same
     (for_asked (IsOver found.curve) (asks_slack found.units found.basis) _ (refl, refl)) fresh
 
-pub tells_mark : {C : Type 0} (version : Version) (found : Found) (mark : Option ℤ) (s : Span) (meaning : C → Meaning) (count : C → ℕ) (curve : Option C) → HasMinutes found.curve s → option_map meaning curve ≡ tide_mark version found mark → ForSome curve (λ c. count c ≡ 0) → ForSome curve (λ c. Tells s (meaning c) (count c))
+pub tells_mark : {C : Type 0} (version : Version) (found : SiteTide) (mark : Option ℤ) (s : Span) (meaning : C → Meaning) (count : C → ℕ) (curve : Option C) → HasMinutes found.curve s → option_map meaning curve ≡ tide_mark version found mark → ForSome curve (λ c. count c ≡ 0) → ForSome curve (λ c. Tells s (meaning c) (count c))
 tells_mark version found mark s meaning count curve has same fresh =
     tells_over found.curve s meaning count curve (tide_mark version found mark) has same
     (for_marked (IsOver found.curve) mark _ (λ level is. (refl, refl))) fresh

@@ -1,5 +1,8 @@
 pub mod Curves
+pub mod Finds
 pub mod Levels
+pub mod Looked
 pub mod Peaks
 pub mod Spans
 pub mod Telling
+pub mod Tides

@@ -1,13 +1,13 @@
 //! The curves of a station, with the rates of a version.
 
-ghost use Rattle.std.specs.Prelude.{◌≡◌, ◌≤◌, unsigned_abs, option_map};
+ghost use Rattle.std.specs.Prelude.{◌≡◌, option_map};
 ghost use Rattle.std.specs.Option.{ForSome};
-ghost use Rattle.event_list.specs.Shifts.{HasOffsets};
 ghost use Rattle.rate_bound.specs.Meanings.{turn_meaning};
 ghost use Rattle.station_span.specs.Following.{asks_slack, slack_times, slack_plus};
+ghost use Rattle.station_span.specs.Workings.Finds.{tide_of_found};
 ghost use Rattle.station_span.specs.Workings.Telling.{tide_slack, tide_mark};
 
-use crate::station::Found;
+use crate::found::Found;
 use curve_law::Curve;
 use harmonics_text::Units;
 use rate_bound::{MarkCurve, TurnCurve, Version};
@@ -23,8 +23,7 @@ pub fn turn_curve<'a>(found: &'a Found, version: Version) -> TurnCurve<'a>
 
 /// Where a current turns, if that is asked.
 pub fn slack_curve<'a>(found: &'a Found, version: Version) -> Option<MarkCurve<'a>>
-    requires { HasOffsets found.now.basis }
-    ensures meaning { option_map ⟦<MarkCurve<'a> as Curve>⟧.meaning result ≡ tide_slack version found.now }
+    ensures meaning { option_map ⟦<MarkCurve<'a> as Curve>⟧.meaning result ≡ tide_slack version (tide_of_found found.now) }
     ensures fresh { ForSome result (λ curve. ⟦<MarkCurve<'a> as Curve>⟧.count curve ≡ 0) }
 {
     let basis = &found.basis;
@@ -37,17 +36,11 @@ pub fn slack_curve<'a>(found: &'a Found, version: Version) -> Option<MarkCurve<'
 }
 
 /// Where the level passes the mark, if there is one.
-pub fn mark_curve<'a>(
-    found: &'a Found,
-    version: Version,
-    mark: Option<i64>,
-) -> Option<MarkCurve<'a>>
-    requires offsets { HasOffsets found.now.basis }
-    requires mark { ForSome mark (λ level. unsigned_abs level ≤ 10000000000) }
-    ensures meaning { option_map ⟦<MarkCurve<'a> as Curve>⟧.meaning result ≡ tide_mark version found.now mark }
+pub fn mark_curve<'a>(found: &'a Found, version: Version) -> Option<MarkCurve<'a>>
+    ensures meaning { option_map ⟦<MarkCurve<'a> as Curve>⟧.meaning result ≡ tide_mark version (tide_of_found found.now) found.now.asked.mark }
     ensures fresh { ForSome result (λ curve. ⟦<MarkCurve<'a> as Curve>⟧.count curve ≡ 0) }
 {
-    match mark {
+    match found.asked.mark {
         Some(level) => {
             let high = &found.basis.high;
             Some(MarkCurve::new(&found.curve, version, high.times, high.plus, level, false))

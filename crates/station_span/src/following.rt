@@ -1,24 +1,23 @@
 //! The events of a station over a span, and the cells in which they are found.
 
-ghost use Rattle.std.specs.Prelude.{◌≡◌, ◌+◌, ◌≤◌, length, unsigned_abs, option_map, IfErr, IfOk, OnOk};
+ghost use Rattle.std.specs.Prelude.{◌≡◌, ◌+◌, length, option_map, IsTrue, IfErr, IfOk, OnOk};
 ghost use Rattle.std.specs.Option.{ForSome};
 ghost use Rattle.cert_text.specs.Certificates.{IsStationName};
 ghost use Rattle.event_list.specs.Events.{cover_over};
 ghost use Rattle.event_list.specs.Merging.{cells_left};
-ghost use Rattle.event_list.specs.Shifts.{HasOffsets};
-ghost use Rattle.rate_bound.specs.declared.version.Version.{Version};
-ghost use Rattle.rate_bound.specs.Meanings.{turn_meaning};
-ghost use Rattle.tide_fault.specs.Faults.{IsToldRefusal};
-ghost use Rattle.station_span.specs.Sites.{site_in};
-ghost use Rattle.station_span.specs.Workings.Spans.{IsNear};
-ghost use Rattle.station_span.specs.Workings.Curves.{tide_cells, tide_events, AreMerged, HasMinutes, IsReady, IsTideList, Lists};
 ghost use Rattle.event_list.specs.Telling.{Tells};
-ghost use Rattle.station_span.specs.Workings.Telling.{tide_mark, tide_slack};
+ghost use Rattle.station_table.specs.Bases.{is_plain};
+ghost use Rattle.tide_fault.specs.Faults.{IsToldRefusal};
+ghost use Rattle.station_span.specs.Following.{cells_of, events_of, tracks_of};
+ghost use Rattle.station_span.specs.Sites.{site_in};
+ghost use Rattle.station_span.specs.Workings.Finds.{AreReferences, IsSiteList, Lists, site_of};
+ghost use Rattle.station_span.specs.Workings.Spans.{IsNear};
 
 use crate::asked::Asked;
 use crate::curves::{mark_curve, slack_curve, turn_curve};
+use crate::found::Found;
 use crate::reach::Reach;
-use crate::station::{Found, find_station, reached};
+use crate::station::find_station;
 use curve_law::{Curve, Events};
 use decimal_text::Text;
 use event_list::{Merge, Span, shifted};
@@ -38,7 +37,7 @@ pub struct FoundEvents {
     pub cells: u64,
 }
 
-/// The events of a station of that name over the span that is asked, or the first refusal.
+/// The events of a station of that name over the span that is requested, or the first refusal.
 pub fn list_station(
     alloc: Global,
     book: &SoundBook<'_>,
@@ -52,18 +51,17 @@ pub fn list_station(
     ensures told { IfErr result (IsToldRefusal table.now) }
 {
     let found = find_station(alloc, book, table, Reach::Events, name, asked)?;
-    Ok(find_events(alloc, &found, asked)?)
+    Ok(find_events(alloc, &found)?)
 }
 
-/// The station's events over the span that is asked.
-pub fn find_events(alloc: Global, found: &Found, asked: &Asked) -> Result<FoundEvents, AllocError>
-    requires ready { IsReady asked.now found.now }
-    requires near { IsNear asked.now }
-    ensures { IfOk result (λ listed. IsTideList found.now asked.now listed) }
+/// The station's events over the span that is requested.
+pub fn find_events(alloc: Global, found: &Found) -> Result<FoundEvents, AllocError>
+    requires { found.now.reach ≡ Reach.Events }
+    ensures { IfOk result (λ listed. IsSiteList found.now.origin.book found.now.asked (site_of found.now) listed) }
 {
-    let mut merge = merge_of(found, asked);
+    let mut merge = merge_of(found);
     let merged = merged_events(alloc, &mut merge)?;
-    let events = shifted_events(alloc, merged, found, asked)?;
+    let events = shifted_events(alloc, merged, found)?;
     Ok(FoundEvents {
         units: found.units,
         events,
@@ -91,71 +89,59 @@ fn shifted_events(
     alloc: Global,
     merged: Events,
     found: &Found,
-    asked: &Asked,
 ) -> Result<Events, AllocError>
-    requires ready { IsReady asked.now found.now }
-    requires near { IsNear asked.now }
-    requires merged { AreMerged asked.now found.now merged }
-    ensures { IfOk result (λ events. events ≡ tide_events found.now asked.now) }
+    requires reach { found.now.reach ≡ Reach.Events }
+    requires merged { AreReferences found.now merged }
+    ensures { IfOk result (λ events. events ≡ events_of found.now.origin.book (site_of found.now) found.now.asked) }
 {
     if found.basis.plain() {
         Ok(merged)
     } else {
-        shifted(alloc, &merged, &found.basis, asked.begin, asked.end)
+        shifted(alloc, &merged, &found.basis, found.asked.begin, found.asked.end)
     }
 }
 
-/// The reference's events over the minutes that are looked at, one at a time. It takes no memory.
-pub fn merge_of<'a>(found: &'a Found, asked: &Asked) -> Merge<TurnCurve<'a>, MarkCurve<'a>>
-    requires ready { IsReady asked.now found.now }
-    requires near { IsNear asked.now }
-    ensures left { AreMerged asked.now found.now result.left }
+/// The reference's events over the minutes that are looked at, one at a time. It doesn't allocate.
+///
+/// If the basis has no offsets, these are the station's events.
+pub fn merge_of<'a>(found: &'a Found) -> Merge<TurnCurve<'a>, MarkCurve<'a>>
+    requires { found.now.reach ≡ Reach.Events }
+    ensures left { AreReferences found.now result.left }
+    ensures plain { IsTrue (is_plain found.now.basis) → result.left ≡ events_of found.now.origin.book (site_of found.now) found.now.asked }
     ensures cells { result.cells ≡ 0 }
-    ensures all { result.all ≡ tide_cells found.now asked.now }
+    ensures all { result.all ≡ cells_of found.now.origin.book (site_of found.now) found.now.asked }
 {
-    let span = reached(Reach::Events, &found.basis, asked);
-    Merge::new(
-        turn_search(found, &span),
-        slack_search(found, &span),
-        mark_search(found, asked.mark, &span),
-    )
+    Merge::new(turn_search(found), slack_search(found), mark_search(found))
 }
 
-/// Where the reference's level turns. The curve is asked for at most one value a cell and one more.
-pub fn turn_search<'a>(found: &'a Found, span: &Span) -> Search<TurnCurve<'a>>
-    requires { HasMinutes found.now.curve span.now }
-    ensures at { result.at ≡ span.now.begin }
-    ensures left { result.left ≡ cover_over span.now (turn_meaning Version.Second found.now.curve) }
+/// Where the reference's level turns. The curve is evaluated at most once a cell and once more.
+pub fn turn_search<'a>(found: &'a Found) -> Search<TurnCurve<'a>>
+    requires { found.now.reach ≡ Reach.Events }
+    ensures at { result.at ≡ found.now.span.begin }
+    ensures left { result.left ≡ (tracks_of found.now.origin.book (site_of found.now) found.now.asked).turn }
     ensures most { result.most ≡ length result.left + 1 }
 {
-    Search::new(turn_curve(found, Version::Second), span.begin, span.end)
+    Search::new(turn_curve(found, Version::Second), found.span.begin, found.span.end)
 }
 
-/// Where a current turns, if that is asked, with as few values.
-pub fn slack_search<'a>(found: &'a Found, span: &Span) -> Option<Search<MarkCurve<'a>>>
-    requires minutes { HasMinutes found.now.curve span.now }
-    requires offsets { HasOffsets found.now.basis }
-    ensures at { ForSome result (λ search. search.at ≡ span.now.begin) }
-    ensures left { cells_left result ≡ option_map (cover_over span.now) (tide_slack Version.Second found.now) }
+/// Where a current turns, if that is listed, with as few evaluations.
+pub fn slack_search<'a>(found: &'a Found) -> Option<Search<MarkCurve<'a>>>
+    requires { found.now.reach ≡ Reach.Events }
+    ensures at { ForSome result (λ search. search.at ≡ found.now.span.begin) }
+    ensures left { cells_left result ≡ (tracks_of found.now.origin.book (site_of found.now) found.now.asked).slack }
     ensures most { ForSome result (λ search. search.most ≡ length search.left + 1) }
 {
-    search_if(slack_curve(found, Version::Second), span)
+    search_if(slack_curve(found, Version::Second), &found.span)
 }
 
-/// Where the level passes the mark, if there is one, with as few values.
-pub fn mark_search<'a>(
-    found: &'a Found,
-    mark: Option<i64>,
-    span: &Span,
-) -> Option<Search<MarkCurve<'a>>>
-    requires minutes { HasMinutes found.now.curve span.now }
-    requires offsets { HasOffsets found.now.basis }
-    requires mark { ForSome mark (λ level. unsigned_abs level ≤ 10000000000) }
-    ensures at { ForSome result (λ search. search.at ≡ span.now.begin) }
-    ensures left { cells_left result ≡ option_map (cover_over span.now) (tide_mark Version.Second found.now mark) }
+/// Where the level passes the mark, if there is one, with as few evaluations.
+pub fn mark_search<'a>(found: &'a Found) -> Option<Search<MarkCurve<'a>>>
+    requires { found.now.reach ≡ Reach.Events }
+    ensures at { ForSome result (λ search. search.at ≡ found.now.span.begin) }
+    ensures left { cells_left result ≡ (tracks_of found.now.origin.book (site_of found.now) found.now.asked).mark }
     ensures most { ForSome result (λ search. search.most ≡ length search.left + 1) }
 {
-    search_if(mark_curve(found, Version::Second, mark), span)
+    search_if(mark_curve(found, Version::Second), &found.span)
 }
 
 // The search of a curve, if there is one.

@@ -4,23 +4,27 @@ ghost use Rattle.std.specs.Prelude.{◌≡◌, pos, negsuc, [], IsTrue, Ok, Err,
 ghost use Rattle.event_list.specs.Shifts.{scaled};
 ghost use Rattle.event_list.specs.Worked.{dock};
 ghost use Rattle.station_table.specs.Bases.{is_equal};
-ghost use Rattle.station_span.specs.Levels.{level_in};
+ghost use Rattle.station_span.specs.declared.reach.Reach.{Reach};
+ghost use Rattle.station_span.specs.Levels.{is_rising_at, level_at, level_in};
 ghost use Rattle.tide_fault.specs.Faults.{IsToldRefusal};
-ghost use Rattle.station_span.specs.Workings.Levels.{HasLevel, source_of, tide_level, is_tide_rising};
+ghost use Rattle.station_span.specs.Workings.Finds.{AreLooked, IsLooked, site_of, tide_of_found};
+ghost use Rattle.station_span.specs.Workings.Levels.{HasLevel, source_of};
 
-use crate::station::{Found, earlier};
+use crate::found::Found;
+use crate::station::earlier;
 use event_list::scaled;
-use station_table::Basis;
 use tide_fault::Refusal;
 
 /// A station whose highs and lows have different offsets has no level between them.
 #[tactic(auto, unfolding(crate::specs::Levels::level_in))]
-pub fn check_level(basis: &Basis) -> Result<(), Refusal>
-    ensures exact { result ≡ level_in basis.now }
-    ensures equal { OnOk result (IsTrue (is_equal basis.now)) }
+pub fn check_level(found: &Found) -> Result<(), Refusal>
+    ensures exact { result ≡ level_in found.now.basis }
+    ensures equal { OnOk result (IsTrue (is_equal found.now.basis)) }
+    ensures first { found.now.reach ≡ Reach.Events → IsLooked found.now found.now.asked.begin }
+    ensures all { OnOk result (found.now.reach ≡ Reach.Levels → AreLooked found.now) }
     ensures told { IfErr result (IsToldRefusal []) }
 {
-    if basis.equal() {
+    if found.basis.equal() {
         Ok(())
     } else {
         Err(Refusal::LevelNotHere)
@@ -28,27 +32,28 @@ pub fn check_level(basis: &Basis) -> Result<(), Refusal>
 }
 
 /// The level at a minute in millionths of the station's unit: its reference's, scaled, at the minute
-/// that is moved there. It takes no memory.
+/// that is moved there. It doesn't allocate.
 pub fn level_at(found: &Found, minute: i64) -> i64
-    requires { HasLevel found.now minute }
-    ensures { result ≡ tide_level found.now minute }
+    requires { IsLooked found.now minute }
+    ensures { result ≡ level_at found.now.origin.book (site_of found.now) minute }
 {
     let level = found.curve.millionths(source(found, minute));
     scaled(&found.basis.high, level)
 }
 
-/// Whether the level at a minute rises. Where it stands still it doesn't. It takes no memory.
+/// Whether the level at a minute rises: not if its slope is 0. It doesn't allocate.
 pub fn is_rising(found: &Found, minute: i64) -> bool
-    requires { HasLevel found.now minute }
-    ensures { result ≡ is_tide_rising found.now minute }
+    requires { IsLooked found.now minute }
+    ensures { result ≡ is_rising_at found.now.origin.book (site_of found.now) minute }
 {
     found.curve.slope(source(found, minute)) > 0
 }
 
 /// The reference's minute whose level is moved to a minute.
 pub fn source(found: &Found, minute: i64) -> i64
-    requires { HasLevel found.now minute }
-    ensures { result ≡ source_of found.now minute }
+    requires { IsLooked found.now minute }
+    ensures exact { result ≡ source_of (tide_of_found found.now) minute }
+    ensures level { HasLevel (tide_of_found found.now) minute }
 {
     earlier(minute, found.basis.high.add)
 }

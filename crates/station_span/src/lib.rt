@@ -11,8 +11,10 @@
 mod asked;
 mod curves;
 mod following;
+mod found;
 mod knowing;
 mod levels;
+mod origin;
 mod peaks;
 mod reach;
 mod station;
@@ -23,9 +25,11 @@ pub use curves::{mark_curve, slack_curve, turn_curve};
 pub use following::{
     FoundEvents, find_events, list_station, mark_search, merge_of, slack_search, turn_search,
 };
-pub use knowing::find_known;
+pub use found::Found;
+pub use knowing::{Known, find_known};
 pub use levels::{check_level, is_rising, level_at, worked_levels};
+pub use origin::Origin;
 pub use peaks::{find_highest, find_level, highest_minute, judge_highest, moved_minute};
 pub use reach::Reach;
-pub use station::{Found, find_station, reached, station_at};
+pub use station::find_station;
 pub use worked::worked_spans;

@@ -10,12 +10,16 @@ ghost use Rattle.station_curve.specs.Limits.{IsGentle};
 ghost use Rattle.station_table.specs.Bases.{IsBasis, basis_of, is_equal};
 ghost use Rattle.tide_fault.specs.Faults.{wants_memory_of_refusal, IsToldRefusal};
 ghost use Rattle.station_span.specs.Sites.{basis_from, site_in, site_at, lacks_minute, level_unit, moved, reached, has_minute, has_span, span_in, length_in, mark_in, span_limit, tide_from};
-ghost use Rattle.station_span.specs.Workings.Spans.{IsBeside, IsNear, IsNearSpan, HasLevels, IsReached, IsMadeFor, FindsIn};
+ghost use Rattle.station_span.specs.Workings.Finds.{FindsIn};
+ghost use Rattle.station_span.specs.Workings.Looked.{site_with};
+ghost use Rattle.station_span.specs.Workings.Spans.{IsBeside, IsNear, IsNearSpan, HasLevels, IsReached};
 ghost use Rattle.year_blend.specs.Places.{AreYears, InDomain};
 ghost use Rattle.year_blend.specs.Years.{year_start_of};
 ghost use Rattle.zone_time.specs.Moments.{IsMoment};
 
 use crate::asked::Asked;
+use crate::found::Found;
+use crate::origin::Origin;
 use crate::reach::Reach;
 use decimal_text::Text;
 use event_list::{Span, widened};
@@ -28,14 +32,6 @@ use year_blend::year_start;
 
 /// The most minutes of a span.
 const SPAN_LIMIT: i64 = 5_270_400;
-
-/// A station that is asked about: the offsets from its reference, and the reference's unit and curve.
-#[derive(Debug, Drop)]
-pub struct Found {
-    pub basis: Basis,
-    pub units: Units,
-    pub curve: StationCurve,
-}
 
 /// The station of a name with a span of it that has an answer, or the first refusal: the station, its
 /// unit, the span, the limits, the mark.
@@ -50,8 +46,6 @@ pub fn find_station(
 ) -> Result<Found, Refusal>
     requires near { IsNear asked.now }
     ensures exact { FindsIn reach book.now asked.now (site_in reach book.now table.now name.now asked.now) result }
-    ensures alone { IfOk result (λ found. ForSome (slice_get book.now.stations found.basis.station)
-        (λ s. IsMadeFor reach book.now asked.now s found)) }
     ensures named { OnOk result (IsStationName name.now) }
     ensures told { IfErr result (IsToldRefusal table.now) }
 {
@@ -86,21 +80,22 @@ fn find_at(
     requires basis { IsBasis (length book.now.stations) basis }
     requires place { slice_get book.now.stations basis.station ≡ Some station.now }
     requires near { IsNear asked.now }
-    ensures exact { FindsIn reach book.now asked.now (site_at reach book.now (record { basis = basis; station = station.now }) asked.now) result }
-    ensures alone { IfOk result (λ found. IsMadeFor reach book.now asked.now station.now found) }
-    ensures same { IfOk result (λ found. found.basis ≡ basis) }
+    ensures exact { FindsIn reach book.now asked.now (site_at reach book.now (site_with basis station.now) asked.now) result }
     ensures told { IfErr result (IsToldRefusal []) }
 {
-    let units = level_units(station.units)?;
-    check_span(book, reach, &basis, asked)?;
-    let span = reached(reach, &basis, asked);
+    level_units(station.units)?;
+    let span = span_looked_at(book, reach, &basis, asked)?;
     let curve = curve_over(alloc, book, basis.station, station, &span)?;
     check_length(asked)?;
     check_mark(&basis, asked)?;
     Ok(Found {
+        origin: Origin::of(book.get(), station),
         basis,
-        units,
+        units: station.units,
         curve,
+        reach,
+        asked: *asked,
+        span,
     })
 }
 
@@ -112,10 +107,10 @@ pub fn station_at(book: &Book, place: u32) -> &Station
     &book.stations.as_slice()[place as usize]
 }
 
+/// The unit itself, if it is one of levels.
 pub fn level_units(units: Units) -> Result<Units, Refusal>
     ensures exact { result ≡ level_unit units }
-    ensures levels { IfOk result HasLevels }
-    ensures same { IfOk result (λ same. same ≡ units) }
+    ensures levels { OnOk result (HasLevels units) }
     ensures told { IfErr result (IsToldRefusal []) }
 {
     match units {
@@ -126,17 +121,20 @@ pub fn level_units(units: Units) -> Result<Units, Refusal>
     }
 }
 
+// The minutes of the reference that are looked at, if the book has them.
 #[tactic(auto, unfolding(crate::specs::Sites::span_in))]
-fn check_span(
+fn span_looked_at(
     book: &SoundBook<'_>,
     reach: Reach,
     basis: &Basis,
     asked: &Asked,
-) -> Result<(), Refusal>
+) -> Result<Span, Refusal>
     requires offsets { HasOffsets basis.now }
     requires near { IsNear asked.now }
-    ensures exact { result ≡ span_in reach book.now basis.now asked.now.begin asked.now.end }
-    ensures span { OnOk result (IsReached reach book.now basis.now asked.now.begin asked.now.end) }
+    ensures found { OnOk result (span_in reach book.now basis.now asked.now.begin asked.now.end ≡ Ok tt) }
+    ensures refused { IfErr result (λ refusal. span_in reach book.now basis.now asked.now.begin asked.now.end ≡ Err refusal) }
+    ensures exact { IfOk result (λ span. span ≡ reached reach basis.now asked.now.begin asked.now.end) }
+    ensures reached { OnOk result (IsReached reach book.now basis.now asked.now.begin asked.now.end) }
     ensures told { IfErr result (IsToldRefusal []) }
 {
     if is_backward(asked) {
@@ -149,7 +147,7 @@ fn check_span(
     let first = first_minute(book);
     let last = last_minute(book);
     if has_span(book, &span) {
-        Ok(())
+        Ok(span)
     } else {
         Err(Refusal::OutOfYears { first, last })
     }
@@ -168,8 +166,8 @@ fn lacks_minute(reach: Reach, asked: &Asked) -> bool
     matches!(reach, Reach::Highest) && asked.end <= asked.begin
 }
 
-/// The minutes of the reference that are looked at.
-pub fn reached(reach: Reach, basis: &Basis, asked: &Asked) -> Span
+// The minutes of the reference that are looked at.
+fn reached(reach: Reach, basis: &Basis, asked: &Asked) -> Span
     requires offsets { HasOffsets basis.now }
     requires near { IsNear asked.now }
     requires forward { asked.now.begin ≤ℤ asked.now.end }

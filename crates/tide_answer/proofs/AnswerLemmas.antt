@@ -1,9 +1,8 @@
 -- What the answer to a question comes to by its steps.
-use Rattle.std.proofs.Common.{◌≡◌, ℕ, ℤ, false, List, Some, Ok, ◌≤◌, unsigned_abs, slice_get, refl, arith}
+use Rattle.std.proofs.Common.{◌≡◌, ℕ, ℤ, false, List, Some, Ok, ◌≤◌, unsigned_abs, refl, arith}
 use Rattle.std.proofs.lemmas.Int.{ints}
 use Rattle.calendar_sheet.specs.Calendars.{calendar_text_of}
 use Rattle.harmonics_text.specs.declared.book.Book.{Book}
-use Rattle.harmonics_text.specs.declared.book.Station.{Station}
 use Rattle.listing.specs.Abouts.{about_text_of}
 use Rattle.question.specs.declared.question.Layout.{Layout}
 use Rattle.question.specs.declared.question.Question.{Question}
@@ -15,12 +14,12 @@ use Rattle.zone_time.specs.Moments.{IsMoment}
 use Rattle.station_span.specs.declared.asked.Asked.{Asked}
 use Rattle.station_span.specs.declared.following.FoundEvents.{FoundEvents}
 use Rattle.station_span.specs.declared.reach.Reach.TheVariants.{Events}
-use Rattle.station_span.specs.declared.station.Found.{Found}
+use Rattle.station_span.specs.declared.knowing.Known.{Known}
 use Rattle.tide_answer.specs.Answers.{constituent_count, events_text, known, listed, named_by, predicted, on_calendar, text_alone}
 use Rattle.tide_answer.specs.Asking.{asked_by}
 use Rattle.station_span.specs.Sites.{Site, site_in, station_in}
-use Rattle.station_span.specs.Workings.Curves.{IsSiteList}
-use Rattle.station_span.specs.Workings.Spans.{IsKnown, IsNear}
+use Rattle.station_span.specs.Workings.Finds.{IsKnown, IsSiteList}
+use Rattle.station_span.specs.Workings.Spans.{IsNear}
 
 -- ---- events
 
@@ -41,12 +40,9 @@ listed_whole book table question name asked site found named spans expected list
 
 -- ---- what is known of a station
 
-pub known_whole : (book : Book) (table : List Offsets) (name : List ℕ) (site : Site) (found : Found) (station : Station) → station_in book table name ≡ Ok site → IsKnown book site found → slice_get book.stations found.basis.station ≡ Some station → agreement_of found.curve ≡ predicted_agreement book site.station → known book table name ≡ Ok (text_alone (about_text_of name station.name found.units (constituent_count station) (agreement_of found.curve)))
+pub known_whole : (book : Book) (table : List Offsets) (name : List ℕ) (found : Known) → (is : IsKnown book (station_in book table name) found) → agreement_of found.curve ≡ predicted_agreement book is.site.station → known book table name ≡ Ok (text_alone (about_text_of name found.station.now.name found.station.now.units (constituent_count found.station.now) (agreement_of found.curve)))
 unfolding known
-known_whole book table name site found station expected is at agrees =
-    let here = is.station in
-    let same : station ≡ site.station = cc in
-    rw (expected, same, is.units, agrees) refl
+known_whole book table name found is agrees = rw (is.is, is.station, agrees) refl
 
 -- ---- what a question asks is near
 

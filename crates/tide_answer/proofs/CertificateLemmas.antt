@@ -30,7 +30,7 @@ use Rattle.station_table.specs.declared.offsets.Offsets.{Offsets}
 use Rattle.zone_time.specs.Moments.{IsMoment}
 use Rattle.station_span.specs.declared.asked.Asked.{Asked}
 use Rattle.station_span.specs.declared.reach.Reach.TheVariants.{Events}
-use Rattle.station_span.specs.declared.station.Found.{Found}
+use Rattle.station_span.specs.Workings.Tides.{SiteTide}
 use Rattle.tide_answer.specs.Answers.{certified}
 use Rattle.station_span.specs.Following.{if_asked, followed_by, tracks_of, cells_of}
 use Rattle.station_span.specs.Sites.{Site, site_in}
@@ -38,33 +38,12 @@ use Rattle.tide_answer.specs.Workings.Certifying.{certificate_in}
 use Rattle.station_span.specs.Workings.Curves.{followed_tide, IsReady}
 use Rattle.station_span.specs.Workings.Spans.{IsFound}
 use Rattle.station_cells.proofs.CellLemmas.{IsOf, accepted_track, few_track, usual_track}
-use Rattle.station_span.proofs.FollowLemmas.{found_alike, ready_known, few_cells}
+use Rattle.station_span.proofs.FollowLemmas.{ready_known, few_cells}
 use Rattle.station_span.proofs.MovableLemmas.{millionths_small}
-
--- ---- what was found, and the site
-
-cover_if_alike : (s : Span) (c d : Option Meaning) → AgreeIfFollowed s c d → option_map (cover_over s) c ≡ option_map (cover_over s) d
-cover_if_alike s None None agree = refl
-cover_if_alike s None (Some d) agree = absurd agree
-cover_if_alike s (Some c) None agree = absurd agree
-cover_if_alike s (Some c) (Some d) agree = ap (λ (cells : List Cell). Some cells) (cover-agrees c d s.begin (minutes_in s) agree)
-
-covers_alike : (f g : Followed) (s : Span) → AllAgree f g s → covers_of f s ≡ covers_of g s
-covers_alike f g s agree =
-    let turn = cover-agrees f.turn g.turn s.begin (minutes_in s) agree.turn in
-    let slack = cover_if_alike s f.slack g.slack agree.slack in
-    let mark = cover_if_alike s f.mark g.mark agree.mark in
-    rw (turn, slack, mark) refl
-
-pub tracks_alike : (book : Book) (asked : Asked) (site : Site) (found : Found) (tracks : Tracks) → IsFound Events book asked site found → tracks ≡ covers_of (followed_tide Second found asked.mark) (widened_of found.basis asked.begin asked.end) → tracks ≡ tracks_of book site asked
-unfolding tracks_of
-tracks_alike book asked site found tracks is same =
-    same ∙ covers_alike _ _ _ (found_alike Second book asked site found asked.mark is)
-    ∙ ap (λ b. covers_of (followed_by Second book site asked.mark) (widened_of b asked.begin asked.end)) is.basis
 
 -- ---- how many cells
 
-pub tracks_few : (asked : Asked) (found : Found) (tracks : Tracks) → IsReady asked found → tracks ≡ covers_of (followed_tide Second found asked.mark) (widened_of found.basis asked.begin asked.end) → cells_in tracks < 2 ^ 64
+pub tracks_few : (asked : Asked) (found : SiteTide) (tracks : Tracks) → IsReady asked found → tracks ≡ covers_of (followed_tide Second found asked.mark) (widened_of found.basis asked.begin asked.end) → cells_in tracks < 2 ^ 64
 tracks_few asked found tracks ready same = rw same (few_cells asked found ready)
 
 -- ---- the parts lie within their ranges
@@ -94,7 +73,7 @@ record AreOf (f : Followed) : Type 0 where
   pub slack : ForSome f.slack (IsOf Slack)
   pub mark : ForSome f.mark (IsOf Mark)
 
-followed_of : (version : Version) (found : Found) (mark : Option ℤ) → IsGentle found.curve → AreOf (followed_tide version found mark)
+followed_of : (version : Version) (found : SiteTide) (mark : Option ℤ) → IsGentle found.curve → AreOf (followed_tide version found mark)
 unfolding followed_tide
 followed_of version found mark gentle = record {
   turn = of_notes Turn found.curve _ gentle refl refl refl refl refl;
@@ -119,7 +98,7 @@ marked_alike : (mark : Option ℤ) (f : ℤ → Meaning) (g : Meaning → List C
 marked_alike (Some level) f g = refl
 marked_alike None f g = refl
 
-pub certificate_sound : (name : List ℕ) (asked : Asked) (found : Found) (tracks : Tracks) → IsStationName name → IsMoment asked.begin → IsMoment asked.end → IsReady asked found → tracks ≡ covers_of (followed_tide Second found asked.mark) (widened_of found.basis asked.begin asked.end) → IsCertificate (certificate_in name asked tracks)
+pub certificate_sound : (name : List ℕ) (asked : Asked) (found : SiteTide) (tracks : Tracks) → IsStationName name → IsMoment asked.begin → IsMoment asked.end → IsReady asked found → tracks ≡ covers_of (followed_tide Second found asked.mark) (widened_of found.basis asked.begin asked.end) → IsCertificate (certificate_in name asked tracks)
 unfolding followed_tide
 certificate_sound name asked found tracks named begin end ready same =
     let s = widened_of found.basis asked.begin asked.end in
@@ -141,7 +120,7 @@ certificate_sound name asked found tracks named begin end ready same =
 
 -- ---- the text is short, whoever wrote it
 
-pub accepted_usual : (version : Version) (asked : Asked) (found : Found) (c : Certificate) → IsReady asked found
+pub accepted_usual : (version : Version) (asked : Asked) (found : SiteTide) (c : Certificate) → IsReady asked found
     → AreAccepted (followed_tide version found asked.mark) (widened_of found.basis asked.begin asked.end) c.tracks → HasUsualLevels c
 accepted_usual version asked found c ready accepted =
     let s = widened_of found.basis asked.begin asked.end in
@@ -155,7 +134,7 @@ accepted_usual version asked found c ready accepted =
     }
 
 -- the longest span, and a day at both ends
-pub looked_few : (asked : Asked) (found : Found) → IsReady asked found → minutes_in (widened_of found.basis asked.begin asked.end) ≤ 5273280
+pub looked_few : (asked : Asked) (found : SiteTide) → IsReady asked found → minutes_in (widened_of found.basis asked.begin asked.end) ≤ 5273280
 looked_few asked found ready =
     let few = ready.few in
     let forward = ready.forward in
@@ -169,7 +148,7 @@ track_few s None (Some cells) accepted = absurd accepted
 track_few s (Some c) None accepted = absurd accepted
 track_few s (Some c) (Some cells) accepted = few_track c s cells accepted
 
-pub accepted_few : (version : Version) (asked : Asked) (found : Found) (c : Certificate) → IsReady asked found
+pub accepted_few : (version : Version) (asked : Asked) (found : SiteTide) (c : Certificate) → IsReady asked found
     → AreAccepted (followed_tide version found asked.mark) (widened_of found.basis asked.begin asked.end) c.tracks → cells_of_all c ≤ 15819840
 accepted_few version asked found c ready accepted =
     let s = widened_of found.basis asked.begin asked.end in
@@ -179,13 +158,13 @@ accepted_few version asked found c ready accepted =
     let crossings = track_few s f.mark c.tracks.mark accepted.mark in
     omega (arith, looked_few asked found ready, turn, slack, crossings)
 
-pub certificate_usual : (name : List ℕ) (asked : Asked) (found : Found) (tracks : Tracks) → IsReady asked found → tracks ≡ covers_of (followed_tide Second found asked.mark) (widened_of found.basis asked.begin asked.end) → HasUsualLevels (certificate_in name asked tracks)
+pub certificate_usual : (name : List ℕ) (asked : Asked) (found : SiteTide) (tracks : Tracks) → IsReady asked found → tracks ≡ covers_of (followed_tide Second found asked.mark) (widened_of found.basis asked.begin asked.end) → HasUsualLevels (certificate_in name asked tracks)
 certificate_usual name asked found tracks ready same =
     let s = widened_of found.basis asked.begin asked.end in
     let f = followed_tide Second found asked.mark in
     rw same (accepted_usual Second asked found (certificate_in name asked (covers_of f s)) ready (covers-accepted f s))
 
-pub certificate_few : (name : List ℕ) (asked : Asked) (found : Found) (tracks : Tracks) → IsReady asked found → tracks ≡ covers_of (followed_tide Second found asked.mark) (widened_of found.basis asked.begin asked.end) → cells_of_all (certificate_in name asked tracks) ≤ 15819840
+pub certificate_few : (name : List ℕ) (asked : Asked) (found : SiteTide) (tracks : Tracks) → IsReady asked found → tracks ≡ covers_of (followed_tide Second found asked.mark) (widened_of found.basis asked.begin asked.end) → cells_of_all (certificate_in name asked tracks) ≤ 15819840
 certificate_few name asked found tracks ready same =
     let s = widened_of found.basis asked.begin asked.end in
     let f = followed_tide Second found asked.mark in
@@ -193,8 +172,7 @@ certificate_few name asked found tracks ready same =
 
 -- ---- the answer
 
-pub certified_whole : (book : Book) (table : List Offsets) (name : List ℕ) (asked : Asked) (site : Site) (found : Found) (tracks : Tracks) (text : List ℕ) (cells : ℕ) → site_in Events book table name asked ≡ Ok site → IsFound Events book asked site found → tracks ≡ covers_of (followed_tide Second found asked.mark) (widened_of found.basis asked.begin asked.end) → text ≡ certificate_text (certificate_in name asked tracks) → cells ≡ cells_in tracks → certified book table name asked ≡ Ok (record { text = text; rejected = false; cells = cells })
+pub certified_whole : (book : Book) (table : List Offsets) (name : List ℕ) (asked : Asked) (site : Site) (tracks : Tracks) (text : List ℕ) (cells : ℕ) → site_in Events book table name asked ≡ Ok site → tracks ≡ tracks_of book site asked → text ≡ certificate_text (certificate_in name asked tracks) → cells ≡ cells_in tracks → certified book table name asked ≡ Ok (record { text = text; rejected = false; cells = cells })
 unfolding certified cells_of cell_count tracks_of
-certified_whole book table name asked site found tracks text cells expected is same written counted =
-    let all = tracks_alike book asked site found tracks is same in
-    rw (expected, written, counted, all) refl
+certified_whole book table name asked site tracks text cells expected same written counted =
+    rw (expected, written, counted, same) refl

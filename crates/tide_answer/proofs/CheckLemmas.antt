@@ -1,5 +1,5 @@
 -- What is found on a certificate that is read, and what follows where nothing is wrong.
-use Rattle.std.proofs.Common.{◌≡◌, ℕ, ◌+◌, ◌^◌, ◌<◌, ◌≤◌, ℤ, pos, Bool, true, false, List, [], ◌∷◌, ◌++◌, map, length, length-append, Option, Some, None, is_some, option_map, Result, Ok, Err, All, refl, sym, ap, ◌∙◌, arith}
+use Rattle.std.proofs.Common.{◌≡◌, ℕ, ◌+◌, ◌^◌, ◌<◌, ◌≤◌, ℤ, pos, Bool, true, false, List, [], ◌∷◌, ◌++◌, map, length, length-append, Option, Some, None, is_some, option_map, Result, Ok, Err, All, refl, sym, subst, ap, ◌∙◌, arith}
 use Rattle.std.specs.Prelude.{unsigned_abs, IfOk, IfSome, flat_map, option_to_list}
 use Rattle.std.specs.Option.{ForSome}
 use Rattle.std.proofs.lemmas.Int.{ints}
@@ -33,7 +33,7 @@ use Rattle.station_span.specs.declared.asked.Asked.{Asked}
 use Rattle.station_span.specs.declared.reach.Reach.TheVariants.{Events}
 use Rattle.tide_fault.specs.declared.refusal.Refusal.{Refusal}
 use Rattle.station_cells.specs.declared.rejection.Rejection.{Rejection}
-use Rattle.station_span.specs.declared.station.Found.{Found}
+use Rattle.station_span.specs.Workings.Tides.{SiteTide}
 use Rattle.tide_answer.specs.Answers.{checked, judged, version_of}
 use Rattle.tide_answer.specs.Asking.{asked_in}
 use Rattle.tide_fault.specs.Faults.{refusal_of_cert, wants_memory_of_refusal}
@@ -41,12 +41,16 @@ use Rattle.station_span.specs.Following.{asks_slack, slack_times, slack_plus, if
 use Rattle.station_cells.specs.Rejections.{rejection_of}
 use Rattle.station_span.specs.Sites.{Site, site_in}
 use Rattle.station_cells.specs.Rejections.{HasFewCells}
-use Rattle.tide_answer.specs.Workings.Certifying.{accepted, rejected, judged_in, tide_rejection}
+use Rattle.tide_answer.specs.Workings.Certifying.{judged_in, rejection_in}
 use Rattle.station_span.specs.Workings.Curves.{followed_tide, tide_events, IsReady}
 use Rattle.station_span.specs.Workings.Spans.{IsFound, IsNear}
 use Rattle.station_cells.proofs.RejectionLemmas.{all_accepted, rejection_alike, tracks_short}
 use Rattle.tide_answer.proofs.CertificateLemmas.{looked_few}
-use Rattle.station_span.proofs.FollowLemmas.{found_alike, found_events, ready_known, ready_movable}
+use Rattle.station_span.specs.declared.found.Found.{Found}
+use Rattle.station_span.specs.Workings.Finds.{site_of, tide_of_found}
+use Rattle.station_span.proofs.FollowLemmas.{found_alike, found_events, ready_known, ready_movable, ready_of_found, tide_lines}
+use Rattle.station_span.proofs.HeldLemmas.{found_for, span_for}
+use Rattle.event_text.specs.Lines.{IsListed}
 use Rattle.station_span.proofs.FoundLemmas.{excused_then}
 use Rattle.decimal_text.specs.declared.limits.TheConstants.{MOST_BYTES}
 
@@ -91,19 +95,24 @@ few_read c bytes text few =
 
 -- ---- nothing is wrong
 
-mark_followed : (version : Version) (found : Found) (mark : Option ℤ) → is_some (followed_tide version found mark).mark ≡ is_some mark
+-- what is wrong first by the tide that was found
+abbrev pub tide_rejection : SiteTide → Certificate → Option Rejection
+tide_rejection found cert =
+    rejection_of (followed_tide (version_of cert) found cert.mark) (widened_of found.basis cert.begin cert.end) cert.tracks
+
+mark_followed : (version : Version) (found : SiteTide) (mark : Option ℤ) → is_some (followed_tide version found mark).mark ≡ is_some mark
 unfolding followed_tide
 mark_followed version found (Some level) = refl
 mark_followed version found None = refl
 
-pub tide_accepted : (found : Found) (cert : Certificate) → IsCertificate cert → tide_rejection found cert ≡ None → AreAccepted (followed_tide (version_of cert) found cert.mark) (widened_of found.basis cert.begin cert.end) cert.tracks
+pub tide_accepted : (found : SiteTide) (cert : Certificate) → IsCertificate cert → tide_rejection found cert ≡ None → AreAccepted (followed_tide (version_of cert) found cert.mark) (widened_of found.basis cert.begin cert.end) cert.tracks
 tide_accepted found cert sound none =
     all_accepted (followed_tide (version_of cert) found cert.mark) (widened_of found.basis cert.begin cert.end) cert.tracks
     (mark_followed (version_of cert) found cert.mark ∙ sym sound.marked) none
 
 -- ---- accepted tracks are short
 
-pub ready_short : (found : Found) (cert : Certificate) → IsReady (asked_in cert) found → IsCertificate cert → tide_rejection found cert ≡ None → AreShort cert.tracks
+pub ready_short : (found : SiteTide) (cert : Certificate) → IsReady (asked_in cert) found → IsCertificate cert → tide_rejection found cert ≡ None → AreShort cert.tracks
 ready_short found cert ready sound none =
     tracks_short (followed_tide (version_of cert) found cert.mark) (widened_of found.basis cert.begin cert.end) cert.tracks
     (omega (arith, looked_few (asked_in cert) found ready)) (tide_accepted found cert sound none)
@@ -112,6 +121,10 @@ ready_short found cert ready sound none =
 pub ok_same : (A E : Type 0) (r : Result A E) (x y : A) → x ≡ y → IfOk r (λ v. v ≡ x) → IfOk r (λ v. v ≡ y)
 ok_same A E (Ok v) x y same is = is ∙ same
 ok_same A E (Err fault) x y same is = tt
+
+pub ok_has : (A E : Type 0) (r : Result A E) (x : A) (P : A → Type 0) → P x → IfOk r (λ v. v ≡ x) → IfOk r P
+ok_has A E (Ok v) x P has is = rw is has
+ok_has A E (Err fault) x P has is = tt
 
 -- ---- the events are those of either version
 
@@ -123,7 +136,7 @@ mark_events : (s : Span) (mark : Option ℤ) (f g : ℤ → Meaning) → ((level
 mark_events s (Some level) f g same = ap (λ t. plain_list t s.begin (minutes_in s) ++ []) (same level)
 mark_events s None f g same = refl
 
-version_events : (v : Version) (found : Found) (mark : Option ℤ) (s : Span) → events_in s (followed_tide v found mark) ≡ events_in s (followed_tide Second found mark)
+version_events : (v : Version) (found : SiteTide) (mark : Option ℤ) (s : Span) → events_in s (followed_tide v found mark) ≡ events_in s (followed_tide Second found mark)
 unfolding followed_tide
 version_events v found mark s =
     let slack = slack_events s (asks_slack found.units found.basis)
@@ -134,26 +147,17 @@ version_events v found mark s =
     (λ level. mark_meaning Second found.curve found.basis.high.times found.basis.high.plus level false) (λ level. refl) in
     rw (slack, mark) refl
 
-one_list : (v : Version) (found : Found) (mark : Option ℤ) (begin end : ℤ) → station_events (followed_tide v found mark) found.basis begin end ≡ station_events (followed_tide Second found mark) found.basis begin end
+one_list : (v : Version) (found : SiteTide) (mark : Option ℤ) (begin end : ℤ) → station_events (followed_tide v found mark) found.basis begin end ≡ station_events (followed_tide Second found mark) found.basis begin end
 one_list v found mark begin end =
     events-parts (followed_tide v found mark) found.basis begin end
     ∙ ap (λ es. ordered (moved_within found.basis begin end es)) (version_events v found mark (widened_of found.basis begin end))
     ∙ sym (events-parts (followed_tide Second found mark) found.basis begin end)
 
-accepted_events : (found : Found) (cert : Certificate) → IsReady (asked_in cert) found → IsCertificate cert → tide_rejection found cert ≡ None → shifted_of found.basis cert.begin cert.end (merged_of (widened_of found.basis cert.begin cert.end).begin cert.tracks) ≡ tide_events found (asked_in cert)
+accepted_events : (found : SiteTide) (cert : Certificate) → IsReady (asked_in cert) found → IsCertificate cert → tide_rejection found cert ≡ None → shifted_of found.basis cert.begin cert.end (merged_of (widened_of found.basis cert.begin cert.end).begin cert.tracks) ≡ tide_events found (asked_in cert)
 accepted_events found cert ready sound none =
     shifted-events (followed_tide (version_of cert) found cert.mark) found.basis cert.begin cert.end cert.tracks
     (ready_known (version_of cert) (asked_in cert) found ready) (tide_accepted found cert sound none)
     ∙ one_list (version_of cert) found cert.mark cert.begin cert.end
-
-pub accepted_list : (asked : Asked) (found : Found) (cert : Certificate) (s : Span) (events : List Event) → asked ≡ asked_in cert → s ≡ widened_of found.basis asked.begin asked.end → events ≡ merged_of s.begin cert.tracks → IsReady asked found → IsCertificate cert → tide_rejection found cert ≡ None → shifted_of found.basis asked.begin asked.end events ≡ tide_events found asked
-accepted_list asked found cert s events same looked is ready sound none =
-    rw (is, looked, same) (accepted_events found cert (rw same at ready) sound none)
-
-pub accepted_movable : (asked : Asked) (found : Found) (cert : Certificate) (s : Span) (events : List Event) → asked ≡ asked_in cert → s ≡ widened_of found.basis asked.begin asked.end → events ≡ merged_of s.begin cert.tracks → IsReady asked found → IsCertificate cert → tide_rejection found cert ≡ None → All IsMovable events
-accepted_movable asked found cert s events same looked is ready sound none =
-    rw (is, looked, same)
-    (ready_movable (version_of cert) (asked_in cert) found cert.tracks (rw same at ready) (tide_accepted found cert sound none))
 
 -- ---- what is asked
 
@@ -169,26 +173,14 @@ near_read cert sound =
 
 -- ---- the answer
 
-pub site_rejection : (book : Book) (cert : Certificate) (site : Site) (found : Found) → IsFound Events book (asked_in cert) site found → tide_rejection found cert ≡ rejection_of (followed_by (version_of cert) book site cert.mark) (widened_of site.basis cert.begin cert.end) cert.tracks
+pub site_rejection : (book : Book) (cert : Certificate) (site : Site) (found : SiteTide) → IsFound Events book (asked_in cert) site found → tide_rejection found cert ≡ rejection_in book site cert
 site_rejection book cert site found is =
     rejection_alike _ _ _ cert.tracks (found_alike (version_of cert) book (asked_in cert) site found cert.mark is)
     ∙ ap (λ b. rejection_of (followed_by (version_of cert) book site cert.mark) (widened_of b cert.begin cert.end) cert.tracks) is.basis
 
-pub judged_by : (book : Book) (table : List Offsets) (cert : Certificate) (zone : Zone) (site : Site) (found : Found) → site_in Events book table cert.station (asked_in cert) ≡ Ok site → IsFound Events book (asked_in cert) site found → judged_in book table cert zone ≡ Ok (judged book site cert zone (tide_rejection found cert))
+pub judged_by : (book : Book) (table : List Offsets) (cert : Certificate) (zone : Zone) (site : Site) → site_in Events book table cert.station (asked_in cert) ≡ Ok site → judged_in book table cert zone ≡ Ok (judged book site cert zone (rejection_in book site cert))
 unfolding judged_in
-judged_by book table cert zone site found expected is =
-    rw expected (ap (λ r. Ok (judged book site cert zone r)) (sym (site_rejection book cert site found is)))
-
-pub judged_accepted : (book : Book) (table : List Offsets) (cert : Certificate) (zone : Zone) (site : Site) (found : Found) → site_in Events book table cert.station (asked_in cert) ≡ Ok site → IsFound Events book (asked_in cert) site found → tide_rejection found cert ≡ None → judged_in book table cert zone ≡ Ok (accepted cert.station found.units (tide_events found (asked_in cert)) zone)
-judged_accepted book table cert zone site found expected is none =
-    judged_by book table cert zone site found expected is
-    ∙ ap (λ r. Ok (judged book site cert zone r)) none
-    ∙ ap (λ (units : Units). Ok (accepted cert.station units (events_of book site (asked_in cert)) zone)) (sym is.units)
-    ∙ ap (λ (events : List Event). Ok (accepted cert.station found.units events zone)) (sym (found_events book (asked_in cert) site found is))
-
-pub judged_rejected : (book : Book) (table : List Offsets) (cert : Certificate) (zone : Zone) (site : Site) (found : Found) (rejection : Rejection) → site_in Events book table cert.station (asked_in cert) ≡ Ok site → IsFound Events book (asked_in cert) site found → tide_rejection found cert ≡ Some rejection → judged_in book table cert zone ≡ Ok (rejected rejection)
-judged_rejected book table cert zone site found rejection expected is some =
-    judged_by book table cert zone site found expected is ∙ ap (λ r. Ok (judged book site cert zone r)) some
+judged_by book table cert zone site expected = rw expected refl
 
 pub judged_refused : (memory : Bool) (book : Book) (table : List Offsets) (cert : Certificate) (zone : Zone) (refusal : Refusal) → Excused memory (site_in Events book table cert.station (asked_in cert)) refusal → Excused memory (judged_in book table cert zone) refusal
 unfolding judged_in
@@ -203,3 +195,39 @@ read_refused book table bytes zone (NotACertificate line) excused = rw excused r
 pub checked_by : (book : Book) (table : List Offsets) (bytes : List ℕ) (zone : Zone) (cert : Certificate) → certificate_of bytes ≡ Ok cert → checked book table bytes zone ≡ judged_in book table cert zone
 unfolding checked judged_in
 checked_by book table bytes zone cert is = rw is refl
+
+-- ---- of a station that was found
+
+found_in : (found : Found) (cert : Certificate) → found.reach ≡ Events → found.asked ≡ asked_in cert → IsFound Events found.origin.book (asked_in cert) (site_of found) (tide_of_found found)
+found_in found cert reach same = subst (λ a. IsFound Events found.origin.book a (site_of found) (tide_of_found found)) same (found_for found Events reach)
+
+ready_in : (found : Found) (cert : Certificate) → found.reach ≡ Events → found.asked ≡ asked_in cert → IsReady (asked_in cert) (tide_of_found found)
+ready_in found cert reach same = ready_of_found found.origin.book (asked_in cert) (site_of found) (tide_of_found found) (found_in found cert reach same)
+
+-- what is wrong by its tide is what is wrong
+pub rejection_for : (found : Found) (cert : Certificate) → found.reach ≡ Events → found.asked ≡ asked_in cert → tide_rejection (tide_of_found found) cert ≡ rejection_in found.origin.book (site_of found) cert
+rejection_for found cert reach same = site_rejection found.origin.book cert (site_of found) (tide_of_found found) (found_in found cert reach same)
+
+pub span_in : (found : Found) (cert : Certificate) → found.reach ≡ Events → found.asked ≡ asked_in cert → found.span ≡ widened_of found.basis cert.begin cert.end
+span_in found cert reach same = span_for found Events reach ∙ ap (λ (a : Asked). widened_of found.basis a.begin a.end) same
+
+pub found_short : (found : Found) (cert : Certificate) → found.reach ≡ Events → found.asked ≡ asked_in cert → IsCertificate cert → rejection_in found.origin.book (site_of found) cert ≡ None → AreShort cert.tracks
+found_short found cert reach same sound none =
+    ready_short (tide_of_found found) cert (ready_in found cert reach same) sound (rejection_for found cert reach same ∙ none)
+
+pub found_movable : (found : Found) (cert : Certificate) (events : List Event) → found.reach ≡ Events → found.asked ≡ asked_in cert → events ≡ merged_of found.span.begin cert.tracks → IsCertificate cert → rejection_in found.origin.book (site_of found) cert ≡ None → All IsMovable events
+found_movable found cert events reach same is sound none =
+    rw (is, span_in found cert reach same)
+    (ready_movable (version_of cert) (asked_in cert) (tide_of_found found) cert.tracks (ready_in found cert reach same)
+    (tide_accepted (tide_of_found found) cert sound (rejection_for found cert reach same ∙ none)))
+
+pub found_list : (found : Found) (cert : Certificate) (events : List Event) → found.reach ≡ Events → found.asked ≡ asked_in cert → events ≡ merged_of found.span.begin cert.tracks → IsCertificate cert → rejection_in found.origin.book (site_of found) cert ≡ None → shifted_of found.basis found.asked.begin found.asked.end events ≡ events_of found.origin.book (site_of found) (asked_in cert)
+found_list found cert events reach same is sound none =
+    rw (is, span_in found cert reach same, same)
+    (accepted_events (tide_of_found found) cert (ready_in found cert reach same) sound (rejection_for found cert reach same ∙ none)
+    ∙ found_events found.origin.book (asked_in cert) (site_of found) (tide_of_found found) (found_in found cert reach same))
+
+pub found_lines : (found : Found) (cert : Certificate) → found.reach ≡ Events → found.asked ≡ asked_in cert → All (IsListed found.origin.station.units) (events_of found.origin.book (site_of found) (asked_in cert))
+found_lines found cert reach same =
+    rw (← found_events found.origin.book (asked_in cert) (site_of found) (tide_of_found found) (found_in found cert reach same))
+    (tide_lines (asked_in cert) (tide_of_found found) (ready_in found cert reach same))

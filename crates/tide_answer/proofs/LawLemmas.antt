@@ -29,7 +29,7 @@ use Rattle.zone_time.specs.declared.zone.Zone.{Zone}
 use Rattle.station_span.specs.declared.asked.Asked.{Asked}
 use Rattle.station_span.specs.declared.reach.Reach.TheVariants.{Events}
 use Rattle.station_cells.specs.declared.rejection.Rejection.{Rejection}
-use Rattle.station_span.specs.declared.station.Found.{Found}
+use Rattle.station_span.specs.Workings.Tides.{SiteTide}
 use Rattle.tide_answer.specs.declared.text.Answer.{Answer}
 use Rattle.tide_answer.specs.Answers.{predicted, certified, checked, certificate_by, certificate_from, version_of, judged, text_of_events, events_text}
 use Rattle.tide_answer.specs.Asking.{asked_in}
@@ -37,13 +37,13 @@ use Rattle.station_span.specs.Following.{asks_slack, slack_times, slack_plus, if
 use Rattle.tide_answer.specs.Laws.{IsAskable, AcceptsListing, TellsTrack, TellsTracks, AcceptsWhatIsCertified, AcceptsOnlyInShort, AcceptsOnlyWhatIsTrue, CertifiesInShort}
 use Rattle.station_cells.specs.Rejections.{slack_fault, fault_from, track_fault, rejection_of}
 use Rattle.station_span.specs.Sites.{Site, site_in}
-use Rattle.tide_answer.specs.Workings.Certifying.{tide_rejection}
+use Rattle.tide_answer.specs.Workings.Certifying.{rejection_in}
 use Rattle.station_span.specs.Workings.Curves.{followed_tide, IsReady}
 use Rattle.station_span.specs.Workings.Spans.{IsFound, IsNear}
 use Rattle.tide_answer.proofs.AnswerLemmas.{moment_near}
-use Rattle.tide_answer.proofs.CertificateLemmas.{accepted_few, accepted_usual, certificate_few, certificate_sound, certificate_usual, tracks_alike}
-use Rattle.tide_answer.proofs.CheckLemmas.{checked_by, judged_by, near_read, site_rejection, tide_accepted}
-use Rattle.station_span.proofs.FollowLemmas.{found_alike, ready_known, ready_of_found}
+use Rattle.tide_answer.proofs.CertificateLemmas.{accepted_few, accepted_usual, certificate_few, certificate_sound, certificate_usual}
+use Rattle.tide_answer.proofs.CheckLemmas.{checked_by, judged_by, near_read, site_rejection, tide_accepted, tide_rejection}
+use Rattle.station_span.proofs.FollowLemmas.{found_alike, ready_known, ready_of_found, tracks_alike}
 use Rattle.station_span.proofs.NameLemmas.{site_name}
 use Rattle.station_span.proofs.SiteLemmas.{found_at, found_of_site, then_ok}
 
@@ -76,7 +76,7 @@ if_marked_tells s None f g None same tells = tells
 if_marked_tells s None f g (Some cells) same tells = tells
 
 -- the versions differ in their rates alone
-version_tells : (v : Version) (found : Found) (cert : Certificate) (s : Span) → TellsTracks s (followed_tide v found cert.mark) cert.tracks → TellsTracks s (followed_tide Second found cert.mark) cert.tracks
+version_tells : (v : Version) (found : SiteTide) (cert : Certificate) (s : Span) → TellsTracks s (followed_tide v found cert.mark) cert.tracks → TellsTracks s (followed_tide Second found cert.mark) cert.tracks
 unfolding followed_tide
 version_tells v found cert s tells = record {
   turn = tells.turn;
@@ -93,7 +93,7 @@ accepted_tells book cert site is sound none =
     let found = found_at book site in
     let s = widened_of site.basis cert.begin cert.end in
     let near = near_read cert sound in
-    let known = ready_known (version_of cert) (asked_in cert) found (ready_of_found book (asked_in cert) site found near is) in
+    let known = ready_known (version_of cert) (asked_in cert) found (ready_of_found book (asked_in cert) site found is) in
     let accepted = tide_accepted found cert sound none in
     let f = followed_tide (version_of cert) found cert.mark in
     let tells : TellsTracks s f cert.tracks = record {
@@ -131,7 +131,7 @@ record WasJudged (book : Book) (table : List Offsets) (bytes : List ℕ) (zone :
   pub site : Site
   pub read : certificate_of bytes ≡ Ok certificate
   pub found : site_in Events book table certificate.station (asked_in certificate) ≡ Ok site
-  pub judged : judged book site certificate zone (rejection_of (followed_by (version_of certificate) book site certificate.mark) (widened_of site.basis certificate.begin certificate.end) certificate.tracks) ≡ answer
+  pub judged : judged book site certificate zone (rejection_in book site certificate) ≡ answer
 
 was_judged : (book : Book) (table : List Offsets) (bytes : List ℕ) (zone : Zone) (answer : Answer) → checked book table bytes zone ≡ Ok answer → WasJudged book table bytes zone answer
 unfolding checked
@@ -210,7 +210,7 @@ was_certified book table name asked certificate is rows askable ok =
     let site = was.0 in
     let near = near_asked asked askable in
     let found = found_of_site Events book table name asked site is rows near was.1 in
-    let ready = ready_of_found book asked site (found_at book site) near found in
+    let ready = ready_of_found book asked site (found_at book site) found in
     let tracks = sym (tracks_alike book asked site (found_at book site) (covers_of (followed_tide Second (found_at book site) asked.mark) (widened_of site.basis asked.begin asked.end)) found refl) in
     record {
       site = site;
@@ -229,7 +229,7 @@ certified_accepted again book table name asked zone certificate is rows askable 
     let found = found_at book site in
     let cert = certificate_by book site name asked in
     let none : tide_rejection found cert ≡ None = rw was.tracks (all_none (followed_tide Second found asked.mark) (widened_of found.basis asked.begin asked.end)) in
-    let judges = judged_by book table cert zone site found was.expected was.found ∙ ap (λ r. Ok (judged book site cert zone r)) none in
+    let judges = judged_by book table cert zone site was.expected ∙ ap (λ r. Ok (judged book site cert zone r)) (sym (site_rejection book cert site found was.found) ∙ none) in
     (judged book site cert zone None, ap (λ text. checked book table text zone) was.text ∙ checked_by book table (certificate_text cert) zone cert (again cert was.sound) ∙ judges, lists book table cert zone site was.expected)
 
 -- ---- what is certified is short
@@ -257,9 +257,8 @@ accepted_short reads only fits book table bytes zone answer is rows ok accepted 
     let found = found_at book site in
     let written : IsTextOf cert bytes = rw was.read at (reads bytes) in
     let one = only cert bytes written in
-    let near = near_read cert one.0 in
-    let sound = found_of_site Events book table cert.station (asked_in cert) site is rows near was.found in
-    let ready = ready_of_found book (asked_in cert) site found near sound in
+    let sound = found_of_site Events book table cert.station (asked_in cert) site is rows (near_read cert one.0) was.found in
+    let ready = ready_of_found book (asked_in cert) site found sound in
     let none = unrejected book site cert zone _ answer was.judged accepted in
     let right = tide_accepted found cert one.0 (site_rejection book cert site found sound ∙ none) in
     subst (λ text. length text < 333000000) one.1

@@ -15,17 +15,11 @@ use Rattle.station_span.specs.declared.asked.Asked.{Asked}
 use Rattle.tide_answer.specs.declared.given.Given.{Given}
 use Rattle.station_span.specs.declared.reach.Reach.TheVariants.{Events}
 use Rattle.tide_fault.specs.declared.refusal.Refusal.{Refusal}
-use Rattle.station_span.specs.declared.station.Found.{Found}
 use Rattle.tide_answer.specs.Answers.{answered, asks_span, named_by, predicted, certified}
 use Rattle.tide_answer.specs.Asking.{asked_by}
-use Rattle.station_span.specs.Following.{cells_of, tracks_of}
-use Rattle.event_list.specs.Events.{cell_count}
 use Rattle.station_span.specs.Sites.{Site, site_in}
 use Rattle.tide_answer.specs.Streams.{can_stream, prepared, streams_by}
-use Rattle.station_span.specs.Workings.Spans.{IsFound}
-use Rattle.tide_answer.specs.Workings.Streaming.{form_of, stream_answer, tide_tracks}
-use Rattle.tide_answer.proofs.CertificateLemmas.{tracks_alike}
-use Rattle.station_span.proofs.FollowLemmas.{found_events, found_cells}
+use Rattle.tide_answer.specs.Workings.Streaming.{form_of, stream_answer}
 use Rattle.station_span.proofs.FoundLemmas.{excused_then}
 
 -- where the name is missing
@@ -62,19 +56,13 @@ both true true h = (refl, refl)
 both true false h = (refl, h)
 both false b h = (h, absurd cc)
 
-pub ready_some : (command : Command) (layout : Layout) (book : Book) (table : List Offsets) (question : Question) (given : Given) (text : List ℕ) (asked : Asked) (site : Site) (found : Found) → question.command ≡ command → question.layout ≡ layout → IsTrue (can_stream command) → named_by question.station ≡ Ok text → named_by (asked_by question) ≡ Ok asked → site_in Events book table text asked ≡ Ok site → IsFound Events book asked site found → streams_by site.basis layout given.zone ≡ true → prepared book table question given ≡ Ok (record { stream = Some (stream_answer (form_of command) found text asked given.zone) })
-unfolding prepared answered asks_span asked_by predicted certified cells_of cell_count tracks_of
-ready_some Predict Plain book table question given text asked site found is lay can name span at has streams =
-    let events = sym (found_events book asked site found has) in
-    let cells = sym (found_cells book asked site found has) in
-    rw (is, lay, name, span, at, streams, events, cells, has.units) refl
-ready_some Predict Csv book table question given text asked site found is lay can name span at has streams =
+pub ready_some : (command : Command) (layout : Layout) (book : Book) (table : List Offsets) (question : Question) (given : Given) (text : List ℕ) (asked : Asked) (site : Site) → question.command ≡ command → question.layout ≡ layout → IsTrue (can_stream command) → named_by question.station ≡ Ok text → named_by (asked_by question) ≡ Ok asked → site_in Events book table text asked ≡ Ok site → streams_by site.basis layout given.zone ≡ true → prepared book table question given ≡ Ok (record { stream = Some (stream_answer (form_of command) book site text asked given.zone) })
+unfolding prepared answered asks_span asked_by predicted certified
+ready_some Predict Plain book table question given text asked site is lay can name span at streams = rw (is, lay, name, span, at, streams) refl
+ready_some Predict Csv book table question given text asked site is lay can name span at streams =
     absurd (let no = (both (is_plain site.basis) false streams).1 in cc)
-ready_some Certify layout book table question given text asked site found is lay can name span at has streams =
-    let tracks = tracks_alike book asked site found (tide_tracks found asked) has refl in
-    let cells = sym (found_cells book asked site found has) in
-    rw (is, lay, name, span, at, streams, cells, ← tracks) refl
-ready_some _ layout book table question given text asked site found is lay can name span at has streams = absurd (let no = can in cc)
+ready_some Certify layout book table question given text asked site is lay can name span at streams = rw (is, lay, name, span, at, streams) refl
+ready_some _ layout book table question given text asked site is lay can name span at streams = absurd (let no = can in cc)
 
 -- the zone that an answer streams by
 pub zone_some : (streams : Bool) (zone given : Zone) → Some zone ≡ (if streams then Some given else None) → (streams ≡ true) × (zone ≡ given)

@@ -23,25 +23,28 @@ use Rattle.event_list.specs.Shifts.{widened_of}
 use Rattle.event_list.proofs.EventLemmas.{cells-parts, count-few, merged-parts}
 use Rattle.event_list.proofs.OrderLemmas.{sum-ordered}
 use Rattle.interval_search.specs.Looking.{Looking}
-use Rattle.rate_bound.specs.declared.version.Version.TheVariants.{Second}
 use Rattle.station_span.specs.declared.asked.Asked.{Asked}
-use Rattle.station_span.specs.declared.station.Found.{Found}
-use Rattle.station_span.specs.Workings.Curves.{followed_tide, AreMerged, IsReady}
+use Rattle.station_span.specs.declared.found.Found.{Found}
+use Rattle.station_span.specs.declared.reach.Reach.TheVariants.{Events}
+use Rattle.station_span.specs.Following.{followed, tracks_of}
+use Rattle.station_span.specs.Workings.Finds.{AreReferences, site_of, tide_of_found}
+use Rattle.station_span.proofs.HeldLemmas.{found_for, ready_for, tracks_tide}
 use Rattle.station_cells.specs.Sending.{left_count}
-use Rattle.tide_answer.specs.Workings.Streaming.{head_text, tide_tracks, tracks_text, HasCells}
+use Rattle.tide_answer.specs.Workings.Streaming.{head_text, tracks_text, HasCells}
 use Rattle.tide_answer.specs.Workings.Certifying.{certificate_in}
 use Rattle.station_span.specs.Workings.Spans.{AreMoments}
 use Rattle.tide_answer.proofs.CertificateLemmas.{certificate_sound}
 
 -- ---- cells
 
-pub cells_small : (asked : Asked) (found : Found) → IsReady asked found → cells_in (tide_tracks found asked) ≤ 600000000000
-unfolding cell_count
-cells_small asked found ready =
-    let few = count-few (followed_tide Second found asked.mark) (widened_of found.basis asked.begin asked.end) in
-    let forward = ready.near.forward in
-    let begin = ready.near.begin in
-    let end = ready.near.end in
+pub cells_small : (found : Found) → found.reach ≡ Events → cells_in (tracks_of found.origin.book (site_of found) found.asked) ≤ 600000000000
+unfolding cell_count tracks_of
+cells_small found is =
+    let few = count-few (followed found.origin.book (site_of found) found.asked) (widened_of found.basis found.asked.begin found.asked.end) in
+    let near = (found_for found Events is).span.near in
+    let forward = near.forward in
+    let begin = near.begin in
+    let end = near.end in
     omega (arith, ints, few)
 
 pub left_counted : {C : Type 0} (search : Option (Looking C)) → left_count search ≡ sum_by length (option_to_list (cells_left search))
@@ -94,26 +97,28 @@ merged_few a t =
       track_few a t.mark,
     ))
 
-pub events_small : (asked : Asked) (found : Found) (events : List Event) → IsReady asked found → AreMerged asked found events → 96 * length events < 2 ^ 63
-events_small asked found events ready merged =
-    let few = merged_few (widened_of found.basis asked.begin asked.end).begin (tide_tracks found asked) in
-    let small = cells_small asked found ready in
-    rw merged (omega (arith, few, small))
+pub events_small : (found : Found) (events : List Event) → found.reach ≡ Events → AreReferences found events → 96 * length events < 2 ^ 63
+events_small found events is references =
+    let few = merged_few found.span.begin (tracks_of found.origin.book (site_of found) found.asked) in
+    let small = cells_small found is in
+    rw references (omega (arith, few, small))
 
 -- ---- the parts of a certificate
 
-pub turn_small : (asked : Asked) (found : Found) → IsReady asked found → length (tide_tracks found asked).turn ≤ 600000000000
-turn_small asked found ready = omega (arith, cells-parts (tide_tracks found asked), cells_small asked found ready)
+pub turn_small : (found : Found) → found.reach ≡ Events → length (tracks_of found.origin.book (site_of found) found.asked).turn ≤ 600000000000
+turn_small found is = omega (arith, cells-parts (tracks_of found.origin.book (site_of found) found.asked), cells_small found is)
 
-pub slack_small : {C : Type 0} (asked : Asked) (found : Found) (search : Option (Looking C)) → IsReady asked found → cells_left search ≡ (tide_tracks found asked).slack → left_count search ≤ 600000000000
-slack_small asked found search ready is =
-    let count : left_count search ≡ sum_by length (option_to_list (tide_tracks found asked).slack) = left_counted search ∙ ap (λ (o : Option (List Cell)). sum_by length (option_to_list o)) is in
-    omega (arith, count, cells-parts (tide_tracks found asked), cells_small asked found ready)
+pub slack_small : {C : Type 0} (found : Found) (search : Option (Looking C)) → found.reach ≡ Events → cells_left search ≡ (tracks_of found.origin.book (site_of found) found.asked).slack → left_count search ≤ 600000000000
+slack_small found search is left =
+    let tracks = tracks_of found.origin.book (site_of found) found.asked in
+    let count : left_count search ≡ sum_by length (option_to_list tracks.slack) = left_counted search ∙ ap (λ (o : Option (List Cell)). sum_by length (option_to_list o)) left in
+    omega (arith, count, cells-parts tracks, cells_small found is)
 
-pub mark_small : {C : Type 0} (asked : Asked) (found : Found) (search : Option (Looking C)) → IsReady asked found → cells_left search ≡ (tide_tracks found asked).mark → left_count search ≤ 600000000000
-mark_small asked found search ready is =
-    let count : left_count search ≡ sum_by length (option_to_list (tide_tracks found asked).mark) = left_counted search ∙ ap (λ (o : Option (List Cell)). sum_by length (option_to_list o)) is in
-    omega (arith, count, cells-parts (tide_tracks found asked), cells_small asked found ready)
+pub mark_small : {C : Type 0} (found : Found) (search : Option (Looking C)) → found.reach ≡ Events → cells_left search ≡ (tracks_of found.origin.book (site_of found) found.asked).mark → left_count search ≤ 600000000000
+mark_small found search is left =
+    let tracks = tracks_of found.origin.book (site_of found) found.asked in
+    let count : left_count search ≡ sum_by length (option_to_list tracks.mark) = left_counted search ∙ ap (λ (o : Option (List Cell)). sum_by length (option_to_list o)) left in
+    omega (arith, count, cells-parts tracks, cells_small found is)
 
 pub mark_in_range : (mark : Option ℤ) → ForSome mark (λ level. unsigned_abs level ≤ 10000000000) → IfSome mark IsMark
 mark_in_range (Some level) small = small level refl
@@ -128,13 +133,14 @@ if_cells : (track : TrackName) (cells : Option (List Cell)) → IfSome cells (Al
 if_cells track (Some cells) all = All-weaker (IsCellOf track) IsCell (cell_of track) cells all
 if_cells track None all = tt
 
-pub has_cells : (name : List ℕ) (asked : Asked) (found : Found) → IsStationName name → AreMoments asked → IsReady asked found → HasCells (tide_tracks found asked)
-has_cells name asked found named moments ready =
-    let is = certificate_sound name asked found (tide_tracks found asked) named moments.begin moments.end ready refl in
+pub has_cells : (name : List ℕ) (found : Found) → found.reach ≡ Events → IsStationName name → AreMoments found.asked → HasCells (tracks_of found.origin.book (site_of found) found.asked)
+has_cells name found reach named moments =
+    let tracks = tracks_of found.origin.book (site_of found) found.asked in
+    let is = certificate_sound name found.asked (tide_of_found found) tracks named moments.begin moments.end (ready_for found reach) (tracks_tide found reach) in
     record {
-      turn = All-weaker (IsCellOf names.Turn) IsCell (cell_of names.Turn) (tide_tracks found asked).turn is.turn;
-      slack = if_cells names.Slack (tide_tracks found asked).slack is.slack;
-      mark = if_cells names.Mark (tide_tracks found asked).mark is.crossings;
+      turn = All-weaker (IsCellOf names.Turn) IsCell (cell_of names.Turn) tracks.turn is.turn;
+      slack = if_cells names.Slack tracks.slack is.slack;
+      mark = if_cells names.Mark tracks.mark is.crossings;
     }
 
 pub searched : {C : Type 0} (search : Option (Looking C)) (cells : Option (List Cell)) → cells_left search ≡ cells → IfSome cells (All IsCell) → ForSome search (λ s. All IsCell s.left)

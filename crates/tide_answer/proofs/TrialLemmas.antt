@@ -6,46 +6,31 @@ use Rattle.curve_law.specs.declared.cell.Cell.{Cell}
 use Rattle.curve_law.specs.declared.event.Event.{Event}
 use Rattle.curve_law.specs.declared.tracks.Tracks.{Tracks}
 use Rattle.decimal_text.specs.Expected.{Excused}
-use Rattle.event_list.specs.Events.{covers_of, cells_in, cell_count}
+use Rattle.event_list.specs.Events.{cells_in, cell_count}
 use Rattle.event_list.specs.Shifts.{widened_of}
 use Rattle.event_list.proofs.EventLemmas.{count-few}
 use Rattle.harmonics_text.specs.declared.book.Book.{Book}
 use Rattle.harmonics_text.specs.declared.book.Station.{Station}
-use Rattle.rate_bound.specs.declared.version.Version.TheVariants.{Second}
-use Rattle.station_span.specs.declared.asked.Asked.{Asked}
+use Rattle.event_list.specs.declared.span.Span.{Span}
 use Rattle.station_span.specs.declared.reach.Reach.TheVariants.{Events}
 use Rattle.tide_fault.specs.declared.refusal.Refusal.{Refusal}
 use Rattle.station_cells.specs.declared.rejection.Rejection.{Rejection}
-use Rattle.station_span.specs.declared.station.Found.{Found}
+use Rattle.station_span.specs.declared.found.Found.{Found}
+use Rattle.station_span.specs.Workings.Finds.{site_of}
+use Rattle.station_span.proofs.HeldLemmas.{found_for}
 use Rattle.tide_answer.specs.declared.tally.Tally.{Tally}
-use Rattle.station_span.specs.Following.{followed, events_of}
-use Rattle.station_cells.specs.Rejections.{rejection_of}
+use Rattle.station_span.specs.Following.{followed, events_of, tracks_of}
 use Rattle.station_span.specs.Sites.{Site, site_in}
 use Rattle.tide_answer.specs.Trials.{plus, station_tally, tally_on, tally_at, tally_by, trial_span}
 use Rattle.station_cells.specs.Rejections.{HasFewCells}
-use Rattle.tide_answer.specs.Workings.Certifying.{certificate_in, tide_rejection}
-use Rattle.station_span.specs.Workings.Curves.{followed_tide, tide_events, IsReady}
-use Rattle.station_span.specs.Workings.Spans.{IsFound, IsNear}
+use Rattle.tide_answer.specs.Workings.Certifying.{certificate_in, rejection_in}
+use Rattle.station_span.specs.Workings.Spans.{IsNear}
 use Rattle.tide_answer.specs.Workings.Tallies.{IsUpTo}
-use Rattle.tide_answer.proofs.CertificateLemmas.{tracks_alike}
-use Rattle.tide_answer.proofs.CheckLemmas.{site_rejection}
-use Rattle.station_span.proofs.FollowLemmas.{found_events}
 use Rattle.station_span.proofs.FoundLemmas.{excused_then}
 
-tally_alike : (book : Book) (asked : Asked) (name : List ℕ) (site : Site) (found : Found) (tracks : Tracks) → IsFound Events book asked site found → tracks ≡ covers_of (followed_tide Second found asked.mark) (widened_of found.basis asked.begin asked.end) → tally_by (widened_of found.basis asked.begin asked.end) tracks (tide_events found asked) (tide_rejection found (certificate_in name asked tracks)) ≡ tally_at book site asked
-unfolding tally_at
-tally_alike book asked name site found tracks is same =
-    let span = widened_of site.basis asked.begin asked.end in
-    let rejection = tide_rejection found (certificate_in name asked tracks) in
-    ap (λ b. tally_by (widened_of b asked.begin asked.end) tracks (tide_events found asked) rejection) is.basis
-    ∙ ap (λ (events : List Event). tally_by span tracks events rejection) (found_events book asked site found is)
-    ∙ ap (λ (r : Option Rejection). tally_by span tracks (events_of book site asked) r) (site_rejection book (certificate_in name asked tracks) site found is)
-    ∙ ap (λ (t : Tracks). tally_by span t (events_of book site asked) (rejection_of (followed book site asked) span t)) (tracks_alike book asked site found tracks is same)
-
-pub station_whole : (book : Book) (name : List ℕ) (site : Site) (found : Found) (tracks : Tracks) → site_in Events book [] name trial_span ≡ Ok site → IsFound Events book trial_span site found → tracks ≡ covers_of (followed_tide Second found trial_span.mark) (widened_of found.basis trial_span.begin trial_span.end) → station_tally book name ≡ Ok (tally_by (widened_of found.basis trial_span.begin trial_span.end) tracks (tide_events found trial_span) (tide_rejection found (certificate_in name trial_span tracks)))
-unfolding station_tally
-station_whole book name site found tracks expected is same =
-    rw expected (ap (λ (t : Tally). Ok t) (sym (tally_alike book trial_span name site found tracks is same)))
+pub station_whole : (book : Book) (name : List ℕ) (site : Site) (span : Span) (tracks : Tracks) (events : List Event) (rejection : Option Rejection) → site_in Events book [] name trial_span ≡ Ok site → span ≡ widened_of site.basis trial_span.begin trial_span.end → tracks ≡ tracks_of book site trial_span → events ≡ events_of book site trial_span → rejection ≡ rejection_in book site (certificate_in name trial_span tracks) → station_tally book name ≡ Ok (tally_by span tracks events rejection)
+unfolding station_tally tally_at
+station_whole book name site span tracks events rejection expected looked covers list judged = rw (expected, looked, list, judged, covers) refl
 
 -- ---- how many cells a station's tracks have
 
@@ -72,19 +57,20 @@ parts_few turn (Some slack) (Some mark) few = record {
   mark = λ x e. let same : mark ≡ x = cc in rw (← same) (omega (arith, few));
 }
 
-covers_few : (asked : Asked) (found : Found) → IsReady asked found → cells_in (covers_of (followed_tide Second found asked.mark) (widened_of found.basis asked.begin asked.end)) < 2 ^ 32
-unfolding cell_count
-covers_few asked found ready =
-    let few = count-few (followed_tide Second found asked.mark) (widened_of found.basis asked.begin asked.end) in
-    let forward = ready.near.forward in
-    let begins = ready.beside.begins in
-    let ends = ready.beside.ends in
-    let long = ready.few in
+covers_few : (found : Found) → found.reach ≡ Events → cells_in (tracks_of found.origin.book (site_of found) found.asked) < 2 ^ 32
+unfolding cell_count tracks_of
+covers_few found is =
+    let few = count-few (followed found.origin.book (site_of found) found.asked) (widened_of found.basis found.asked.begin found.asked.end) in
+    let span = (found_for found Events is).span in
+    let forward = span.near.forward in
+    let begins = span.beside.begins in
+    let ends = span.beside.ends in
+    let long = found.sound.few in
     omega (arith, ints, few)
 
-pub tracks_have_few : (asked : Asked) (found : Found) (tracks : Tracks) → IsReady asked found → tracks ≡ covers_of (followed_tide Second found asked.mark) (widened_of found.basis asked.begin asked.end) → HasFewCells tracks
-tracks_have_few asked found tracks ready same =
-    parts_few tracks.turn tracks.slack tracks.mark (rw same (covers_few asked found ready))
+pub tracks_few : (found : Found) (tracks : Tracks) → found.reach ≡ Events → tracks ≡ tracks_of found.origin.book (site_of found) found.asked → HasFewCells tracks
+tracks_few found tracks is same =
+    parts_few tracks.turn tracks.slack tracks.mark (rw same (covers_few found is))
 
 -- ---- from one station to the next
 

@@ -10,7 +10,7 @@ use decimal_text::Text;
 use harmonics_text::{SoundBook, Station};
 use listing::about_text;
 use slope_agreement::{agreement, predicted_agreements};
-use station_span::{find_known, station_at};
+use station_span::find_known;
 use station_table::OffsetTable;
 use std::alloc::Global;
 use tide_fault::Refusal;
@@ -28,11 +28,11 @@ pub fn tell_about(
     ensures told { IfErr result (IsToldRefusal table.now) }
 {
     let found = find_known(alloc, book, table, name)?;
-    let station = station_at(book.get(), found.basis.station);
+    let station = found.station;
     let count = constituent_count(station);
     predicted_agreements();
     let agreement = agreement(&found.curve);
-    let text = about_text(alloc, name, &station.name, found.units, count, agreement)?;
+    let text = about_text(alloc, name, &station.name, station.units, count, agreement)?;
     Ok(text_alone(text))
 }
 

@@ -37,7 +37,7 @@ pub fn certify(
     ensures told { IfErr result (IsToldRefusal table.now) }
 {
     let found = find_station(alloc, book, table, Reach::Events, name, asked)?;
-    let tracks = find_tracks(alloc, &found, asked)?;
+    let tracks = find_tracks(alloc, &found)?;
     let cells = cell_count(&tracks);
     let cert = certificate_of(name.copy()?, asked, tracks);
     let text = write_certificate(alloc, &cert)?;

@@ -4,34 +4,34 @@ ghost use Rattle.std.specs.Prelude.{◌≡◌, ◌<◌, ◌≤◌, ◌^◌, ◌+
 ghost use Rattle.cert_text.specs.Certificates.{IsMark, IsStationName};
 ghost use Rattle.cert_text.specs.Lines.{begin_line_of, end_line_of, mark_line_of, certificate_text, ended};
 ghost use Rattle.station_cells.specs.Sending.{Sends};
-ghost use Rattle.station_span.specs.Workings.Curves.{tide_cells, IsReady};
-ghost use Rattle.station_span.specs.Workings.Spans.{AreMoments, IsNear};
-ghost use Rattle.tide_answer.specs.Workings.Certifying.{certificate_in};
-ghost use Rattle.tide_answer.specs.Workings.Streaming.{head_text, tide_tracks, tracks_text, HasCells};
+ghost use Rattle.station_span.specs.declared.reach.Reach.{Reach};
+ghost use Rattle.station_span.specs.Following.{cells_of, tracks_of};
+ghost use Rattle.station_span.specs.Workings.Finds.{site_of};
+ghost use Rattle.station_span.specs.Workings.Spans.{AreMoments};
+ghost use Rattle.tide_answer.specs.Answers.{certificate_by};
+ghost use Rattle.tide_answer.specs.Workings.Streaming.{head_text, tracks_text, HasCells};
 
 use arrayvec::ArrayString;
 use cert_text::{TrackName, begin_line, end_line, mark_line};
 use decimal_text::Text;
 use station_cells::{Sent, send, send_if_followed, send_name, send_track};
-use station_span::{Asked, Found, Reach, mark_search, reached, slack_search, turn_search};
+use station_span::{Asked, Found, mark_search, slack_search, turn_search};
 use tide_edge::{Sink, WriteFailed};
 
-/// Writes the certificate of a station's curves over a span, with the rates of version 2.
+/// Writes the certificate of a station's curves over the span that is requested, with the rates of version 2.
 pub fn send_certificate<S: Sink>(
     out: &mut S,
     found: &Found,
     name: &Text,
-    asked: &Asked,
 ) -> Result<Sent, WriteFailed>
-    requires ready { IsReady asked.now found.now }
-    requires near { IsNear asked.now }
-    requires moments { AreMoments asked.now }
+    requires reach { found.now.reach ≡ Reach.Events }
+    requires moments { AreMoments found.now.asked }
     requires name { IsStationName name.now }
     ensures { Sends (S.state out.old) (S.state out.new) (record { bytes = 0; cells = 0 })
-        (certificate_text (certificate_in name.now asked.now (tide_tracks found.now asked.now))) (tide_cells found.now asked.now) result }
+        (certificate_text (certificate_by found.now.origin.book (site_of found.now) name.now found.now.asked)) (cells_of found.now.origin.book (site_of found.now) found.now.asked) result }
 {
-    let sent = send_head(out, name, asked)?;
-    let sent = send_tracks(out, sent, found, asked)?;
+    let sent = send_head(out, name, &found.asked)?;
+    let sent = send_tracks(out, sent, found)?;
     send(out, sent, "done\n")
 }
 
@@ -51,26 +51,18 @@ fn send_head<S: Sink>(out: &mut S, name: &Text, asked: &Asked) -> Result<Sent, W
 }
 
 // Writes the tracks of all curves that are followed.
-fn send_tracks<S: Sink>(
-    out: &mut S,
-    sent: Sent,
-    found: &Found,
-    asked: &Asked,
-) -> Result<Sent, WriteFailed>
-    requires ready { IsReady asked.now found.now }
-    requires near { IsNear asked.now }
-    requires cells { HasCells (tide_tracks found.now asked.now) }
+fn send_tracks<S: Sink>(out: &mut S, sent: Sent, found: &Found) -> Result<Sent, WriteFailed>
+    requires reach { found.now.reach ≡ Reach.Events }
+    requires cells { HasCells (tracks_of found.now.origin.book (site_of found.now) found.now.asked) }
     requires small { sent.bytes ≤ 1000 }
     requires first { sent.cells ≡ 0 }
     ensures sends { Sends (S.state out.old) (S.state out.new) sent
-        (tracks_text (tide_tracks found.now asked.now)) (tide_cells found.now asked.now) result }
+        (tracks_text (tracks_of found.now.origin.book (site_of found.now) found.now.asked)) (cells_of found.now.origin.book (site_of found.now) found.now.asked) result }
     ensures short { IfOk result (λ done. done.bytes < 2 ^ 63) }
 {
-    let span = reached(Reach::Events, &found.basis, asked);
-    let sent = send_track(out, sent, TrackName::Turn, turn_search(found, &span))?;
-    let sent = send_if_followed(out, sent, TrackName::Slack, slack_search(found, &span))?;
-    let mark = mark_search(found, asked.mark, &span);
-    send_if_followed(out, sent, TrackName::Mark, mark)
+    let sent = send_track(out, sent, TrackName::Turn, turn_search(found))?;
+    let sent = send_if_followed(out, sent, TrackName::Slack, slack_search(found))?;
+    send_if_followed(out, sent, TrackName::Mark, mark_search(found))
 }
 
 // The lines of the span and of the mark.

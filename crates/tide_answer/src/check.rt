@@ -1,16 +1,18 @@
 //! The check of a certificate.
 
-ghost use Rattle.std.specs.Prelude.{◌≡◌, ◌≤◌, length, None, IfOk, IfErr};
+ghost use Rattle.std.specs.Prelude.{◌≡◌, ◌≤◌, length, All, None, IfOk, IfErr};
 ghost use Rattle.cert_text.specs.Certificates.{IsCertificate};
-ghost use Rattle.decimal_text.specs.Expected.{Gives};
-ghost use Rattle.tide_answer.specs.Answers.{checked};
-ghost use Rattle.tide_answer.specs.Asking.{asked_in};
-ghost use Rattle.tide_fault.specs.Faults.{wants_memory_of_refusal, IsToldRefusal};
-ghost use Rattle.station_cells.specs.Rejections.{HasFewCells};
-ghost use Rattle.tide_answer.specs.Workings.Certifying.{accepted, judged_in, tide_rejection};
-ghost use Rattle.station_span.specs.Workings.Curves.{tide_events, IsReady};
-ghost use Rattle.station_span.specs.Workings.Spans.{IsNear};
 ghost use Rattle.decimal_text.specs.declared.limits.TheConstants.{MOST_BYTES};
+ghost use Rattle.decimal_text.specs.Expected.{Gives};
+ghost use Rattle.event_text.specs.Lines.{IsListed};
+ghost use Rattle.station_cells.specs.Rejections.{HasFewCells};
+ghost use Rattle.station_span.specs.declared.reach.Reach.{Reach};
+ghost use Rattle.station_span.specs.Following.{events_of};
+ghost use Rattle.station_span.specs.Workings.Finds.{site_of};
+ghost use Rattle.tide_answer.specs.Answers.{checked, judged};
+ghost use Rattle.tide_answer.specs.Asking.{asked_in};
+ghost use Rattle.tide_answer.specs.Workings.Certifying.{judged_in, rejection_in};
+ghost use Rattle.tide_fault.specs.Faults.{wants_memory_of_refusal, IsToldRefusal};
 
 use crate::asking::asked_in;
 use crate::judging::find_rejection;
@@ -22,7 +24,7 @@ use event_list::{merged, shifted};
 use harmonics_text::SoundBook;
 use listing::plain_events;
 use station_cells::rejection_line;
-use station_span::{Asked, Found, Reach, find_station, reached};
+use station_span::{Asked, Found, Reach, find_station};
 use station_table::OffsetTable;
 use std::alloc::{AllocError, Global};
 use tide_fault::Refusal;
@@ -60,10 +62,9 @@ fn judge(
     ensures exact { Gives wants_memory_of_refusal (judged_in book.now table.now cert.now zone.now) result }
     ensures told { IfErr result (IsToldRefusal table.now) }
 {
-    let asked = asked_in(cert);
-    let found = find_station(alloc, book, table, Reach::Events, &cert.station, &asked)?;
-    match find_rejection(&found, &asked, cert) {
-        None => Ok(accept(alloc, &found, &asked, cert, zone)?),
+    let found = find_station(alloc, book, table, Reach::Events, &cert.station, &asked_in(cert))?;
+    match find_rejection(&found, cert) {
+        None => Ok(accept(alloc, &found, cert, zone)?),
         Some(rejection) => Ok(rejected(rejection_line(alloc, rejection)?)),
     }
 }
@@ -72,37 +73,29 @@ fn judge(
 fn accept(
     alloc: Global,
     found: &Found,
-    asked: &Asked,
     cert: &Certificate,
     zone: &ZoneClock<'_>,
 ) -> Result<Answer, AllocError>
-    requires ready { IsReady asked.now found.now }
-    requires near { IsNear asked.now }
-    requires same { asked.now ≡ asked_in cert.now }
+    requires reach { found.now.reach ≡ Reach.Events }
+    requires same { found.now.asked ≡ asked_in cert.now }
     requires cert { IsCertificate cert.now }
-    requires valid { tide_rejection found.now cert.now ≡ None }
-    ensures { IfOk result (λ answer. answer
-        ≡ accepted cert.now.station found.now.units (tide_events found.now asked.now) zone.now) }
+    requires valid { rejection_in found.now.origin.book (site_of found.now) cert.now ≡ None }
+    ensures { IfOk result (λ answer. answer ≡ judged found.now.origin.book (site_of found.now) cert.now zone.now None) }
 {
-    let events = events_of(alloc, found, asked, cert)?;
+    let events = events_of(alloc, found, cert)?;
     let list = plain_events(alloc, &cert.station, found.units, &events, zone.zone())?;
     accepted(alloc, &list)
 }
 
-fn events_of(
-    alloc: Global,
-    found: &Found,
-    asked: &Asked,
-    cert: &Certificate,
-) -> Result<Events, AllocError>
-    requires ready { IsReady asked.now found.now }
-    requires near { IsNear asked.now }
-    requires same { asked.now ≡ asked_in cert.now }
+fn events_of(alloc: Global, found: &Found, cert: &Certificate) -> Result<Events, AllocError>
+    requires reach { found.now.reach ≡ Reach.Events }
+    requires same { found.now.asked ≡ asked_in cert.now }
     requires cert { IsCertificate cert.now }
-    requires valid { tide_rejection found.now cert.now ≡ None }
-    ensures { IfOk result (λ events. events ≡ tide_events found.now asked.now) }
+    requires valid { rejection_in found.now.origin.book (site_of found.now) cert.now ≡ None }
+    ensures exact { IfOk result (λ events. events ≡ events_of found.now.origin.book (site_of found.now) (asked_in cert.now)) }
+    ensures listed { IfOk result (All (IsListed found.now.origin.station.units)) }
 {
-    let span = reached(Reach::Events, &found.basis, asked);
-    let events = merged(alloc, &cert.tracks, span.begin)?;
-    shifted(alloc, &events, &found.basis, asked.begin, asked.end)
+    let events = merged(alloc, &cert.tracks, found.span.begin)?;
+    let Asked { begin, end, .. } = found.asked;
+    shifted(alloc, &events, &found.basis, begin, end)
 }

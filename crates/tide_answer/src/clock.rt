@@ -35,10 +35,10 @@ pub fn tell_now(
 {
     let asked = day_from(now);
     let found = find_station(alloc, book, table, Reach::Events, name, &asked)?;
-    check_level(&found.basis)?;
+    check_level(&found)?;
     let level = level_at(&found, now);
     let rising = is_rising(&found, now);
-    let listed = find_events(alloc, &found, &asked)?;
+    let listed = find_events(alloc, &found)?;
     let text = clock_text(
         alloc,
         name,

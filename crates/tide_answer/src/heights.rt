@@ -2,10 +2,10 @@
 
 ghost use Rattle.std.specs.Prelude.{◌≡◌, ◌≤◌, ◌+ℤ◌, ◌*ℤ◌, ◌-ℤ◌, pos, negsuc, [], All, unsigned_abs, Ok, Err, IfOk, IfErr, OnOk};
 ghost use Rattle.decimal_text.specs.Expected.{Gives};
-ghost use Rattle.tide_answer.specs.Answers.{heights, heights_text, row_count, row_limit, rows_in};
+ghost use Rattle.tide_answer.specs.Answers.{heights, heights_text, row_at, row_count, row_limit, rows_in, rows_of};
 ghost use Rattle.tide_fault.specs.Faults.{wants_memory_of_refusal, IsToldRefusal};
-ghost use Rattle.tide_answer.specs.Workings.Rows.{IsStep, tide_row, tide_rows};
-ghost use Rattle.station_span.specs.Workings.Levels.{HasLevel, HasLevelsIn};
+ghost use Rattle.tide_answer.specs.Workings.Rows.{IsStep};
+ghost use Rattle.station_span.specs.Workings.Finds.{AreLooked, IsLooked, site_of};
 ghost use Rattle.station_span.specs.Workings.Spans.{IsNear};
 ghost use Rattle.zone_time.specs.Zones.{InZoneYears};
 
@@ -42,9 +42,9 @@ pub fn list_heights(
     ensures told { IfErr result (IsToldRefusal table.now) }
 {
     let found = find_station(alloc, book, table, Reach::Levels, name, asked)?;
-    check_level(&found.basis)?;
+    check_level(&found)?;
     check_rows(asked, step)?;
-    let rows = rows_of(alloc, &found, asked, step)?;
+    let rows = rows_of(alloc, &found, step)?;
     let text = heights_text(alloc, layout, name, found.units, &rows, zone)?;
     Ok(text_alone(text))
 }
@@ -81,29 +81,27 @@ fn minutes_in(asked: &Asked) -> u64
     (asked.end - asked.begin).unsigned_abs()
 }
 
-fn rows_of(alloc: Global, found: &Found, asked: &Asked, step: i64) -> Result<Rows, AllocError>
-    requires near { IsNear asked.now }
+fn rows_of(alloc: Global, found: &Found, step: i64) -> Result<Rows, AllocError>
     requires step { IsStep step }
-    requires levels { HasLevelsIn found.now asked.now }
-    requires few { row_count asked.now.begin asked.now.end step ≤ row_limit }
-    ensures exact { IfOk result (λ rows. rows ≡ tide_rows found.now asked.now.begin asked.now.end step) }
+    requires levels { AreLooked found.now }
+    requires few { row_count found.now.asked.begin found.now.asked.end step ≤ row_limit }
+    ensures exact { IfOk result (λ rows. rows ≡ rows_of found.now.origin.book (site_of found.now) found.now.asked.begin found.now.asked.end step) }
     ensures listed { IfOk result (λ rows. All (λ row. InZoneYears row.minute) rows) }
 {
     let mut rows = Vec::new(alloc);
-    for place in 0..row_count(asked, step) {
-        rows.push(row_at(found, asked.begin, step, place))?;
+    for place in 0..row_count(&found.asked, step) {
+        rows.push(row_at(found, step, place))?;
     }
     Ok(Rows::from_vec(rows))
 }
 
-fn row_at(found: &Found, begin: i64, step: i64, place: u64) -> Row
-    requires begin { unsigned_abs begin ≤ 20000000000 }
+fn row_at(found: &Found, step: i64, place: u64) -> Row
     requires step { IsStep step }
     requires place { place ≤ row_limit }
-    requires level { HasLevel found.now (begin +ℤ (step *ℤ pos place)) }
-    ensures { result ≡ tide_row found.now begin step place }
+    requires level { IsLooked found.now (found.now.asked.begin +ℤ (step *ℤ pos place)) }
+    ensures { result ≡ row_at found.now.origin.book (site_of found.now) found.now.asked.begin step place }
 {
-    let minute = minute_at(begin, step, place);
+    let minute = minute_at(found.asked.begin, step, place);
     Row {
         minute,
         level: level_at(found, minute),

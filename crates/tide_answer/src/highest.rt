@@ -2,10 +2,11 @@
 
 ghost use Rattle.std.specs.Prelude.{◌≡◌, IfErr, IfOk};
 ghost use Rattle.decimal_text.specs.Expected.{Gives};
-ghost use Rattle.tide_answer.specs.Answers.{highest, peak_certified};
-ghost use Rattle.tide_answer.specs.Workings.Peaks.{peak_certificate_in, tide_highest_text};
+ghost use Rattle.tide_answer.specs.Answers.{highest, highest_text_at, peak_certified};
+ghost use Rattle.tide_answer.specs.Workings.Peaks.{peak_certificate_in};
 ghost use Rattle.tide_fault.specs.Faults.{wants_memory_of_refusal, IsToldRefusal};
-ghost use Rattle.station_span.specs.Workings.Peaks.{HasHighest, IsSourceIn};
+ghost use Rattle.station_span.specs.Workings.Finds.{HasPeak, site_of, tide_of_found};
+ghost use Rattle.station_span.specs.Workings.Peaks.{IsSourceIn};
 ghost use Rattle.station_span.specs.Workings.Spans.{AreMoments, IsNear};
 
 use crate::text::{Answer, text_alone};
@@ -37,8 +38,8 @@ pub fn tell_highest(
     ensures told { IfErr result (IsToldRefusal table.now) }
 {
     let found = find_level(alloc, book, table, name, asked)?;
-    let at = highest_minute(&found, asked);
-    let text = highest_text_at(alloc, &found, asked, name, at, zone)?;
+    let at = highest_minute(&found);
+    let text = highest_text_at(alloc, &found, name, at, zone)?;
     Ok(text_alone(text))
 }
 
@@ -46,16 +47,15 @@ pub fn tell_highest(
 pub fn highest_text_at(
     alloc: Global,
     found: &Found,
-    asked: &Asked,
     name: &Text,
     at: i64,
     zone: &ZoneClock<'_>,
 ) -> Result<Bytes, AllocError>
-    requires highest { HasHighest found.now asked.now }
-    requires inside { IsSourceIn found.now asked.now at }
-    ensures { IfOk result (λ text. text ≡ tide_highest_text found.now name.now at zone.now) }
+    requires peak { HasPeak found.now }
+    requires inside { IsSourceIn (tide_of_found found.now) found.now.asked at }
+    ensures { IfOk result (λ text. text ≡ highest_text_at found.now.origin.book (site_of found.now) name.now at zone.now) }
 {
-    let minute = moved_minute(found, asked, at);
+    let minute = moved_minute(found, at);
     let level = level_at(found, minute);
     highest_text(alloc, name, found.units, minute, level, zone.zone())
 }
@@ -76,7 +76,7 @@ pub fn certify_peak(
     ensures told { IfErr result (IsToldRefusal table.now) }
 {
     let found = find_level(alloc, book, table, name, asked)?;
-    let peak = find_highest(alloc, &found, asked)?;
+    let peak = find_highest(alloc, &found)?;
     let cert = certificate_of(name.copy()?, asked, peak);
     let text = write_peak(alloc, &cert)?;
     Ok(text_alone(text))

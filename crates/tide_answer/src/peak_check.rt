@@ -5,10 +5,12 @@ ghost use Rattle.decimal_text.specs.Expected.{Gives};
 ghost use Rattle.decimal_text.specs.declared.limits.TheConstants.{MOST_BYTES};
 ghost use Rattle.highest_water.specs.PeakReadings.{peak_of};
 ghost use Rattle.highest_water.specs.PeakTexts.{IsPeakCertificate};
-ghost use Rattle.tide_answer.specs.Answers.{peak_checked, peak_from};
-ghost use Rattle.tide_answer.specs.Workings.Peaks.{peak_judged_in, peak_accepted};
+ghost use Rattle.highest_water.specs.declared.verdict.PeakVerdict.{PeakVerdict};
+ghost use Rattle.tide_answer.specs.Answers.{peak_checked, peak_from, peak_judged};
+ghost use Rattle.tide_answer.specs.Workings.Peaks.{peak_judged_in};
 ghost use Rattle.tide_fault.specs.Faults.{wants_memory_of_refusal, IsToldRefusal};
-ghost use Rattle.station_span.specs.Workings.Peaks.{HasHighest, IsSourceIn};
+ghost use Rattle.station_span.specs.Workings.Finds.{HasPeak, site_of, tide_of_found};
+ghost use Rattle.station_span.specs.Workings.Peaks.{IsSourceIn};
 
 use crate::asking::asked_of_peak;
 use crate::highest::highest_text_at;
@@ -19,7 +21,7 @@ use highest_water::{
     CertFault, PeakCertificate, PeakVerdict, peak_certificates_have_one_text, read_peak,
     verdict_line,
 };
-use station_span::{Asked, Found, find_level, judge_highest};
+use station_span::{Found, find_level, judge_highest};
 use station_table::OffsetTable;
 use std::alloc::{AllocError, Global};
 use tide_fault::Refusal;
@@ -70,10 +72,9 @@ fn judge_peak(
     ensures exact { Gives wants_memory_of_refusal (peak_judged_in book.now table.now cert.now) result }
     ensures told { IfErr result (IsToldRefusal table.now) }
 {
-    let asked = asked_of_peak(cert);
-    let found = find_level(alloc, book, table, &cert.station, &asked)?;
-    match judge_highest(&found, &asked, &cert.peak) {
-        PeakVerdict::Accepted => Ok(accept_peak(alloc, &found, &asked, cert)?),
+    let found = find_level(alloc, book, table, &cert.station, &asked_of_peak(cert))?;
+    match judge_highest(&found, &cert.peak) {
+        PeakVerdict::Accepted => Ok(accept_peak(alloc, &found, cert)?),
         verdict => Ok(rejected(verdict_line(alloc, verdict)?)),
     }
 }
@@ -81,21 +82,13 @@ fn judge_peak(
 fn accept_peak(
     alloc: Global,
     found: &Found,
-    asked: &Asked,
     cert: &PeakCertificate,
 ) -> Result<Answer, AllocError>
-    requires highest { HasHighest found.now asked.now }
-    requires inside { IsSourceIn found.now asked.now cert.now.peak.at }
-    ensures { IfOk result (λ answer. answer ≡ peak_accepted found.now cert.now) }
+    requires peak { HasPeak found.now }
+    requires inside { IsSourceIn (tide_of_found found.now) found.now.asked cert.now.peak.at }
+    ensures { IfOk result (λ answer. answer ≡ peak_judged found.now.origin.book (site_of found.now) cert.now PeakVerdict.Accepted) }
 {
     let zone = Zone::Utc;
-    let told = highest_text_at(
-        alloc,
-        found,
-        asked,
-        &cert.station,
-        cert.peak.at,
-        &zone.clock(),
-    )?;
-    accepted(alloc, &told)
+    let text = highest_text_at(alloc, found, &cert.station, cert.peak.at, &zone.clock())?;
+    accepted(alloc, &text)
 }

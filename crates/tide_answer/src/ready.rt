@@ -80,7 +80,7 @@ fn find_ready(
     match streamed_zone(&found.basis, question.layout, &given.zone) {
         Some(zone) => {
             let form = form_of(question.command);
-            let stream = Stream::new(form, found, name.copy()?, asked, zone);
+            let stream = Stream::new(form, found, name.copy()?, zone);
             Ok(Ready {
                 stream: Some(stream),
             })

@@ -2,13 +2,13 @@
 
 ghost use Rattle.std.specs.Prelude.{◌≡◌};
 ghost use Rattle.tide_answer.specs.Streams.{Streams};
-ghost use Rattle.tide_answer.specs.Workings.Streaming.{stream_answer, IsStream};
+ghost use Rattle.tide_answer.specs.Workings.Streaming.{stream_of, IsStream};
 
 use crate::certifying::send_certificate;
 use crate::form::Form;
 use crate::sending::send_listing;
 use decimal_text::Text;
-use station_span::{Asked, Found, merge_of};
+use station_span::{Found, merge_of};
 use std::marker::Model;
 use tide_edge::{Sink, WriteFailed};
 use zone_time::Zone;
@@ -20,49 +20,41 @@ pub struct Stream {
     form: Form,
     found: Found,
     name: Text,
-    asked: Asked,
     zone: Zone,
 }
 
 impl Model for Stream {
     ghost use Rattle.tide_answer.specs.declared.text.Answer.{Answer};
-    ghost use Rattle.tide_answer.specs.Workings.Streaming.{stream_answer, IsStream};
+    ghost use Rattle.tide_answer.specs.Workings.Streaming.{stream_of, IsStream};
 
     ghost Value = { Answer };
 
-    ghost view = { λ s. stream_answer s.form s.found s.name s.asked s.zone };
+    ghost view = { λ s. stream_of s.form s.found s.name s.zone };
 
-    ghost invariant = { λ s. IsStream s.found s.name s.asked s.zone };
+    ghost invariant = { λ s. IsStream s.found s.name s.zone };
 }
 
 impl Stream {
-    /// The answer of a form, of a station that was found, over the span that is asked.
-    pub fn new(form: Form, found: Found, name: Text, asked: Asked, zone: Zone) -> Stream
-        requires { IsStream found name asked zone }
-        ensures { result ≡ stream_answer form found name asked zone }
+    /// The answer of a form, of a station that was found.
+    pub fn new(form: Form, found: Found, name: Text, zone: Zone) -> Stream
+        requires { IsStream found name zone }
+        ensures { result ≡ stream_of form found name zone }
     {
         Stream {
             form,
             found,
             name,
-            asked,
             zone,
         }
     }
 
-    /// Writes the answer's text, and answers its cells. It takes no memory.
+    /// Writes the answer's text, and returns its number of cells. It doesn't allocate.
     pub fn write<S: Sink>(&self, out: &mut S) -> Result<u64, WriteFailed>
         ensures { Streams (S.state out.old) (S.state out.new) self.now result }
     {
         match self.form {
-            Form::Listing => write_listing(out, &self.found, &self.name, &self.asked, &self.zone),
-            Form::Certificate => write_certificate(
-                out,
-                &self.found,
-                &self.name,
-                &self.asked,
-                &self.zone,
-            ),
+            Form::Listing => write_listing(out, &self.found, &self.name, &self.zone),
+            Form::Certificate => write_certificate(out, &self.found, &self.name, &self.zone),
         }
     }
 }
@@ -71,13 +63,12 @@ fn write_listing<S: Sink>(
     out: &mut S,
     found: &Found,
     name: &Text,
-    asked: &Asked,
     zone: &Zone,
 ) -> Result<u64, WriteFailed>
-    requires { IsStream found.now name.now asked.now zone.now }
-    ensures { Streams (S.state out.old) (S.state out.new) (stream_answer Form.Listing found.now name.now asked.now zone.now) result }
+    requires { IsStream found.now name.now zone.now }
+    ensures { Streams (S.state out.old) (S.state out.new) (stream_of Form.Listing found.now name.now zone.now) result }
 {
-    let mut merge = merge_of(found, asked);
+    let mut merge = merge_of(found);
     send_listing(out, name, found.units, &zone.clock(), &mut merge)?;
     Ok(merge.cells())
 }
@@ -86,12 +77,11 @@ fn write_certificate<S: Sink>(
     out: &mut S,
     found: &Found,
     name: &Text,
-    asked: &Asked,
     zone: &Zone,
 ) -> Result<u64, WriteFailed>
-    requires { IsStream found.now name.now asked.now zone.now }
-    ensures { Streams (S.state out.old) (S.state out.new) (stream_answer Form.Certificate found.now name.now asked.now zone.now) result }
+    requires { IsStream found.now name.now zone.now }
+    ensures { Streams (S.state out.old) (S.state out.new) (stream_of Form.Certificate found.now name.now zone.now) result }
 {
-    let sent = send_certificate(out, found, name, asked)?;
+    let sent = send_certificate(out, found, name)?;
     Ok(sent.cells)
 }

@@ -16,7 +16,7 @@ use crate::tracks::find_tracks;
 use decimal_text::{Bytes, Text};
 use harmonics_text::{Book, BookFault, SoundBook, Station, read_book};
 use sample_tides::sample;
-use station_span::{Asked, Reach, find_events, find_station, reached};
+use station_span::{Asked, Reach, find_events, find_station};
 use station_table::OffsetTable;
 use std::alloc::Global;
 use tide_fault::Refusal;
@@ -103,10 +103,9 @@ fn tally_station(
     ensures few { IfOk result (IsUpTo (2 ^ 66)) }
 {
     let found = find_station(alloc, book, table, Reach::Events, name, &SPAN)?;
-    let listed = find_events(alloc, &found, &SPAN)?;
-    let tracks = find_tracks(alloc, &found, &SPAN)?;
+    let listed = find_events(alloc, &found)?;
+    let tracks = find_tracks(alloc, &found)?;
     let cert = certificate_of(name.copy()?, &SPAN, tracks);
-    let rejection = find_rejection(&found, &SPAN, &cert);
-    let span = reached(Reach::Events, &found.basis, &SPAN);
-    Ok(Tally::of(&span, &cert.tracks, &listed.events, rejection))
+    let rejection = find_rejection(&found, &cert);
+    Ok(Tally::of(&found.span, &cert.tracks, &listed.events, rejection))
 }

@@ -1,43 +1,35 @@
 -- The curves that are followed at a site, by the tide that predicts it.
-use Rattle.std.specs.Prelude.{◌≡◌, All, Result, Ok, Err, ℕ, ℤ, ◌-ℤ◌, ◌≤ℤ◌, ◌≤◌, unsigned_abs, length, List, Option}
+use Rattle.std.specs.Prelude.{◌≡◌, ℕ, ℤ, ◌-ℤ◌, ◌≤ℤ◌, ◌≤◌, unsigned_abs, length, List, Option}
 use Rattle.std.specs.Option.{ForSome}
 use Rattle.curve_law.specs.declared.event.Event.{Event}
-use Rattle.decimal_text.specs.Expected.{Excused}
 use Rattle.event_list.specs.declared.span.Span.{Span}
 use Rattle.event_list.specs.Events.{Followed, station_events, cell_count, covers_of, merged_of}
 use Rattle.event_list.specs.Shifts.{HasOffsets, widened_of}
-use Rattle.harmonics_text.specs.declared.book.Book.{Book}
-use Rattle.event_text.specs.Lines.{IsListed}
 use Rattle.rate_bound.specs.declared.version.Version.{Version}
 use Rattle.rate_bound.specs.declared.version.Version.TheVariants.{Second}
 use Rattle.rate_bound.specs.Meanings.{turn_meaning}
 use Rattle.station_curve.specs.Limits.{IsGentle}
 use Rattle.station_curve.specs.Waves.{Tide}
 use Rattle.year_blend.specs.Places.{AreYears, InDomain}
-use Rattle.zone_time.specs.Zones.{InZoneYears}
 use Rattle.station_span.specs.declared.asked.Asked.{Asked}
-use Rattle.station_span.specs.declared.following.FoundEvents.{FoundEvents}
-use Rattle.tide_fault.specs.declared.refusal.Refusal.{Refusal}
-use Rattle.station_span.specs.declared.station.Found.{Found}
-use Rattle.tide_fault.specs.Faults.{wants_memory_of_refusal}
-use Rattle.station_span.specs.Following.{events_of, cells_of}
-use Rattle.station_span.specs.Sites.{Site, span_limit}
+use Rattle.station_span.specs.Workings.Tides.{SiteTide}
+use Rattle.station_span.specs.Sites.{span_limit}
 use Rattle.station_span.specs.Workings.Spans.{HasLevels, IsBeside, IsNearSpan}
 use Rattle.station_span.specs.Workings.Telling.{tide_slack, tide_mark}
 
 -- as the curves by every constituent of the book
-unfoldable pub followed_tide : Version → Found → Option ℤ → Followed
+unfoldable pub followed_tide : Version → SiteTide → Option ℤ → Followed
 followed_tide version found mark = record {
   turn = turn_meaning version found.curve;
   slack = tide_slack version found;
   mark = tide_mark version found mark;
 }
 
-abbrev pub tide_events : Found → Asked → List Event
+abbrev pub tide_events : SiteTide → Asked → List Event
 tide_events found asked =
     station_events (followed_tide Second found asked.mark) found.basis asked.begin asked.end
 
-abbrev pub tide_cells : Found → Asked → ℕ
+abbrev pub tide_cells : SiteTide → Asked → ℕ
 tide_cells found asked =
     cell_count (followed_tide Second found asked.mark) (widened_of found.basis asked.begin asked.end)
 
@@ -46,7 +38,7 @@ abbrev pub InTide : Tide → ℤ → Type 0
 InTide tide minute = InDomain tide.first_year (length tide.years) minute
 
 -- a span that the curves can be followed over: it isn't backward or too long, and the tide has the minutes that are looked at
-pub record IsReady (asked : Asked) (found : Found) : Type 0 where
+pub record IsReady (asked : Asked) (found : SiteTide) : Type 0 where
   pub offsets : HasOffsets found.basis
   pub levels : HasLevels found.units
   pub gentle : IsGentle found.curve
@@ -66,31 +58,8 @@ pub record HasMinutes (tide : Tide) (span : Span) : Type 0 where
   pub begins : InTide tide span.begin
   pub ends : InTide tide span.end
 
--- the events of a tide over a span, and the cells of its curves
-pub record IsTideList (found : Found) (asked : Asked) (listed : FoundEvents) : Type 0 where
-  pub units : listed.units ≡ found.units
-  pub events : listed.events ≡ tide_events found asked
-  pub cells : listed.cells ≡ tide_cells found asked
-  pub lines : All (IsListed listed.units) listed.events
-
--- those of a site, whose span has a local time by every clock
-pub record IsSiteList (book : Book) (asked : Asked) (site : Site) (listed : FoundEvents) : Type 0 where
-  pub units : listed.units ≡ site.station.units
-  pub levels : HasLevels listed.units
-  pub events : listed.events ≡ events_of book site asked
-  pub cells : listed.cells ≡ cells_of book site asked
-  pub lines : All (IsListed listed.units) listed.events
-  pub forward : asked.begin ≤ℤ asked.end
-  pub begins : InZoneYears asked.begin
-  pub ends : InZoneYears asked.end
-
--- the expected site's events were listed, or the expected refusal given
-abbrev pub Lists : Book → Asked → Result Site Refusal → Result FoundEvents Refusal → Type 0
-Lists book asked expected (Ok listed) = (site : Site) × (expected ≡ Ok site) × IsSiteList book asked site listed
-Lists book asked expected (Err refusal) = Excused (wants_memory_of_refusal refusal) expected refusal
-
 -- the events of the reference's curves over the minutes that are looked at
-abbrev pub AreMerged : Asked → Found → List Event → Type 0
+abbrev pub AreMerged : Asked → SiteTide → List Event → Type 0
 AreMerged asked found events =
     let span = widened_of found.basis asked.begin asked.end in
     events ≡ merged_of span.begin (covers_of (followed_tide Second found asked.mark) span)

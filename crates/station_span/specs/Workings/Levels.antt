@@ -5,28 +5,28 @@ use Rattle.station_curve.specs.Levels.{slope_of, millionths_of}
 use Rattle.station_table.specs.Offsets.{IsOffset}
 use Rattle.year_blend.specs.Places.{AreYears}
 use Rattle.station_span.specs.declared.asked.Asked.{Asked}
-use Rattle.station_span.specs.declared.station.Found.{Found}
+use Rattle.station_span.specs.Workings.Tides.{SiteTide}
 use Rattle.station_span.specs.Workings.Curves.{InTide}
 
 -- the reference's minute whose level is moved to a minute
-abbrev pub source_of : Found → ℤ → ℤ
+abbrev pub source_of : SiteTide → ℤ → ℤ
 source_of found minute = minute -ℤ found.basis.high.add
 
 -- as those by every constituent of the book
-abbrev pub tide_level : Found → ℤ → ℤ
+abbrev pub tide_level : SiteTide → ℤ → ℤ
 tide_level found minute = scaled found.basis.high (millionths_of found.curve (source_of found minute))
 
-abbrev pub is_tide_rising : Found → ℤ → Bool
+abbrev pub is_tide_rising : SiteTide → ℤ → Bool
 is_tide_rising found minute = int_lt (pos 0) (slope_of found.curve (source_of found minute))
 
 -- a minute whose level the tide has
-pub record HasLevel (found : Found) (minute : ℤ) : Type 0 where
+pub record HasLevel (found : SiteTide) (minute : ℤ) : Type 0 where
   pub offset : IsOffset found.basis.high
   pub years : AreYears found.curve.first_year (length found.curve.years)
   pub inside : InTide found.curve (source_of found minute)
 
 -- a span of such minutes
-pub record HasLevelsIn (found : Found) (asked : Asked) : Type 0 where
+pub record HasLevelsIn (found : SiteTide) (asked : Asked) : Type 0 where
   pub forward : asked.begin ≤ℤ asked.end
   pub first : HasLevel found asked.begin
   pub last : HasLevel found asked.end

@@ -1,13 +1,11 @@
 -- What the steps of an answer hand on to each other.
-use Rattle.std.specs.Prelude.{◌≡◌, ℤ, negsuc, pos, ◌-ℤ◌, ◌≤ℤ◌, ◌≤◌, unsigned_abs, length, false, IsTrue, Some, Result, Ok, Err, slice_get}
+use Rattle.std.specs.Prelude.{◌≡◌, ℤ, negsuc, pos, ◌-ℤ◌, ◌≤ℤ◌, ◌≤◌, unsigned_abs, length, Bool, true, false, IsTrue}
 use Rattle.std.specs.Option.{ForSome}
-use Rattle.decimal_text.specs.Expected.{Excused}
 use Rattle.event_list.specs.declared.span.Span.{Span}
-use Rattle.harmonics_text.specs.declared.book.Station.{Station}
 use Rattle.harmonics_text.specs.declared.book.Book.{Book}
 use Rattle.harmonics_text.specs.declared.book.Units.{Units}
 use Rattle.harmonics_text.specs.declared.book.Units.TheVariants.{Feet, Meters, Knots, KnotsSquared}
-use Rattle.station_curve.specs.Curves.{tide_over, Predicts, PredictsOver}
+use Rattle.station_curve.specs.Curves.{PredictsOver}
 use Rattle.station_curve.specs.Limits.{IsGentle}
 use Rattle.station_table.specs.declared.basis.Basis.{Basis}
 use Rattle.station_table.specs.Bases.{IsBasis, is_equal}
@@ -15,9 +13,7 @@ use Rattle.year_blend.specs.Places.{AreYears, InDomain}
 use Rattle.zone_time.specs.Moments.{IsMoment}
 use Rattle.station_span.specs.declared.asked.Asked.{Asked}
 use Rattle.station_span.specs.declared.reach.Reach.{Reach}
-use Rattle.tide_fault.specs.declared.refusal.Refusal.{Refusal}
-use Rattle.station_span.specs.declared.station.Found.{Found}
-use Rattle.tide_fault.specs.Faults.{wants_memory_of_refusal}
+use Rattle.station_span.specs.Workings.Tides.{SiteTide}
 use Rattle.station_span.specs.Sites.{Site, lacks_minute, reached, span_limit}
 
 -- a span that a question, a certificate or a clock can name
@@ -52,11 +48,14 @@ pub record IsReached (reach : Reach) (book : Book) (basis : Basis) (begin end : 
   pub some : lacks_minute reach begin end ≡ false
 
 -- any but a hydraulic current has levels
+abbrev pub has_levels : Units → Bool
+has_levels Feet = true
+has_levels Meters = true
+has_levels Knots = true
+has_levels KnotsSquared = false
+
 abbrev pub HasLevels : Units → Type 0
-HasLevels Feet = Unit {0}
-HasLevels Meters = Unit {0}
-HasLevels Knots = Unit {0}
-HasLevels KnotsSquared = ⊥
+HasLevels units = IsTrue (has_levels units)
 
 -- a minute from the begin of the year 2 to that of the year 9300
 pub record IsFileMinute (minute : ℤ) : Type 0 where
@@ -64,19 +63,13 @@ pub record IsFileMinute (minute : ℤ) : Type 0 where
   pub most : minute ≤ℤ pos 3855208320
 
 -- a curve that predicts a site over the minutes that are looked at
-abbrev pub PredictsReached : Reach → Book → Asked → Site → Found → Type 0
+abbrev pub PredictsReached : Reach → Book → Asked → Site → SiteTide → Type 0
 PredictsReached reach book asked site found =
     let span = reached reach found.basis asked.begin asked.end in
     PredictsOver book site.station span.begin span.end found.curve
 
--- a curve that is made for these minutes alone
-abbrev pub IsMadeFor : Reach → Book → Asked → Station → Found → Type 0
-IsMadeFor reach book asked station found =
-    let span = reached reach found.basis asked.begin asked.end in
-    found.curve ≡ tide_over book station span.begin span.end
-
 -- what was found of a site: its curve predicts it over the minutes that are looked at
-pub record IsFound (reach : Reach) (book : Book) (asked : Asked) (site : Site) (found : Found) : Type 0 where
+pub record IsFound (reach : Reach) (book : Book) (asked : Asked) (site : Site) (found : SiteTide) : Type 0 where
   pub basis : found.basis ≡ site.basis
   pub sound : IsBasis (length book.stations) found.basis
   pub units : found.units ≡ site.station.units
@@ -87,23 +80,4 @@ pub record IsFound (reach : Reach) (book : Book) (asked : Asked) (site : Site) (
   pub span : IsReached reach book found.basis asked.begin asked.end
   pub few : (asked.end -ℤ asked.begin) ≤ℤ span_limit
   pub mark : ForSome asked.mark (λ level. IsTrue (is_equal found.basis))
-
--- the expected site was found, or the expected refusal given
-abbrev pub FindsIn : Reach → Book → Asked → Result Site Refusal → Result Found Refusal → Type 0
-FindsIn reach book asked expected (Ok found) = (site : Site) × (expected ≡ Ok site) × IsFound reach book asked site found
-FindsIn reach book asked expected (Err refusal) = Excused (wants_memory_of_refusal refusal) expected refusal
-
--- what is known of a site without a span: its curve predicts it
-pub record IsKnown (book : Book) (site : Site) (found : Found) : Type 0 where
-  pub basis : found.basis ≡ site.basis
-  pub sound : IsBasis (length book.stations) found.basis
-  pub station : slice_get book.stations found.basis.station ≡ Some site.station
-  pub units : found.units ≡ site.station.units
-  pub levels : HasLevels found.units
-  pub predicts : Predicts book site.station found.curve
-  pub gentle : IsGentle found.curve
-
--- the expected site is known, or the expected refusal given
-abbrev pub Knows : Book → Result Site Refusal → Result Found Refusal → Type 0
-Knows book expected (Ok found) = (site : Site) × (expected ≡ Ok site) × IsKnown book site found
-Knows book expected (Err refusal) = Excused (wants_memory_of_refusal refusal) expected refusal
+  pub near : IsNear asked

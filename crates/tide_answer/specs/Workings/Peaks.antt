@@ -1,31 +1,19 @@
 -- What is answered of a highest water, by the tide that was found.
-use Rattle.std.specs.Prelude.{ℕ, ℤ, ◌+ℤ◌, List, Result, Ok}
+use Rattle.std.specs.Prelude.{ℕ, List, Result, Ok}
 use Rattle.decimal_text.specs.Expected.{◌>>=◌}
 use Rattle.harmonics_text.specs.declared.book.Book.{Book}
 use Rattle.highest_water.specs.declared.certificate.PeakCertificate.{PeakCertificate}
 use Rattle.highest_water.specs.declared.peak.Peak.{Peak}
-use Rattle.listing.specs.Listings.{highest_text_of}
 use Rattle.station_table.specs.declared.offsets.Offsets.{Offsets}
-use Rattle.zone_time.specs.declared.zone.Zone.{Zone}
-use Rattle.zone_time.specs.declared.zone.Zone.TheVariants.{Utc}
 use Rattle.station_span.specs.declared.asked.Asked.{Asked}
-use Rattle.station_span.specs.declared.station.Found.{Found}
 use Rattle.station_span.specs.Peaks.{highest_site, highest_verdict}
-use Rattle.station_span.specs.Workings.Levels.{tide_level}
 use Rattle.tide_fault.specs.declared.refusal.Refusal.{Refusal}
 use Rattle.tide_answer.specs.declared.text.Answer.{Answer}
-use Rattle.tide_answer.specs.Answers.{text_accepted, peak_judged}
+use Rattle.tide_answer.specs.Answers.{peak_judged}
 use Rattle.tide_answer.specs.Asking.{asked_of_peak}
-
-abbrev pub tide_highest_text : Found → List ℕ → ℤ → Zone → List ℕ
-tide_highest_text found name at zone =
-    let minute = at +ℤ found.basis.high.add in highest_text_of name found.units minute (tide_level found minute) zone
 
 abbrev pub peak_certificate_in : List ℕ → Asked → Peak → PeakCertificate
 peak_certificate_in name asked peak = record { station = name; begin = asked.begin; end = asked.end; peak = peak }
-
-abbrev pub peak_accepted : Found → PeakCertificate → Answer
-peak_accepted found cert = text_accepted (tide_highest_text found cert.station cert.peak.at Utc)
 
 -- the answer to a certificate that was read
 unfoldable pub peak_judged_in : Book → List Offsets → PeakCertificate → Result Answer Refusal

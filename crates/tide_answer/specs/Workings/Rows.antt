@@ -1,25 +1,18 @@
 -- The levels of a site, one each step, by the tide that predicts it.
-use Rattle.std.specs.Prelude.{◌≡◌, ℕ, ℤ, pos, ◌+ℤ◌, ◌*ℤ◌, ◌≤ℤ◌, List, All, map}
+use Rattle.std.specs.Prelude.{◌≡◌, ℕ, ℤ, pos, ◌≤ℤ◌, List, All, map}
 use Rattle.std.specs.List.{range_with_len}
 use Rattle.listing.specs.declared.row.Row.{Row}
-use Rattle.station_span.specs.declared.station.Found.{Found}
-use Rattle.station_span.specs.Workings.Levels.{tide_level}
+use Rattle.harmonics_text.specs.declared.book.Book.{Book}
+use Rattle.station_span.specs.Sites.{Site}
 use Rattle.zone_time.specs.Zones.{InZoneYears}
-use Rattle.tide_answer.specs.Answers.{row_count}
-
-abbrev pub tide_row : Found → ℤ → ℤ → ℕ → Row
-tide_row found begin step place =
-    let minute = begin +ℤ (step *ℤ pos place) in record { minute = minute; level = tide_level found minute }
-
-abbrev pub tide_rows : Found → ℤ → ℤ → ℤ → List Row
-tide_rows found begin end step = map (tide_row found begin step) (range_with_len 0 (row_count begin end step))
+use Rattle.tide_answer.specs.Answers.{row_at}
 
 -- a step that a question can name
 pub record IsStep (step : ℤ) : Type 0 where
   pub first : pos 1 ≤ℤ step
   pub last : step ≤ℤ pos 44640
 
--- the first rows of a list, so many
-pub record AreRows (found : Found) (begin step : ℤ) (count : ℕ) (rows : List Row) : Type 0 where
-  pub value : rows ≡ map (tide_row found begin step) (range_with_len 0 count)
+-- the first rows of a list, as many as the count
+pub record AreRows (book : Book) (site : Site) (begin step : ℤ) (count : ℕ) (rows : List Row) : Type 0 where
+  pub value : rows ≡ map (row_at book site begin step) (range_with_len 0 count)
   pub listed : All (λ row. InZoneYears row.minute) rows

@@ -1,13 +1,10 @@
 -- What an answer that streams is made of.
-use Rattle.std.specs.Prelude.{ℕ, false, IsTrue, List, ◌++◌, All, IfSome, codes}
+use Rattle.std.specs.Prelude.{◌≡◌, ℕ, false, IsTrue, List, ◌++◌, All, IfSome, codes}
 use Rattle.cert_text.specs.Certificates.{IsCell, IsStationName}
 use Rattle.cert_text.specs.declared.track_name.TrackName.TheVariants.{Turn, Slack, Mark}
 use Rattle.cert_text.specs.Lines.{certificate_text, begin_line_of, end_line_of, mark_line_of, track_lines_of, lines_if_there, ended, joined}
 use Rattle.curve_law.specs.declared.tracks.Tracks.{Tracks}
-use Rattle.event_list.specs.Events.{covers_of}
-use Rattle.event_list.specs.Shifts.{widened_of}
 use Rattle.listing.specs.Listings.{plain_events_of}
-use Rattle.rate_bound.specs.declared.version.Version.TheVariants.{Second}
 use Rattle.question.specs.declared.command.Command.{Command}
 use Rattle.question.specs.declared.command.Command.TheVariants.{Certify}
 use Rattle.station_table.specs.Bases.{is_plain}
@@ -16,34 +13,37 @@ use Rattle.zone_time.specs.Zones.{IsZone}
 use Rattle.station_span.specs.declared.asked.Asked.{Asked}
 use Rattle.tide_answer.specs.declared.form.Form.{Form}
 use Rattle.tide_answer.specs.declared.form.Form.TheVariants.{Listing, Certificate}
-use Rattle.station_span.specs.declared.station.Found.{Found}
+use Rattle.station_span.specs.declared.found.Found.{Found}
+use Rattle.station_span.specs.declared.reach.Reach.TheVariants.{Events}
+use Rattle.station_span.specs.Following.{cells_of, events_of}
+use Rattle.station_span.specs.Sites.{Site}
+use Rattle.station_span.specs.Workings.Finds.{site_of}
+use Rattle.harmonics_text.specs.declared.book.Book.{Book}
+use Rattle.tide_answer.specs.Answers.{certificate_by}
 use Rattle.tide_answer.specs.declared.text.Answer.{Answer}
-use Rattle.tide_answer.specs.Workings.Certifying.{certificate_in}
-use Rattle.station_span.specs.Workings.Curves.{followed_tide, tide_cells, tide_events, IsReady}
-use Rattle.station_span.specs.Workings.Spans.{AreMoments, IsNear}
+use Rattle.station_span.specs.Workings.Spans.{AreMoments}
 
-abbrev pub tide_tracks : Found → Asked → Tracks
-tide_tracks found asked =
-    covers_of (followed_tide Second found asked.mark) (widened_of found.basis asked.begin asked.end)
+abbrev pub stream_text : Form → Book → Site → List ℕ → Asked → Zone → List ℕ
+stream_text Listing book site name asked zone = plain_events_of name site.station.units (events_of book site asked) zone
+stream_text Certificate book site name asked zone = certificate_text (certificate_by book site name asked)
 
-abbrev pub stream_text : Form → Found → List ℕ → Asked → Zone → List ℕ
-stream_text Listing found name asked zone = plain_events_of name found.units (tide_events found asked) zone
-stream_text Certificate found name asked zone = certificate_text (certificate_in name asked (tide_tracks found asked))
+-- a station's answer
+abbrev pub stream_answer : Form → Book → Site → List ℕ → Asked → Zone → Answer
+stream_answer form book site name asked zone =
+    record { text = stream_text form book site name asked zone; rejected = false; cells = cells_of book site asked }
 
--- the answer by a station's own tide
-abbrev pub stream_answer : Form → Found → List ℕ → Asked → Zone → Answer
-stream_answer form found name asked zone =
-    record { text = stream_text form found name asked zone; rejected = false; cells = tide_cells found asked }
+-- that of a station that was found
+abbrev pub stream_of : Form → Found → List ℕ → Zone → Answer
+stream_of form found name zone = stream_answer form found.origin.book (site_of found) name found.asked zone
 
 abbrev pub form_of : Command → Form
 form_of Certify = Certificate
 form_of _ = Listing
 
 -- what it takes to write it
-pub record IsStream (found : Found) (name : List ℕ) (asked : Asked) (zone : Zone) : Type 0 where
-  pub ready : IsReady asked found
-  pub near : IsNear asked
-  pub moments : AreMoments asked
+pub record IsStream (found : Found) (name : List ℕ) (zone : Zone) : Type 0 where
+  pub reach : found.reach ≡ Events
+  pub moments : AreMoments found.asked
   pub named : IsStationName name
   pub clock : IsZone zone
   pub plain : IsTrue (is_plain found.basis)

@@ -1,11 +1,8 @@
 use Rattle.std.proofs.Common.{refl, ◌∙◌}
-use Rattle.station_span.proofs.FollowLemmas.{tide_lines}
+use Rattle.station_span.proofs.HeldLemmas.{site_list}
 use Rattle.station_span.proofs.following.find_events.Goals as goal
 
 pub returns : goal.returns
-returns c = record {
-  units = refl;
-  events = c.in_ok-events.ensures;
-  cells = c.cells.ensures.value ∙ c.in_ok-merged.ensures.cells ∙ c.merge_of-merge.ensures.all;
-  lines = rw c.in_ok-events.ensures (tide_lines c.args.asked.now c.args.found.now c.requires.ready);
-}
+returns c =
+    site_list c.args.found.now _ c.requires c.args.found.now.unit c.in_ok-events.ensures
+    (c.cells.ensures.value ∙ c.in_ok-merged.ensures.cells ∙ c.merge_of-merge.ensures.all)

@@ -1,29 +1,29 @@
-use Rattle.std.proofs.Common.{◌≡◌, ◌∙◌, ◌≤ℤ◌, ◌<ℤ◌, FitsSigned, w64, rules, subst}
+use Rattle.std.proofs.Common.{◌∙◌, FitsSigned, w64, rules}
 use Rattle.std.proofs.lemmas.Int.{to_z-of_z}
-use Rattle.station_span.specs.Workings.Levels.{source_of}
-use Rattle.station_span.proofs.PeakLemmas.{source_inside, tide_peak-is}
+use Rattle.station_span.proofs.HeldLemmas.{peak_inside, peak_is, peak_short, peak_some}
 use Rattle.station_span.proofs.peaks.find_highest.Goals as goal
+
+pub find_peak-requires-clause-some : goal.find_peak-requires-clause-some
+find_peak-requires-clause-some c =
+    let begin : FitsSigned w64 c.args.found.now.span.begin = search rules in
+    let end : FitsSigned w64 c.args.found.now.span.end = search rules in
+    simp to_z-of_z (peak_some c.args.found.now c.requires)
+
+pub find_peak-requires-clause-short : goal.find_peak-requires-clause-short
+find_peak-requires-clause-short c =
+    let begin : FitsSigned w64 c.args.found.now.span.begin = search rules in
+    let end : FitsSigned w64 c.args.found.now.span.end = search rules in
+    simp to_z-of_z (peak_short c.args.found.now c.requires)
 
 pub returns-clause-exact : goal.returns-clause-exact
 returns-clause-exact c =
-    let begin : FitsSigned w64 c.args.asked.now.begin = search rules in
-    let end : FitsSigned w64 c.args.asked.now.end = search rules in
-    let first : c.source-begin.result ≡ source_of c.args.found.now c.args.asked.now.begin = simp to_z-of_z at c.source-begin.ensures in
-    let last : c.source-end.result ≡ source_of c.args.found.now c.args.asked.now.end = simp to_z-of_z at c.source-end.ensures in
-    let fits : FitsSigned w64 c.source-begin.result = search rules in
-    let fits_too : FitsSigned w64 c.source-end.result = search rules in
-    c.in_ok-peak.ensures.peak
-    ∙ tide_peak-is c.args.found.now c.args.asked.now _ _ _ c.level_curve.ensures.meaning (to_z-of_z w64 _ fits ∙ first) (to_z-of_z w64 _ fits_too ∙ last)
+    let begin : FitsSigned w64 c.args.found.now.span.begin = search rules in
+    let end : FitsSigned w64 c.args.found.now.span.end = search rules in
+    (simp to_z-of_z at c.in_ok-peak.ensures.peak) ∙ peak_is c.args.found.now _ c.requires c.level_curve.ensures.meaning
 
 pub returns-clause-inside : goal.returns-clause-inside
 returns-clause-inside c =
-    let begin : FitsSigned w64 c.args.asked.now.begin = search rules in
-    let end : FitsSigned w64 c.args.asked.now.end = search rules in
-    let first : c.source-begin.result ≡ source_of c.args.found.now c.args.asked.now.begin = simp to_z-of_z at c.source-begin.ensures in
-    let last : c.source-end.result ≡ source_of c.args.found.now c.args.asked.now.end = simp to_z-of_z at c.source-end.ensures in
-    let fits : FitsSigned w64 c.source-begin.result = search rules in
-    let fits_too : FitsSigned w64 c.source-end.result = search rules in
-    let highest = c.in_ok-peak.ensures.highest in
-    source_inside c.args.found.now c.args.asked.now c.in_ok-peak.peak.at
-    (subst (λ b. b ≤ℤ c.in_ok-peak.peak.at) (to_z-of_z w64 _ fits ∙ first) highest.from)
-    (subst (λ e. c.in_ok-peak.peak.at <ℤ e) (to_z-of_z w64 _ fits_too ∙ last) highest.before)
+    let begin : FitsSigned w64 c.args.found.now.span.begin = search rules in
+    let end : FitsSigned w64 c.args.found.now.span.end = search rules in
+    let highest = simp to_z-of_z at c.in_ok-peak.ensures.highest in
+    peak_inside c.args.found.now c.in_ok-peak.peak.at c.requires highest.from highest.before

@@ -1,18 +1,17 @@
-use Rattle.std.proofs.Common.{◌≡◌, ◌∙◌, ◌≤ℤ◌, ◌<ℤ◌, FitsSigned, w64, rules, subst}
+use Rattle.std.proofs.Common.{◌∙◌, FitsSigned, w64, rules}
 use Rattle.std.proofs.lemmas.Int.{to_z-of_z}
-use Rattle.station_span.specs.Workings.Levels.{source_of}
-use Rattle.station_span.proofs.PeakLemmas.{source_inside}
+use Rattle.station_span.proofs.HeldLemmas.{peak_inside, verdict_is}
 use Rattle.station_span.proofs.peaks.judge_highest.Goals as goal
+
+pub returns-clause-exact : goal.returns-clause-exact
+returns-clause-exact c =
+    let begin : FitsSigned w64 c.args.found.now.span.begin = search rules in
+    let end : FitsSigned w64 c.args.found.now.span.end = search rules in
+    (simp to_z-of_z at c.check_peak.ensures.verdict) ∙ verdict_is c.args.found.now _ c.args.peak.now c.requires.peak c.level_curve.ensures.meaning
 
 pub returns-clause-inside : goal.returns-clause-inside
 returns-clause-inside c = λ accepted. (
-    let begin : FitsSigned w64 c.args.asked.now.begin = search rules in
-    let end : FitsSigned w64 c.args.asked.now.end = search rules in
-    let first : c.source-begin.result ≡ source_of c.args.found.now c.args.asked.now.begin = simp to_z-of_z at c.source-begin.ensures in
-    let last : c.source-end.result ≡ source_of c.args.found.now c.args.asked.now.end = simp to_z-of_z at c.source-end.ensures in
-    let fits : FitsSigned w64 c.source-begin.result = search rules in
-    let fits_too : FitsSigned w64 c.source-end.result = search rules in
-    let highest = c.check_peak.ensures.highest accepted in
-    source_inside c.args.found.now c.args.asked.now c.args.peak.now.at
-    (subst (λ b. b ≤ℤ c.args.peak.now.at) (to_z-of_z w64 _ fits ∙ first) highest.from)
-    (subst (λ e. c.args.peak.now.at <ℤ e) (to_z-of_z w64 _ fits_too ∙ last) highest.before))
+    let begin : FitsSigned w64 c.args.found.now.span.begin = search rules in
+    let end : FitsSigned w64 c.args.found.now.span.end = search rules in
+    let highest = simp to_z-of_z at (c.check_peak.ensures.highest accepted) in
+    peak_inside c.args.found.now c.args.peak.now.at c.requires.peak highest.from highest.before)

@@ -6,9 +6,9 @@ use Rattle.tide_answer.proofs.about.tell_about.Goals as goal
 
 pub returns-clause-exact : goal.returns-clause-exact
 returns-clause-exact c =
-    let exact = c.in_ok-found.ensures.exact in
+    let is = c.in_ok-found.ensures.exact in
     let bound : FitsSigned w128 c.agreement-agreement.result = search rules in
     let text = simp to_z-of_z at c.in_ok-text.ensures in
-    let agrees = c.predicted_agreements.ensures.value c.args.book.now exact.0.station c.in_ok-found.found.curve exact.2.predicts in
+    let agrees = c.predicted_agreements.ensures.value c.args.book.now is.site.station c.in_ok-found.found.curve is.predicts in
     rw (c.text_alone.ensures, text, c.constituent_count-count.ensures, c.agreement-agreement.ensures.value)
-    (known_whole c.args.book.now c.args.table.now c.args.name.now exact.0 c.in_ok-found.found c.station_at-station.result.now exact.1 exact.2 (rw c.get.ensures.exact at c.station_at-station.ensures) agrees)
+    (known_whole c.args.book.now c.args.table.now c.args.name.now c.in_ok-found.found is agrees)

@@ -1,6 +1,6 @@
-use Rattle.std.proofs.Common.{FitsSigned, w64, rules}
+use Rattle.std.proofs.Common.{FitsSigned, w64, rules, refl}
 use Rattle.std.proofs.lemmas.Int.{to_z-of_z}
-use Rattle.tide_answer.proofs.PeakLemmas.{highest_at}
+use Rattle.tide_answer.specs.Answers.{highest}
 use Rattle.tide_answer.proofs.highest.tell_highest.Goals as goal
 
 pub highest_text_at-requires-clause-inside : goal.highest_text_at-requires-clause-inside
@@ -9,9 +9,10 @@ highest_text_at-requires-clause-inside c =
     simp to_z-of_z c.highest_minute-at.ensures.inside
 
 pub returns-clause-exact : goal.returns-clause-exact
+unfolding highest
 returns-clause-exact c =
     let at : FitsSigned w64 c.highest_minute-at.result = search rules in
-    let exact = c.in_ok-found.ensures.exact in
-    let text = simp to_z-of_z at c.in_ok-text.ensures in
-    rw (c.text_alone.ensures, text)
-    (highest_at c.args.book.now c.args.table.now c.args.name.now c.args.asked.now c.args.zone.now exact.0 c.in_ok-found.found c.highest_minute-at.result exact.1 exact.2 c.highest_minute-at.ensures.exact c.highest_minute-at.ensures.inside)
+    let is = c.in_ok-found.ensures.exact in
+    let same = rw (is.book, is.asked) at c.highest_minute-at.ensures.exact in
+    let text = rw (is.book, same) at (simp to_z-of_z at c.in_ok-text.ensures) in
+    rw (c.text_alone.ensures, text, is.site) refl

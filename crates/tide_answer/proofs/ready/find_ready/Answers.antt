@@ -1,6 +1,6 @@
 use Rattle.std.proofs.Common.{◌∙◌, refl, sym}
 use Rattle.std.proofs.lemmas.Result.{err_from_is_err_and}
-use Rattle.station_span.proofs.FollowLemmas.{ready_of_found}
+use Rattle.station_span.specs.Workings.Finds.{site_of}
 use Rattle.station_span.proofs.FoundLemmas.{excused_by}
 use Rattle.tide_answer.proofs.ReadyLemmas.{plain_if, ready_none, ready_some, refused_site, refused_span, refused_station, zone_none, zone_some}
 use Rattle.tide_answer.proofs.ready.find_ready.Goals as goal
@@ -22,13 +22,11 @@ returns-in_err-found-clause-exact c =
 
 pub new-stream-requires : goal.new-stream-requires
 new-stream-requires c =
-    let exact = c.in_ok-found.ensures.exact in
-    let ready = ready_of_found c.args.book.now c.in_ok-asked.asked exact.0 c.in_ok-found.found c.in_ok-asked.ensures.near exact.2 in
+    let is = c.in_ok-found.ensures.exact in
     let zone = zone_some _ c.in-Some.zone c.args.given.now.zone (sym c.in-Some.is ∙ rw c.get-question.ensures.exact at c.streamed_zone.ensures) in
     rw (c.in_ok-copy-in-Some.ensures, zone.1) (record {
-      ready = ready;
-      near = c.in_ok-asked.ensures.near;
-      moments = c.in_ok-asked.ensures.moments;
+      reach = is.reach;
+      moments = rw is.asked c.in_ok-asked.ensures.moments;
       named = c.in_ok-found.ensures.named;
       clock = c.requires.given.zone;
       plain = plain_if _ c.in_ok-found.found.basis c.args.given.now.zone zone.0;
@@ -36,17 +34,15 @@ new-stream-requires c =
 
 pub returns-in_ok-copy-in-Some-clause-exact : goal.returns-in_ok-copy-in-Some-clause-exact
 returns-in_ok-copy-in-Some-clause-exact c =
-    let exact = c.in_ok-found.ensures.exact in
+    let is = c.in_ok-found.ensures.exact in
     let zone = zone_some _ c.in-Some.zone c.args.given.now.zone (sym c.in-Some.is ∙ rw c.get-question.ensures.exact at c.streamed_zone.ensures) in
-    let streams = rw exact.2.basis at zone.0 in
-    rw (c.new-stream.ensures, c.form_of-form.ensures, c.get-question.ensures.exact, c.in_ok-copy-in-Some.ensures, zone.1)
-    (ready_some c.args.question.now.command c.args.question.now.layout c.args.book.now c.args.table.now c.args.question.now c.args.given.now c.in_ok-name.name.now c.in_ok-asked.asked exact.0 c.in_ok-found.found
-    refl refl c.requires.command c.in_ok-name.ensures.found (sym c.in_ok-asked.ensures.exact) exact.1 exact.2 streams)
+    rw (c.new-stream.ensures, c.form_of-form.ensures, c.get-question.ensures.exact, c.in_ok-copy-in-Some.ensures, zone.1, is.book, is.asked)
+    (ready_some c.args.question.now.command c.args.question.now.layout c.args.book.now c.args.table.now c.args.question.now c.args.given.now c.in_ok-name.name.now c.in_ok-asked.asked (site_of c.in_ok-found.found)
+    refl refl c.requires.command c.in_ok-name.ensures.found (sym c.in_ok-asked.ensures.exact) is.site zone.0)
 
 pub returns-in-None-clause-exact : goal.returns-in-None-clause-exact
 returns-in-None-clause-exact c =
-    let exact = c.in_ok-found.ensures.exact in
+    let is = c.in_ok-found.ensures.exact in
     let none = zone_none _ c.args.given.now.zone (sym c.in-None.is ∙ rw c.get-question.ensures.exact at c.streamed_zone.ensures) in
-    let streams = rw exact.2.basis at none in
-    ready_none c.args.question.now.command c.args.book.now c.args.table.now c.args.question.now c.args.given.now c.in_ok-name.name.now c.in_ok-asked.asked exact.0
-    refl c.requires.command c.in_ok-name.ensures.found (sym c.in_ok-asked.ensures.exact) exact.1 streams
+    ready_none c.args.question.now.command c.args.book.now c.args.table.now c.args.question.now c.args.given.now c.in_ok-name.name.now c.in_ok-asked.asked (site_of c.in_ok-found.found)
+    refl c.requires.command c.in_ok-name.ensures.found (sym c.in_ok-asked.ensures.exact) is.site none

@@ -1,27 +1,25 @@
 use Rattle.std.proofs.Common.{◌∙◌}
 use Rattle.std.proofs.lemmas.Result.{err_from_is_err_and}
-use Rattle.station_span.proofs.FollowLemmas.{plain_is_whole, tide_lines}
+use Rattle.station_span.proofs.HeldLemmas.{event_lines}
 use Rattle.station_cells.proofs.SendLemmas.{from_first}
 use Rattle.tide_answer.proofs.StreamLemmas.{events_small}
 use Rattle.tide_answer.proofs.streaming.write_listing.Goals as goal
 
 pub send_listing-requires-clause-listed : goal.send_listing-requires-clause-listed
 send_listing-requires-clause-listed g c =
-    let whole = plain_is_whole c.args.asked.now c.args.found.now _ c.requires.ready c.merge_of-merge.ensures.left c.requires.plain in
-    rw whole (tide_lines c.args.asked.now c.args.found.now c.requires.ready)
+    rw (c.merge_of-merge.ensures.plain c.requires.plain, c.args.found.now.unit) (event_lines c.args.found.now c.requires.reach)
 
 pub send_listing-requires-clause-few : goal.send_listing-requires-clause-few
-send_listing-requires-clause-few g c =
-    events_small c.args.asked.now c.args.found.now _ c.requires.ready c.merge_of-merge.ensures.left
+send_listing-requires-clause-few g c = events_small c.args.found.now _ c.requires.reach c.merge_of-merge.ensures.left
 
 pub returns-in_err-send_listing : goal.returns-in_err-send_listing
 returns-in_err-send_listing g c =
     let p = err_from_is_err_and c.from_residual.result c.from_residual.ensures.1 in
-    let whole = plain_is_whole c.args.asked.now c.args.found.now _ c.requires.ready c.merge_of-merge.ensures.left c.requires.plain in
-    rw (p.1, p.2) (from_first (g.S.Sink.state c.args.out.now) (g.S.Sink.state c.send_listing.new.out) _ 0 _ (rw (whole, c.clock.ensures) at c.in_err-send_listing.ensures.sends))
+    let whole = c.merge_of-merge.ensures.plain c.requires.plain in
+    rw (p.1, p.2) (from_first (g.S.Sink.state c.args.out.now) (g.S.Sink.state c.send_listing.new.out) _ 0 _ (rw (whole, c.clock.ensures, c.args.found.now.unit) at c.in_err-send_listing.ensures.sends))
 
 pub returns : goal.returns
 returns g c =
-    let whole = plain_is_whole c.args.asked.now c.args.found.now _ c.requires.ready c.merge_of-merge.ensures.left c.requires.plain in
-    let sends = rw (whole, c.clock.ensures) at c.in_ok-send_listing.ensures.sends in
+    let whole = c.merge_of-merge.ensures.plain c.requires.plain in
+    let sends = rw (whole, c.clock.ensures, c.args.found.now.unit) at c.in_ok-send_listing.ensures.sends in
     (c.cells.ensures.value ∙ c.in_ok-send_listing.ensures.cells ∙ c.merge_of-merge.ensures.all, sends.2)

@@ -1,24 +1,39 @@
+use Rattle.std.proofs.Common.{◌≡◌, IfOk, rules}
 use Rattle.rate_bound.specs.declared.mark.MarkCurve.{MarkCurve}
 use Rattle.rate_bound.specs.declared.version.Version.TheVariants.{Second}
 use Rattle.rate_bound.specs.Meanings.{mark_meaning}
-use Rattle.station_span.proofs.FollowLemmas.{ready_minutes}
+use Rattle.station_span.specs.declared.reach.Reach.TheVariants.{Events}
+use Rattle.station_span.specs.Workings.Curves.{followed_tide}
+use Rattle.station_span.specs.Workings.Finds.{tide_of_found}
+use Rattle.station_span.proofs.HeldLemmas.{minutes_for, ready_for, span_for, tracks_for}
 use Rattle.station_span.proofs.TellLemmas.{tells_turn, tells_slack, tells_mark}
+use Rattle.event_list.specs.Events.{covers_of}
+use Rattle.tide_answer.proofs.CheckLemmas.{ok_same}
 use Rattle.tide_answer.proofs.tracks.find_tracks.Goals as goal
 
 pub tracks_over-requires-clause-turn : goal.tracks_over-requires-clause-turn
 tracks_over-requires-clause-turn c =
-    rw c.reached-span.ensures.exact (tells_turn Second c.args.asked.now c.args.found.now _ _ c.requires.ready c.turn_curve-turn.ensures.meaning c.turn_curve-turn.ensures.fresh)
+    let found = c.args.found.now in
+    rw (span_for found Events c.requires)
+    (tells_turn Second found.asked (tide_of_found found) _ _ (ready_for found c.requires) c.turn_curve-turn.ensures.meaning c.turn_curve-turn.ensures.fresh)
 
 pub tracks_over-requires-clause-slack : goal.tracks_over-requires-clause-slack
 tracks_over-requires-clause-slack c =
-    rw c.reached-span.ensures.exact
-    (tells_slack Second c.args.found.now _
+    let found = c.args.found.now in
+    tells_slack Second (tide_of_found found) found.span
     (λ (x : MarkCurve). mark_meaning x.version x.station.now x.times x.plus x.mark x.slack) (λ (x : MarkCurve). x.evaluations)
-    c.slack_curve-slack.result (ready_minutes c.args.asked.now c.args.found.now c.requires.ready) c.slack_curve-slack.ensures.meaning c.slack_curve-slack.ensures.fresh)
+    c.slack_curve-slack.result (minutes_for found c.requires) c.slack_curve-slack.ensures.meaning c.slack_curve-slack.ensures.fresh
 
 pub tracks_over-requires-clause-mark : goal.tracks_over-requires-clause-mark
 tracks_over-requires-clause-mark c =
-    rw c.reached-span.ensures.exact
-    (tells_mark Second c.args.found.now c.args.asked.now.mark _
+    let found = c.args.found.now in
+    tells_mark Second (tide_of_found found) found.asked.mark found.span
     (λ (x : MarkCurve). mark_meaning x.version x.station.now x.times x.plus x.mark x.slack) (λ (x : MarkCurve). x.evaluations)
-    c.mark_curve-mark.result (ready_minutes c.args.asked.now c.args.found.now c.requires.ready) c.mark_curve-mark.ensures.meaning c.mark_curve-mark.ensures.fresh)
+    c.mark_curve-mark.result (minutes_for found c.requires) c.mark_curve-mark.ensures.meaning c.mark_curve-mark.ensures.fresh
+
+pub returns : goal.returns
+unfolding followed_tide
+returns c =
+    let found = c.args.found.now in
+    let tide : IfOk c.tracks_over.result (λ t. t ≡ covers_of (followed_tide Second (tide_of_found found) found.asked.mark) found.span) = search rules in
+    ok_same _ _ c.tracks_over.result _ _ (tracks_for found c.requires) tide

@@ -1,0 +1,97 @@
+-- What was found, in the words of the definitions.
+use Rattle.std.specs.Prelude.{◌≡◌, All, ℤ, ◌-ℤ◌, ◌≤ℤ◌, List, IsTrue, Result, Ok, Err}
+use Rattle.curve_law.specs.declared.event.Event.{Event}
+use Rattle.decimal_text.specs.Expected.{Excused}
+use Rattle.event_list.specs.Events.{merged_of}
+use Rattle.event_text.specs.Lines.{IsListed}
+use Rattle.harmonics_text.specs.declared.book.Book.{Book}
+use Rattle.station_curve.specs.Curves.{Predicts}
+use Rattle.station_curve.specs.Limits.{IsGentle}
+use Rattle.station_table.specs.Bases.{is_equal}
+use Rattle.station_span.specs.declared.asked.Asked.{Asked}
+use Rattle.station_span.specs.declared.following.FoundEvents.{FoundEvents}
+use Rattle.station_span.specs.declared.found.Found.{Found}
+use Rattle.station_span.specs.declared.knowing.Known.{Known}
+use Rattle.station_span.specs.declared.reach.Reach.{Reach}
+use Rattle.station_span.specs.declared.reach.Reach.TheVariants.{Highest}
+use Rattle.station_span.specs.Following.{cells_of, events_of, tracks_of}
+use Rattle.station_span.specs.Sites.{Site}
+use Rattle.station_span.specs.Workings.Looked.{site_with, tide_with}
+use Rattle.station_span.specs.Workings.Spans.{HasLevels}
+use Rattle.station_span.specs.Workings.Tides.{SiteTide}
+use Rattle.tide_fault.specs.declared.refusal.Refusal.{Refusal}
+use Rattle.tide_fault.specs.Faults.{wants_memory_of_refusal}
+use Rattle.zone_time.specs.Zones.{InZoneYears}
+
+abbrev pub site_of : Found → Site
+site_of found = site_with found.basis found.origin.station
+
+-- by which its site is predicted
+abbrev pub tide_of_found : Found → SiteTide
+tide_of_found found = tide_with found.basis found.origin.station found.curve
+
+-- ---- what is found
+
+-- the expected site of the book, with the requested span
+pub record IsFoundIn (reach_for : Reach) (book_read : Book) (asked_for : Asked) (expected : Result Site Refusal) (found : Found) : Type 0 where
+  pub site : expected ≡ Ok (site_of found)
+  pub reach : found.reach ≡ reach_for
+  pub book : found.origin.book ≡ book_read
+  pub asked : found.asked ≡ asked_for
+
+-- the expected site was found, or the expected refusal returned
+abbrev pub FindsIn : Reach → Book → Asked → Result Site Refusal → Result Found Refusal → Type 0
+FindsIn reach book asked expected (Ok found) = IsFoundIn reach book asked expected found
+FindsIn reach book asked expected (Err refusal) = Excused (wants_memory_of_refusal refusal) expected refusal
+
+-- a station without a span: its curve predicts it
+pub record IsKnown (book : Book) (expected : Result Site Refusal) (known : Known) : Type 0 where
+  pub site : Site
+  pub is : expected ≡ Ok site
+  pub station : known.station.now ≡ site.station
+  pub levels : HasLevels site.station.units
+  pub predicts : Predicts book site.station known.curve
+  pub gentle : IsGentle known.curve
+
+-- the expected station was found, or the expected refusal returned
+abbrev pub Knows : Book → Result Site Refusal → Result Known Refusal → Type 0
+Knows book expected (Ok known) = IsKnown book expected known
+Knows book expected (Err refusal) = Excused (wants_memory_of_refusal refusal) expected refusal
+
+-- ---- levels
+
+-- a minute whose level is that of a reference's minute that is looked at
+pub record IsLooked (found : Found) (minute : ℤ) : Type 0 where
+  pub from : found.span.begin ≤ℤ (minute -ℤ found.basis.high.add)
+  pub until : (minute -ℤ found.basis.high.add) ≤ℤ found.span.end
+
+-- each minute of the requested span up to its end
+abbrev pub AreLooked : Found → Type 0
+AreLooked found = (minute : ℤ) → found.asked.begin ≤ℤ minute → minute ≤ℤ found.asked.end → IsLooked found minute
+
+-- a station whose span has a highest water
+pub record HasPeak (found : Found) : Type 0 where
+  pub reach : found.reach ≡ Highest
+  pub equal : IsTrue (is_equal found.basis)
+
+-- ---- events
+
+-- those of a site, whose span has a local time by every clock
+pub record IsSiteList (book : Book) (asked : Asked) (site : Site) (listed : FoundEvents) : Type 0 where
+  pub units : listed.units ≡ site.station.units
+  pub levels : HasLevels listed.units
+  pub events : listed.events ≡ events_of book site asked
+  pub cells : listed.cells ≡ cells_of book site asked
+  pub lines : All (IsListed listed.units) listed.events
+  pub forward : asked.begin ≤ℤ asked.end
+  pub begins : InZoneYears asked.begin
+  pub ends : InZoneYears asked.end
+
+-- the expected site's events were listed, or the expected refusal returned
+abbrev pub Lists : Book → Asked → Result Site Refusal → Result FoundEvents Refusal → Type 0
+Lists book asked expected (Ok listed) = (site : Site) × (expected ≡ Ok site) × IsSiteList book asked site listed
+Lists book asked expected (Err refusal) = Excused (wants_memory_of_refusal refusal) expected refusal
+
+-- the events of the reference's curves over the minutes that are looked at
+abbrev pub AreReferences : Found → List Event → Type 0
+AreReferences found events = events ≡ merged_of found.span.begin (tracks_of found.origin.book (site_of found) found.asked)

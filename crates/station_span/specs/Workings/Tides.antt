@@ -1,0 +1,10 @@
+-- The tide by which a site is predicted.
+use Rattle.harmonics_text.specs.declared.book.Units.{Units}
+use Rattle.station_curve.specs.Waves.{Tide}
+use Rattle.station_table.specs.declared.basis.Basis.{Basis}
+
+-- a station's offsets, its reference's unit, and a tide of its reference
+pub record SiteTide : Type 0 where
+  pub basis : Basis
+  pub units : Units
+  pub curve : Tide

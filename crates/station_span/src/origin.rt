@@ -1,0 +1,29 @@
+//! What a station was found in, for contracts alone.
+
+ghost use Rattle.std.specs.Prelude.{◌≡◌};
+ghost use Rattle.std.specs.Borrow.{ftrue};
+ghost use Rattle.harmonics_text.specs.declared.book.Book.{Book};
+ghost use Rattle.harmonics_text.specs.declared.book.Station.{Station};
+
+use harmonics_text::{Book, Station};
+use std::marker::Model;
+
+/// A book and a station of it. It allocates nothing, and nothing is copied for it.
+#[derive(Debug, Drop)]
+pub struct Origin {
+    pub ghost book: { Book },
+    pub ghost station: { Station },
+}
+
+impl Model for Origin {
+    ghost also_owns = { λ _. ftrue };
+}
+
+impl Origin {
+    /// A station of a book.
+    pub(crate) fn of(_book: &Book, _station: &Station) -> Origin
+        ensures { (result.book ≡ _book.now) × (result.station ≡ _station.now) }
+    {
+        Origin {}
+    }
+}
