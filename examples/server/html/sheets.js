@@ -78,7 +78,7 @@ function usualOffset({ offsets, events }) {
 }
 
 export function monthSheet(answer) {
-  const { dates, events, sill, isCurrent } = answer;
+  const { dates, events, above, sill, isCurrent } = answer;
   const [usual, ...others] = usualOffset(answer);
   const days = dates.slice(0, -1);
   const most = Math.max(1, ...days.map(date => eventsOn(date, events).length));
@@ -89,6 +89,7 @@ export function monthSheet(answer) {
   const signs = Object.entries(SIGNS).filter(([word]) => events.some(({ event }) => event === word));
   const legend = [signs.map(([word, sign]) => `${sign} ${word}`).join(', ')]
     .concat(sill !== null && isCurrent ? 'flood is positive, ebb negative' : [])
+    .concat(above.some(({ openFrom, openTo }) => openFrom || openTo) ? '..: outside this month' : [])
     .concat(others.length > 0 ? `times with * at ${others.join(', ')}, the others at ${usual}` : []);
   return [element('p', { className: 'hint', hidden: true }, 'More to the right'),
     element('div', { className: 'scroll', tabIndex: 0 }, table), element('p', { className: 'quiet' }, legend.join('; '))];

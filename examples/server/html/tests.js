@@ -209,6 +209,8 @@ same('a week names its sill', textOf(weekSheet(sheet)).startsWith('Above the sil
 same('a month without a star', textOf(monthSheet(sheet)).includes('*'), false);
 same('a month with a star', textOf(monthSheet({ ...sheet, offsets: ['-04:00', '-05:00'], events: [event('2026-11-01T04:30Z', 'Low Tide', NEW_YORK), ...FALL, event('2026-11-01T20:30Z', 'Low Tide', NEW_YORK)] }))
   .includes('times with * at -04:00, the others at -05:00'), true);
+same('a month without two points', textOf(monthSheet(sheet)).includes('..'), false);
+same('a month with two points', textOf(monthSheet({ ...sheet, above: [{ from: midnight, to: at('2026-11-01T09:00Z'), openFrom: true }] })).includes('..: outside this month'), true);
 same('a limit', thresholdText({ isCurrent: true, sill: '2', units: 'knots' }), 'limit of 2 knots');
 
 const failed = results.filter(({ passed }) => !passed).length;

@@ -103,17 +103,7 @@ function listen({ name, paper }) {
   controls.print.addEventListener('click', () => window.print());
 }
 
-async function start() {
-  const station = new URLSearchParams(location.search).get('station');
-  const all = await readNotes();
-  const asking = question(noted(all, station));
-  showControls(asking);
-  listen(asking);
-  setPaper(asking.paper);
-  if (station === null) {
-    place('trouble').append('Choose a station on the page of the week.');
-    return;
-  }
+async function show(asking, all) {
   try {
     const answer = await askYear(asking, all);
     if (answer.why) place('trouble').append(note(answer.why));
@@ -121,6 +111,17 @@ async function start() {
   } catch (error) {
     place('trouble').append(note(error));
   }
+}
+
+async function start() {
+  const station = new URLSearchParams(location.search).get('station');
+  const all = await readNotes();
+  const asking = question(noted(all, station));
+  showControls(asking);
+  listen(asking);
+  setPaper(asking.paper);
+  if (station === null) place('trouble').append('Choose a station on the page of the week.');
+  else await show(asking, all);
   place('sheets').setAttribute('aria-busy', 'false');
 }
 
