@@ -1,5 +1,5 @@
 -- A run over an outside that doesn't fail ends by its answer, or out of memory.
-use Rattle.std.proofs.Common.{◌≡◌, ◌⊎◌, ◌∙◌, ℕ, ℤ, ◌≤◌, ◌++◌, Bool, true, false, List, [], codes, length, pos, Option, Some, None, Result, Ok, Err, inl, inr, refl, subst, sym, ap, arith, le_refl}
+use Rattle.std.proofs.Common.{◌≡◌, ◌⊎◌, ◌∙◌, ℕ, ℤ, ◌≤◌, Bool, true, false, List, [], codes, length, pos, Option, Some, None, Result, Ok, Err, inl, inr, refl, sym, ap, arith, le_refl}
 use Rattle.std.proofs.lemmas.Bool.{leb-true}
 use Rattle.std.specs.Prelude.{if◌then◌else◌}
 use Rattle.cert_text.specs.declared.certificate.Certificate.{Certificate}
@@ -18,7 +18,6 @@ use Rattle.harmonics_text.specs.Worked.{file_of, pier_book, pier_lines}
 use Rattle.listing.specs.StationLists.{stations_text_of}
 use Rattle.named_files.specs.declared.materials.Materials.{Materials}
 use Rattle.named_files.specs.declared.no_answer.NoAnswer.{NoAnswer}
-use Rattle.named_files.specs.NoAnswers.{status_of}
 use Rattle.named_files.specs.Readings.{book_named, certificate_named, limit_of, table_named, zone_named}
 use Rattle.question.specs.Worked.{bare}
 use Rattle.question.specs.declared.command.Command.TheVariants.{Check, PeakCheck, Stations}

@@ -1,5 +1,5 @@
 -- What one run has written is accepted by the next one.
-use Rattle.std.proofs.Common.{◌≡◌, ◌⊎◌, ◌∙◌, ℕ, ℤ, ◌++◌, Bool, false, List, [], Option, Some, Result, Ok, Err, inl, inr, refl, subst, sym, ap, pos}
+use Rattle.std.proofs.Common.{◌≡◌, ◌∙◌, ℕ, ℤ, ◌++◌, false, List, [], Option, Some, Result, Ok, Err, inr, refl, subst, sym, ap, pos}
 use Rattle.std.specs.Result.{IsOkAnd}
 use Rattle.named_files.specs.declared.materials.Materials.{Materials}
 use Rattle.named_files.specs.declared.no_answer.NoAnswer.{NoAnswer}

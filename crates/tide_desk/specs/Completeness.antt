@@ -1,5 +1,5 @@
 -- Over an outside that doesn't fail a run ends by its answer, with the whole text, or out of memory (this project).
-use Rattle.std.specs.Prelude.{◌≡◌, ◌⊎◌, ℕ, ℤ, Bool, false, IsTrue, if◌then◌else◌, List, [], Some, None, Result, Ok, Err}
+use Rattle.std.specs.Prelude.{◌≡◌, ◌⊎◌, ℕ, ℤ, Bool, false, IsTrue, if◌then◌else◌, List, Some, None, Result, Ok, Err}
 use Rattle.cert_text.specs.declared.certificate.Certificate.{Certificate}
 use Rattle.cert_text.specs.Readings.{certificate_of}
 use Rattle.event_list.specs.Shifts.{widened_of}
@@ -26,7 +26,7 @@ use Rattle.tide_answer.specs.Asking.{asked_in, asked_of_peak}
 use Rattle.tide_edge.specs.Clocks.{next_minute}
 use Rattle.tide_edge.specs.Faults.{Rose}
 use Rattle.tide_edge.specs.FileStates.{Folder}
-use Rattle.tide_edge.specs.SinkStates.{SinkState, Wrote, put}
+use Rattle.tide_edge.specs.SinkStates.{Wrote, put}
 use Rattle.tide_fault.specs.declared.status.Status.{Status}
 use Rattle.tide_fault.specs.declared.status.Status.TheVariants.{Done, Rejected, NoMemory}
 use Rattle.zone_time.specs.declared.zone.Zone.{Zone}

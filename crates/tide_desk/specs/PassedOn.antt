@@ -1,8 +1,8 @@
 -- What one run has written is the certificate of the next one (this project).
-use Rattle.std.specs.Prelude.{◌≡◌, ℕ, ℤ, IsTrue, List, [], Some, Ok}
+use Rattle.std.specs.Prelude.{◌≡◌, ℕ, IsTrue, List, [], Some, Ok}
 use Rattle.harmonics_text.specs.declared.book.Book.{Book}
 use Rattle.named_files.specs.declared.materials.Materials.{Materials}
-use Rattle.named_files.specs.Readings.{Folders, files_in, zone_named}
+use Rattle.named_files.specs.Readings.{files_in, zone_named}
 use Rattle.question.specs.declared.command.Command.TheVariants.{Certify, Check, Peak, PeakCheck}
 use Rattle.question.specs.declared.question.Layout.TheVariants.{Plain}
 use Rattle.question.specs.declared.question.Question.{Question}

@@ -1,5 +1,5 @@
 -- A server over an outside that doesn't fail ends by what it serves from, or out of memory.
-use Rattle.std.proofs.Common.{◌≡◌, ◌⊎◌, ◌∙◌, ℕ, Bool, true, false, List, [], ◌∷◌, codes, Some, None, Result, Ok, Err, inl, inr, refl, subst, sym, ap, arith, le_refl}
+use Rattle.std.proofs.Common.{◌≡◌, ◌⊎◌, ◌∙◌, ℕ, Bool, true, false, List, [], ◌∷◌, codes, Some, None, Result, Ok, Err, inl, inr, refl, ap, arith, le_refl}
 use Rattle.std.specs.Bool.{IsTrue}
 use Rattle.std.specs.Prelude.{count_by}
 use Rattle.decimal_text.specs.Expected.{Excuses}
@@ -9,7 +9,7 @@ use Rattle.harmonics_text.specs.Worked.{file_of, pier_book, pier_lines}
 use Rattle.named_files.specs.declared.no_answer.NoAnswer.{NoAnswer}
 use Rattle.named_files.specs.declared.no_answer.NoAnswer.TheVariants.{Unread, Told}
 use Rattle.named_files.specs.declared.no_answer.NoAnswer.TheVariants as none_of
-use Rattle.named_files.specs.NoAnswers.{is_read_fault, source_of, status_of}
+use Rattle.named_files.specs.NoAnswers.{source_of, status_of}
 use Rattle.named_files.specs.Readings.{book_named, table_named}
 use Rattle.question.specs.declared.command.Command.TheVariants.{Serve}
 use Rattle.question.specs.declared.fault.AskFault.TheVariants as ask
@@ -22,13 +22,11 @@ use Rattle.tide_edge.specs.Faults.{Rose, counted, faults_after}
 use Rattle.tide_fault.specs.declared.fault.Fault.TheVariants.{Ask, NoSheet, TooLong, Book, Offsets, BadZone, Refused}
 use Rattle.tide_fault.specs.declared.refusal.Refusal.TheVariants as refusals
 use Rattle.tide_fault.specs.declared.status.Status.{Status}
-use Rattle.tide_fault.specs.declared.status.Status.TheVariants.{Done, ReadFault, NoMemory}
+use Rattle.tide_fault.specs.declared.status.Status.TheVariants.{NoMemory}
 use Rattle.tide_server.specs.declared.stock.Stock.{Stock}
 use Rattle.tide_server.specs.Completeness.{EndedBefore, EndsBy, IsComplete, NothingFailed, ServedAll}
-use Rattle.tide_server.specs.Conversations.{HasServed}
-use Rattle.tide_server.specs.Openings.{EndedBy, Handed, HasListened, IsRefused, service_of, stock_from, stock_named, stock_of}
+use Rattle.tide_server.specs.Openings.{EndedBy, HasListened, IsRefused, service_of, stock_from, stock_named, stock_of}
 use Rattle.tide_server.specs.Promises.{ServesAs, ServiceStates, Services, handed_of}
-use Rattle.tide_server.specs.Serving.{exchange}
 use Rattle.tide_server.specs.Worked.{in_memory, pier, pier_stock, pier_words}
 
 -- ---- Nobody was served

@@ -1,5 +1,5 @@
 -- What a served door in memory holds.
-use Rattle.std.proofs.Common.{◌≡◌, ℕ, suc, ◌+◌, ◌-◌, ◌^◌, ◌<◌, Bool, false, true, List, [], ◌∷◌, ◌++◌, map, arith, None, Ok, inl, inr, ap, ◌∙◌, subst, sym, refl}
+use Rattle.std.proofs.Common.{◌≡◌, ℕ, suc, ◌+◌, ◌-◌, ◌^◌, ◌<◌, Bool, false, true, List, [], ◌∷◌, map, arith, None, Ok, inl, inr, ap, ◌∙◌, subst, sym, refl}
 use Rattle.std.specs.List.{concat}
 use Rattle.std.specs.Prelude.{ℤ, count_by, if◌then◌else◌}
 use Rattle.std.proofs.lemmas.Grind.{common_steps}

@@ -1,5 +1,5 @@
 -- A server in memory that is worked out: its files hold constants under the name `f`, and no call on it fails (this project).
-use Rattle.std.specs.Prelude.{ℕ, pos, false, List, [], ◌∷◌, codes}
+use Rattle.std.specs.Prelude.{ℕ, pos, List, [], ◌∷◌, codes}
 use Rattle.harmonics_text.specs.Worked.{file_of, pier_book, pier_lines}
 use Rattle.tide_edge.specs.Calls.{HeldCalls}
 use Rattle.tide_edge.specs.Doors.{no_connections, unasked}
