@@ -311,7 +311,6 @@ unfolding cells_of
 found_cells book asked site found is =
     rw (count-agrees (followed_tide Second found asked.mark) (followed_by Second book site asked.mark) (widened_of found.basis asked.begin asked.end) (found_alike Second book asked site found asked.mark is), is.basis) refl
 
-
 -- ---- and so are the covers of its curves
 
 cover_if_alike : (s : Span) (c d : Option Meaning) → AgreeIfFollowed s c d → option_map (cover_over s) c ≡ option_map (cover_over s) d

@@ -85,11 +85,7 @@ fn merged_events<'a>(
 }
 
 // The station's events of those of its reference.
-fn shifted_events(
-    alloc: Global,
-    merged: Events,
-    found: &Found,
-) -> Result<Events, AllocError>
+fn shifted_events(alloc: Global, merged: Events, found: &Found) -> Result<Events, AllocError>
     requires reach { found.now.reach ≡ Reach.Events }
     requires merged { AreReferences found.now merged }
     ensures { IfOk result (λ events. events ≡ events_of found.now.origin.book (site_of found.now) found.now.asked) }
@@ -97,7 +93,13 @@ fn shifted_events(
     if found.basis.plain() {
         Ok(merged)
     } else {
-        shifted(alloc, &merged, &found.basis, found.asked.begin, found.asked.end)
+        shifted(
+            alloc,
+            &merged,
+            &found.basis,
+            found.asked.begin,
+            found.asked.end,
+        )
     }
 }
 
@@ -121,7 +123,11 @@ pub fn turn_search<'a>(found: &'a Found) -> Search<TurnCurve<'a>>
     ensures left { result.left ≡ (tracks_of found.now.origin.book (site_of found.now) found.now.asked).turn }
     ensures most { result.most ≡ length result.left + 1 }
 {
-    Search::new(turn_curve(found, Version::Second), found.span.begin, found.span.end)
+    Search::new(
+        turn_curve(found, Version::Second),
+        found.span.begin,
+        found.span.end,
+    )
 }
 
 /// Where a current turns, if that is listed, with as few evaluations.

@@ -51,7 +51,12 @@ pub fn find_highest(alloc: Global, found: &Found) -> Result<Peak, AllocError>
     ensures exact { IfOk result (λ peak. peak ≡ highest_of found.now.origin.book (site_of found.now) found.now.asked) }
     ensures inside { IfOk result (λ peak. IsSourceIn (tide_of_found found.now) found.now.asked peak.at) }
 {
-    let peak = find_peak(alloc, &mut level_curve(found), found.span.begin, found.span.end)?;
+    let peak = find_peak(
+        alloc,
+        &mut level_curve(found),
+        found.span.begin,
+        found.span.end,
+    )?;
     Ok(peak)
 }
 
@@ -73,7 +78,12 @@ pub fn judge_highest(found: &Found, peak: &Peak) -> PeakVerdict
     ensures exact { result ≡ highest_verdict found.now.origin.book (site_of found.now) found.now.asked peak.now }
     ensures inside { result ≡ PeakVerdict.Accepted → IsSourceIn (tide_of_found found.now) found.now.asked peak.now.at }
 {
-    check_peak(&mut level_curve(found), peak, found.span.begin, found.span.end)
+    check_peak(
+        &mut level_curve(found),
+        peak,
+        found.span.begin,
+        found.span.end,
+    )
 }
 
 /// The station's minute to which a reference's is moved.

@@ -62,7 +62,14 @@ fn judge(
     ensures exact { Gives wants_memory_of_refusal (judged_in book.now table.now cert.now zone.now) result }
     ensures told { IfErr result (IsToldRefusal table.now) }
 {
-    let found = find_station(alloc, book, table, Reach::Events, &cert.station, &asked_in(cert))?;
+    let found = find_station(
+        alloc,
+        book,
+        table,
+        Reach::Events,
+        &cert.station,
+        &asked_in(cert),
+    )?;
     match find_rejection(&found, cert) {
         None => Ok(accept(alloc, &found, cert, zone)?),
         Some(rejection) => Ok(rejected(rejection_line(alloc, rejection)?)),

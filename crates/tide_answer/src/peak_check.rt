@@ -79,11 +79,7 @@ fn judge_peak(
     }
 }
 
-fn accept_peak(
-    alloc: Global,
-    found: &Found,
-    cert: &PeakCertificate,
-) -> Result<Answer, AllocError>
+fn accept_peak(alloc: Global, found: &Found, cert: &PeakCertificate) -> Result<Answer, AllocError>
     requires peak { HasPeak found.now }
     requires inside { IsSourceIn (tide_of_found found.now) found.now.asked cert.now.peak.at }
     ensures { IfOk result (λ answer. answer ≡ peak_judged found.now.origin.book (site_of found.now) cert.now PeakVerdict.Accepted) }
