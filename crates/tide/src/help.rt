@@ -58,7 +58,7 @@ One line on standard error says why.
 NOT FOR NAVIGATION.
 ";
 
-const VERSION: &str = "tide 0.1.0\n";
+const VERSION: &str = "tide 1.0.0\n";
 
 /// A page that the program tells of itself.
 #[derive(Clone, Copy, Debug, PartialEq, Eq)]

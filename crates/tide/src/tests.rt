@@ -147,8 +147,8 @@ const ANSWERED: &[(&str, &str)] = &[
     ("-h", "Predicts tides"),
     ("predict|file=none.txt|-h", "Predicts tides"),
     ("serve|--help", "Predicts tides"),
-    ("--version", "tide 0.1.0\n"),
-    ("-V", "tide 0.1.0\n"),
+    ("--version", "tide 1.0.0\n"),
+    ("-V", "tide 1.0.0\n"),
 ];
 
 #[test]
