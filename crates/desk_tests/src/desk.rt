@@ -2,6 +2,7 @@
 
 mod failing;
 mod files;
+mod passing_on;
 mod reports;
 mod rows;
 

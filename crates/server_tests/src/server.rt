@@ -9,7 +9,8 @@ mod serving;
 use arrayvec::ArrayString;
 use std::alloc::{AllocError, Global};
 use std::test::Fail;
-use tide_server::{enough, fixed_reply, unavailable_reply};
+use tide_edge::{FixedClock, MemoryDoor, MemoryFiles, MemorySink};
+use tide_server::{enough, fixed_reply, servers_are_complete, unavailable_reply, worked_servers};
 
 /// A request for the stations with so many fields, of which the first is the host's.
 fn with_fields(alloc: Global, count: u32) -> Result<Vec<u8>, AllocError> {
@@ -173,4 +174,10 @@ fn want_of_memory_has_a_reply(rt: HostRuntime) {
         unavailable_reply(request.as_bytes(), &mut out);
         assert_eq!(rt; out.as_str(), expected);
     }
+}
+
+#[test]
+fn the_law_of_servers_holds_in_memory(_rt: HostRuntime) {
+    servers_are_complete::<MemoryFiles, MemoryDoor, MemorySink, FixedClock>();
+    worked_servers();
 }
