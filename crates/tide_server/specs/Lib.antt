@@ -1,13 +1,13 @@
 pub mod Conversations
-pub mod Heads
 pub mod Laws
 pub mod Openings
-pub mod Paths
 pub mod Promises
 pub mod Queries
 pub mod Replies
-pub mod Responses
-pub mod Rows
 pub mod Serving
 pub mod Shown
 pub mod Workings
+pub use Rattle.http_rows.specs.Heads
+pub use Rattle.http_rows.specs.Paths
+pub use Rattle.http_rows.specs.Responses
+pub use Rattle.http_rows.specs.Rows

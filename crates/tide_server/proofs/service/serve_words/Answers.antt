@@ -1,4 +1,4 @@
-use Rattle.std.proofs.Common.{◌∙◌, None, inl, inr, false, refl, sym}
+use Rattle.std.proofs.Common.{◌∙◌, inl, inr, false, refl, sym}
 use Rattle.std.specs.Bool.{IsTrue}
 use Rattle.named_files.specs.NoAnswers.{is_unread}
 use Rattle.tide_server.specs.Openings.{handed, stock_of}
