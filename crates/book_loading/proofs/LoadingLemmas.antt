@@ -1,5 +1,5 @@
 -- What loading gives, from what its reading and its form give.
-use Rattle.std.proofs.Common.{◌≡◌, ℕ, List, Option, IsErrAnd, Some, None, IsSome, Result, Ok, Err, refl}
+use Rattle.std.proofs.Common.{◌≡◌, ◌↔◌, ℕ, List, Option, IsErrAnd, Some, None, IsSome, Result, Ok, Err, refl}
 use Rattle.std.specs.Bool.{IsTrue}
 use Rattle.tide_edge.proofs.ReadingLemmas.{begun_whole}
 use Rattle.tide_edge.specs.FileStates.{FilesState, files_after_open}
@@ -13,7 +13,7 @@ use Rattle.tide_edge.specs.declared.read_all_fault.ReadAllFault.TheVariants as r
 use Rattle.decimal_text.specs.Expected.{Excuses, Meets}
 use Rattle.tide_edge.specs.Whole.{whole, source_of as source_of_reading}
 use Rattle.book_loading.specs.declared.loading.LoadFault.{LoadFault}
-use Rattle.book_loading.specs.declared.loading.LoadFault.TheVariants.{Failed, Book}
+use Rattle.book_loading.specs.declared.loading.LoadFault.TheVariants.{Failed, TooLong, Book}
 use Rattle.book_loading.specs.Loading.{loaded, fault_of_reading, source_of}
 use Rattle.book_loading.specs.Workings.Feeding.{bytes_fed}
 
@@ -52,3 +52,27 @@ pub loaded_opened : {T : Type 0} (opened : T) (limit : ℕ) (name : List ℕ) (s
     → (IsTrue s.store.is_observable → Meets source_of (IsTrue s.store.is_steady) (loaded limit (Some (files_after_open (Ok opened) name s).rest)) result)
     → IsTrue s.store.is_observable → Meets source_of (IsTrue s.store.is_steady) (loaded limit (s.store.folder name)) result
 loaded_opened opened limit name s result found meets t = rw (begun_whole s name t (found t)) (meets t)
+
+-- what feeding gave
+abbrev fed_fault : ReadAllFault → Result (Unit {0}) ReadAllFault
+fed_fault fault = Err fault
+
+abbrev all_fed : Result (Unit {0}) ReadAllFault
+all_fed = Ok record {}
+
+-- a fault of reading is passed on
+pub fed_passed : (P : Type 0) (fault : ReadAllFault) (result : Result TheBook LoadFault) → IsErrAnd result (λ it. it ≡ fault_of_reading fault)
+    → (fed_fault fault ≡ fed_fault reading.TooLong) ↔ P → (result ≡ Err TooLong) ↔ P
+fed_passed P fault (Ok book) is passed = absurd is
+fed_passed P reading.TooLong (Err it) is passed = (λ e. passed.0 refl, λ p. rw is refl)
+fed_passed P reading.Failed (Err it) is passed = (λ e. absurd cc, λ p. absurd (let same = passed.1 p in cc))
+fed_passed P reading.NoMemory (Err it) is passed = (λ e. absurd cc, λ p. absurd (let same = passed.1 p in cc))
+
+-- all was fed
+pub fed_unpassed : (P : Type 0) (result : Result TheBook LoadFault) → (result ≡ Err TooLong → ⊥) → (all_fed ≡ fed_fault reading.TooLong) ↔ P
+    → (result ≡ Err TooLong) ↔ P
+fed_unpassed P result unlike passed = (λ e. absurd (unlike e), λ p. absurd (let same = passed.1 p in cc))
+
+pub book_unlike : (fault : BookFault) (result : Result TheBook LoadFault) → IsErrAnd result (λ it. it ≡ Book fault) → result ≡ Err TooLong → ⊥
+book_unlike fault (Ok book) is e = absurd is
+book_unlike fault (Err it) is e = absurd cc

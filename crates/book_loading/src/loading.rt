@@ -1,12 +1,12 @@
 //! Loading a book from a file, in pieces.
 
-ghost use Rattle.std.specs.Prelude.{◌≡◌, ◌≤◌, IsTrue, [], length, Some, IfOk, OnOk};
+ghost use Rattle.std.specs.Prelude.{◌≡◌, ◌↔◌, ◌≤◌, IsTrue, [], length, Some, Err, IfOk, OnOk};
 ghost use Rattle.harmonics_text.specs.Books.{IsBook};
 ghost use Rattle.book_loading.specs.Loading.{loaded, source_of};
 ghost use Rattle.book_loading.specs.Workings.Feeding.{bytes_fed};
 ghost use Rattle.decimal_text.specs.Expected.{Meets, is_outside_fault};
-ghost use Rattle.tide_edge.specs.Whole.{OpenedOnce, ReadWithin, one_file, whole, source_of as source_of_reading};
-ghost use Rattle.tide_edge.specs.Workings.Reading.{HasCome, IsFresh, IsReadOn};
+ghost use Rattle.tide_edge.specs.Whole.{HasPassed, OpenedOnce, ReadWithin, one_file, whole, source_of as source_of_reading};
+ghost use Rattle.tide_edge.specs.Workings.Reading.{HasCome, IsFresh, IsPassed, IsReadOn};
 ghost use Rattle.decimal_text.specs.declared.limits.TheConstants.{MOST_BYTES};
 
 use decimal_text::Text;
@@ -33,8 +33,8 @@ pub enum LoadFault {
 ///
 /// # Errors
 /// [`LoadFault::Failed`] exactly where the count of faults of `files` is one more, and over steady
-/// files only where there is no file of that name; [`LoadFault::TooLong`] where the file has more than
-/// `limit` bytes; [`LoadFault::Book`] with the file's first bad line where neither holds, or with want
+/// files only where there is no file of that name; [`LoadFault::TooLong`] exactly where more than `limit` bytes
+/// came; [`LoadFault::Book`] with the file's first bad line where neither holds, or with want
 /// of memory.
 pub fn load_book<F: Files>(
     alloc: Global,
@@ -47,6 +47,7 @@ pub fn load_book<F: Files>(
         → Meets source_of (IsTrue (F.state files.old).store.is_steady) (loaded limit ((F.state files.old).store.folder name.now)) result }
     ensures came { OpenedOnce source_of (loaded limit) limit name.now (F.state files.old).openings (F.state files.new).openings result }
     ensures sound { IfOk result IsBook }
+    ensures too_long { (result ≡ Err LoadFault.TooLong) ↔ HasPassed limit (F.state files.old).openings (F.state files.new).openings }
     ensures read { ReadWithin (one_file limit) (is_outside_fault source_of result) (F.state files.old) (F.state files.new) }
 {
     let mut room = vec![in alloc; 0; PIECE]?;
@@ -70,6 +71,7 @@ fn load_rest<F: Files>(
         → Meets source_of (IsTrue (F.state files.old).store.is_steady) (loaded limit (Some (F.state files.old).rest)) result }
     ensures came { HasCome source_of (loaded limit) limit (F.state files.old).openings (F.state files.new).openings result }
     ensures sound { IfOk result IsBook }
+    ensures too_long { (result ≡ Err LoadFault.TooLong) ↔ IsPassed limit (F.state files.new).openings }
     ensures read { IsReadOn limit (is_outside_fault source_of result) (F.state files.old) (F.state files.new) }
 {
     let mut reader = BookReader::new(alloc)?;
@@ -96,6 +98,7 @@ fn feed_rest<F: Files>(
         → Meets source_of_reading (IsTrue (F.state files.old).store.is_steady) (whole limit (Some (F.state files.old).rest)) (bytes_fed reader.new result) }
     ensures came { HasCome source_of_reading (whole limit) limit (F.state files.old).openings (F.state files.new).openings (bytes_fed reader.new result) }
     ensures within { OnOk result (length reader.new.bytes ≤ limit) }
+    ensures too_long { (result ≡ Err ReadAllFault.TooLong) ↔ IsPassed limit (F.state files.new).openings }
     ensures read { IsReadOn limit (is_outside_fault source_of_reading result) (F.state files.old) (F.state files.new) }
 {
     let mut fed = 0;

@@ -1,5 +1,5 @@
 -- What opening a file and reading it on come to.
-use Rattle.std.proofs.Common.{◌≡◌, ℕ, ◌+◌, ◌-◌, ◌^◌, ◌≤◌, ◌<◌, suc, length, take, ◌++◌, Bool, false, true, if◌then◌else◌, IsTrue, List, [], Option, Some, None, IsSome, Result, Ok, Err, unwrap_or, IsErrAnd, inl, inr, append-nil, arith, refl, sym, ap, ◌∙◌}
+use Rattle.std.proofs.Common.{◌≡◌, ℕ, ◌+◌, ◌-◌, ◌^◌, ◌≤◌, ◌<◌, ◌↔◌, suc, length, take, ◌++◌, Bool, false, true, if◌then◌else◌, IsTrue, List, [], Option, Some, None, IsSome, Result, Ok, Err, unwrap_or, IsErrAnd, inl, inr, append-nil, arith, refl, sym, ap, subst, ◌∙◌}
 use Rattle.std.specs.Prelude.{◌==◌, ◌||◌}
 use Rattle.std.specs.Option.{option_map_or}
 use Rattle.std.proofs.lemmas.List.{length-append, length-take-le}
@@ -9,9 +9,9 @@ use Rattle.tide_edge.specs.declared.read_all_fault.ReadAllFault.{ReadAllFault}
 use Rattle.tide_edge.specs.declared.read_all_fault.ReadAllFault.TheVariants.{TooLong, NoMemory}
 use Rattle.decimal_text.specs.Expected.{Source, Meets, memory}
 use Rattle.tide_edge.specs.Faults.{counted, faults_after}
-use Rattle.tide_edge.specs.FileStates.{FilesState, Opening, Openings, files_after_open, just_opened, openings_after_open, openings_after_read}
-use Rattle.tide_edge.specs.Whole.{Allowance, OpenedOnce, ReadWithin, as_came, both, one_file, source_of, whole}
-use Rattle.tide_edge.specs.Workings.Reading.{HasCome, IsFresh, IsReadOn}
+use Rattle.tide_edge.specs.FileStates.{FilesState, Opening, Openings, files_after_open, just_opened, openings_after_open, openings_after_read, openings_of}
+use Rattle.tide_edge.specs.Whole.{Allowance, HasPassed, OpenedOnce, ReadWithin, as_came, both, one_file, source_of, whole}
+use Rattle.tide_edge.specs.Workings.Reading.{HasCome, IsFresh, IsPassed, IsReadOn}
 
 counted_most_by : (last : Bool) (count : ℕ) → (count == 2 ^ 64 - 1) ≡ last → counted count ≤ count + 1
 counted_most_by true count is = rw is (omega arith)
@@ -177,3 +177,39 @@ cut_came limit name bytes within = rw (lt-leb (suc limit) (length bytes) (omega 
 pub ended_came : (limit : ℕ) (name bytes : List ℕ) → length bytes ≤ limit
     → whole limit (as_came limit (record { name = name; is_open = true; bytes = bytes ++ []; is_ended = true })) ≡ Ok bytes
 ended_came limit name bytes within = rw (append-nil bytes, le-leb (length bytes) limit within) refl
+
+-- ---- more than the limit came
+
+-- a piece past the limit
+pub passed_on : (limit count : ℕ) (room name bytes : List ℕ) (initial now after : Openings)
+    → now ≡ record initial { latest = Some (record { name = name; is_open = true; bytes = bytes; is_ended = false }) }
+    → after ≡ openings_after_read count room now → count ≤ length room → length bytes ≤ limit → limit - length bytes < count → IsPassed limit after
+passed_on limit count room name bytes initial now after so_far next within most over = (
+  record { name = name; is_open = true; bytes = bytes ++ take count room; is_ended = (count == 0) || false },
+  ap (λ o. o.latest) (next ∙ ap (openings_after_read count room) so_far),
+  rw (length-append bytes (take count room), length-take-le count room within) (omega (arith, most, over)),
+)
+
+both_parts : (o : Openings) (earlier : List Opening) (opening : Opening) → o.earlier ≡ earlier → o.latest ≡ Some opening
+    → o ≡ record { earlier = earlier; latest = Some opening }
+both_parts o earlier opening first last = rw (← first, ← last) refl
+
+-- of a file that was opened, as of the latest one
+pub passed_once : {T E : Type 0} (R : Type 0) (source : E → Source) (expected : Option (List ℕ) → Result T E) (limit : ℕ) (name : List ℕ)
+    (before between after : Openings) (result : Result T E) → between ≡ openings_after_open true name before
+    → HasCome source expected limit between after result → R ↔ IsPassed limit after → R ↔ HasPassed limit before after
+passed_once R source expected limit name before between after result opened come passed =
+    let earlier : after.earlier ≡ openings_of before = ap (λ o. o.earlier) come.4 ∙ ap (λ o. o.earlier) opened in (
+      λ r. let is = passed.0 r in (is.0, both_parts after (openings_of before) is.0 earlier is.1, is.2),
+      λ has. passed.1 (has.0, ap (λ o. o.latest) has.1, has.2),
+    )
+
+-- nothing came of a file that couldn't be opened
+pub unopened_unpassed : (limit : ℕ) (name : List ℕ) (before after : Openings) → after ≡ openings_after_open false name before
+    → HasPassed limit before after → ⊥
+unopened_unpassed limit name before after is has =
+    let same : Some (just_opened false name) ≡ Some has.0 = ap (λ o. o.latest) (sym is ∙ has.1) in
+    let one : just_opened false name ≡ has.0 = cc in
+    let none : [] ≡ has.0.bytes = ap (λ (o : Opening). o.bytes) one in
+    let over : limit < length {A = ℕ} [] = subst (λ bs. limit < length bs) (sym none) has.2 in
+    omega (arith, over)

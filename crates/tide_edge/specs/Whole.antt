@@ -1,5 +1,5 @@
 -- What reading a file to its end is to give, and what it takes of the files (this project).
-use Rattle.std.specs.Prelude.{◌≡◌, ◌⊎◌, ◌≤◌, ◌+◌, ℕ, Bool, nat_le, nat_lt, ◌&&◌, ◌||◌, if◌then◌else◌, List, length, Option, Some, None, Result, Ok, Err}
+use Rattle.std.specs.Prelude.{◌≡◌, ◌⊎◌, ◌<◌, ◌≤◌, ◌+◌, ℕ, Bool, nat_le, nat_lt, ◌&&◌, ◌||◌, if◌then◌else◌, List, length, Option, Some, None, Result, Ok, Err}
 use Rattle.decimal_text.specs.Expected.{Source, Meets, memory, outside, given}
 use Rattle.tide_edge.specs.Faults.{faults_after}
 use Rattle.tide_edge.specs.FileStates.{FilesState, Opening, Openings, openings_of}
@@ -17,6 +17,11 @@ whole limit (Some bytes) = (if nat_le (length bytes) limit then Ok bytes else Er
 abbrev pub as_came : ℕ → Opening → Option (List ℕ)
 as_came limit opening =
     if opening.is_open && (opening.is_ended || nat_lt limit (length opening.bytes)) then Some opening.bytes else None
+
+-- one more file was opened, and more than `limit` bytes came of it
+abbrev pub HasPassed : ℕ → Openings → Openings → Type 0
+HasPassed limit before after =
+    (opening : Opening) × (after ≡ record { earlier = openings_of before; latest = Some opening }) × (limit < length opening.bytes)
 
 -- where each fault comes from
 abbrev pub source_of : ReadAllFault → Source

@@ -1,9 +1,9 @@
 //! Reading a whole file.
 
-ghost use Rattle.std.specs.Prelude.{◌≡◌, ◌≤◌, IsTrue, length, Some, IfOk};
+ghost use Rattle.std.specs.Prelude.{◌≡◌, ◌↔◌, ◌≤◌, IsTrue, length, Some, Err, IfOk};
 ghost use Rattle.decimal_text.specs.Expected.{Meets, is_outside_fault};
-ghost use Rattle.tide_edge.specs.Whole.{OpenedOnce, ReadWithin, one_file, source_of, whole};
-ghost use Rattle.tide_edge.specs.Workings.Reading.{HasCome, IsFresh, IsReadOn};
+ghost use Rattle.tide_edge.specs.Whole.{HasPassed, OpenedOnce, ReadWithin, one_file, source_of, whole};
+ghost use Rattle.tide_edge.specs.Workings.Reading.{HasCome, IsFresh, IsPassed, IsReadOn};
 
 use crate::files::Files;
 use crate::piece::PIECE;
@@ -16,7 +16,7 @@ use std::alloc::Global;
 ///
 /// # Errors
 /// [`ReadAllFault::Failed`] exactly where the count of faults of `files` is one more, and over steady files only where
-/// there is no file of that name; [`ReadAllFault::TooLong`] where the file has more than `limit` bytes;
+/// there is no file of that name; [`ReadAllFault::TooLong`] exactly where more than `limit` bytes came;
 /// [`ReadAllFault::NoMemory`].
 pub fn read_all<F: Files>(
     alloc: Global,
@@ -28,6 +28,7 @@ pub fn read_all<F: Files>(
         → Meets source_of (IsTrue (F.state files.old).store.is_steady) (whole limit ((F.state files.old).store.folder name.now)) result }
     ensures came { OpenedOnce source_of (whole limit) limit name.now (F.state files.old).openings (F.state files.new).openings result }
     ensures within { IfOk result (λ bytes. length bytes ≤ limit) }
+    ensures too_long { (result ≡ Err ReadAllFault.TooLong) ↔ HasPassed limit (F.state files.old).openings (F.state files.new).openings }
     ensures read { ReadWithin (one_file limit) (is_outside_fault source_of result) (F.state files.old) (F.state files.new) }
 {
     let mut room = vec![in alloc; 0; PIECE]?;
@@ -50,6 +51,7 @@ fn read_rest<F: Files>(
         → Meets source_of (IsTrue (F.state files.old).store.is_steady) (whole limit (Some (F.state files.old).rest)) result }
     ensures came { HasCome source_of (whole limit) limit (F.state files.old).openings (F.state files.new).openings result }
     ensures within { IfOk result (λ bytes. length bytes ≤ limit) }
+    ensures too_long { (result ≡ Err ReadAllFault.TooLong) ↔ IsPassed limit (F.state files.new).openings }
     ensures read { IsReadOn limit (is_outside_fault source_of result) (F.state files.old) (F.state files.new) }
 {
     let mut bytes = Vec::new(alloc);

@@ -8,12 +8,12 @@ use Rattle.tide_edge.specs.Clocks.{ClockState, next_minute}
 use Rattle.tide_edge.specs.Doors.{Connection, Connections, DoorState, Traffic, append_to_last}
 use Rattle.tide_edge.specs.Faults.{faults_after}
 use Rattle.tide_server.specs.declared.stock.Stock.{Stock}
-use Rattle.tide_server.specs.Heads.{head_end}
-use Rattle.tide_server.specs.Rows.{Row, IsRow, is_settled}
+use Rattle.http_rows.specs.Heads.{head_end}
+use Rattle.http_rows.specs.Rows.{Row, IsRow, is_settled}
 use Rattle.tide_server.specs.Serving.{Answers, IsEnough, exchange, has_byte}
 use Rattle.tide_server.specs.Workings.Connections.{HasRead, IsRead, IsReadAs, Replies, RowSent, Stopped, Talk, Went, WentBy, read_as, read_to, sending, sent, talked, with_latest}
 use Rattle.tide_server.proofs.ConnectionLemmas.{append_none, not_enough}
-use Rattle.tide_server.proofs.RowLemmas.{one_row_at, settled_stays}
+use Rattle.http_rows.proofs.RowLemmas.{one_row_at, settled_stays}
 
 one : (request : List ℕ) (a b : Row) → IsRow request a → IsRow request b → a ≡ b
 one request a b x y = one_row_at (head_end request) request a b x y

@@ -14,12 +14,12 @@ use Rattle.tide_edge.specs.Faults.{counted}
 use Rattle.tide_edge.specs.declared.piece.TheConstants.{PIECE}
 use Rattle.tide_server.specs.Conversations.{IsReadEnough}
 use Rattle.tide_server.specs.declared.limits.TheConstants.{LONGEST}
-use Rattle.tide_server.specs.Heads.{head_end, head_length}
-use Rattle.tide_server.specs.Rows.{Row, IsRow, is_settled}
+use Rattle.http_rows.specs.Heads.{head_end, head_length}
+use Rattle.http_rows.specs.Rows.{Row, IsRow, is_settled}
 use Rattle.tide_server.specs.Serving.{IsEnough}
 use Rattle.tide_server.specs.Workings.Connections.{HasRead, IsRead, IsReadAs, read_as, read_to, sending, sent, with_latest}
 use Rattle.tide_server.proofs.PieceLemmas.{all_left, bytes_left, left_on}
-use Rattle.tide_server.proofs.RowLemmas.{long_settled, one_row_at}
+use Rattle.http_rows.proofs.RowLemmas.{long_settled, one_row_at}
 
 pub append_none : (replies : List (List ℕ)) → append_to_last replies [] ≡ replies
 append_none [] = refl

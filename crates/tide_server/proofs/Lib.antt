@@ -1,15 +1,11 @@
 pub mod AnswerLemmas
 pub mod CompletenessLemmas
 pub mod ConnectionLemmas
-pub mod EndLemmas
-pub mod HeadLemmas
-pub mod LineLemmas
 pub mod MemoryLemmas
 pub mod OpeningLemmas
 pub mod PieceLemmas
 pub mod QueryLemmas
 pub mod ReplyLemmas
-pub mod RowLemmas
 pub mod ServiceLemmas
 pub mod StepLemmas
 pub mod StockLemmas

@@ -3,11 +3,11 @@ use Rattle.std.proofs.Common.{◌≡◌, ℕ, ℤ, List, ◌++◌, Some, ap, ◌
 use Rattle.std.specs.Prelude.{IsTrue, Result, Ok, Err, IfOk}
 use Rattle.harmonics_text.specs.declared.book.Book.{Book}
 use Rattle.station_table.specs.declared.offsets.Offsets.{Offsets}
-use Rattle.tide_server.specs.Heads.{head_end}
+use Rattle.http_rows.specs.Heads.{head_end}
 use Rattle.tide_server.specs.Replies.{IsReply, reply_of}
-use Rattle.tide_server.specs.Responses.{fixed_of}
-use Rattle.tide_server.specs.Rows.{Row, rejects, asks, IsRow, is_settled}
-use Rattle.tide_server.proofs.RowLemmas.{one_row_at, settled_stays}
+use Rattle.http_rows.specs.Responses.{fixed_of}
+use Rattle.http_rows.specs.Rows.{Row, rejects, asks, IsRow, is_settled}
+use Rattle.http_rows.proofs.RowLemmas.{one_row_at, settled_stays}
 
 pub one_reply_to : (book : Book) (table : List Offsets) (minute : ℤ) (request a b : List ℕ) → IsReply book table minute request a
     → IsReply book table minute request b → a ≡ b

@@ -5,7 +5,7 @@ use Rattle.form_urlencoded.specs.Form.{raw_pairs, decode}
 use Rattle.question.specs.declared.origin.Origin.TheVariants.{Query}
 use Rattle.question.specs.declared.pairs.Item.{Item}
 use Rattle.question.specs.declared.pairs.Pairs.{Pairs}
-use Rattle.tide_server.specs.Rows.{Asking}
+use Rattle.http_rows.specs.Rows.{Asking}
 
 -- what a name or a value says: bytes that aren't UTF-8 become U+FFFD
 unfoldable pub said_by : List ℕ → List ℕ

@@ -19,11 +19,11 @@ use Rattle.tide_fault.specs.Faults.{line_of}
 use Rattle.named_files.specs.Readings.{zone_file}
 use Rattle.zone_time.specs.declared.zone.Zone.{Zone}
 use Rattle.zone_time.specs.declared.zone.Zone.TheVariants.{Utc, Fixed}
-use Rattle.tide_server.specs.declared.code.Code.{Code}
-use Rattle.tide_server.specs.declared.code.Code.TheVariants as code
+use Rattle.http_rows.specs.declared.code.Code.{Code}
+use Rattle.http_rows.specs.declared.code.Code.TheVariants as code
 use Rattle.tide_server.specs.Queries.{pairs_of}
-use Rattle.tide_server.specs.Responses.{response, rejection_of}
-use Rattle.tide_server.specs.Rows.{Row, rejects, asks, Asking, IsRow}
+use Rattle.http_rows.specs.Responses.{response, rejection_of}
+use Rattle.http_rows.specs.Rows.{Row, rejects, asks, Asking, IsRow}
 
 abbrev pub names_file : ZoneWord → Bool
 names_file word = is_some (zone_file word)

@@ -6,8 +6,8 @@ use Rattle.tide_edge.specs.Doors.{Doorway, DoorState, first_or_empty, left_after
 use Rattle.tide_edge.specs.Faults.{counted}
 use Rattle.tide_server.specs.declared.stock.Stock.{Stock}
 use Rattle.tide_server.specs.Replies.{IsReply}
-use Rattle.tide_server.specs.Responses.{fixed_of, unavailable_of}
-use Rattle.tide_server.specs.Rows.{Row, IsRow, is_settled}
+use Rattle.http_rows.specs.Responses.{fixed_of, unavailable_of}
+use Rattle.http_rows.specs.Rows.{Row, IsRow, is_settled}
 
 -- ---- One connection
 

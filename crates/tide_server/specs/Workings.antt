@@ -1,4 +1,3 @@
 pub mod Connections
 pub mod Ends
 pub mod Steps
-pub mod Views

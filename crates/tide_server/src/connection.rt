@@ -3,20 +3,18 @@
 ghost use Rattle.std.specs.Prelude.{◌≡◌, ◌==◌, ◌||◌, ℕ, List, Some, IsTrue, is_err};
 ghost use Rattle.tide_edge.specs.Clocks.{IsClockMinute};
 ghost use Rattle.tide_edge.specs.Doors.{just_taken};
-ghost use Rattle.tide_server.specs.Responses.{rejection_of, unavailable_to};
-ghost use Rattle.tide_server.specs.Rows.{is_settled};
+ghost use Rattle.http_rows.specs.Responses.{rejection_of, unavailable_to};
+ghost use Rattle.http_rows.specs.Rows.{is_settled};
 ghost use Rattle.tide_server.specs.Serving.{exchange};
 ghost use Rattle.tide_server.specs.Workings.Connections.{Closed, Replies, RowSent, SentBy, WentBy};
-ghost use Rattle.tide_server.specs.Workings.Views.{IsAskingRow, row_seen};
+ghost use Rattle.http_rows.specs.Workings.Views.{IsAskingRow, row_seen};
 
 use crate::http_reply::asking_reply;
-use crate::rejection::Rejection;
 use crate::request::Request;
-use crate::response::{write_rejection, write_unavailable};
-use crate::row::{Row, row_for};
 use crate::sent_text::send;
 use crate::stock::SoundStock;
 use arrayvec::ArrayString;
+use http_rows::{Rejection, Row, row_for, write_rejection, write_unavailable};
 use std::alloc::Global;
 use tide_edge::{Clock, Door, Failed};
 

@@ -6,41 +6,30 @@
 //! the words and the files, listens, and serves one connection after the other.
 #![tactic(auto)]
 
-mod asked;
-mod code;
 mod completeness;
 mod connection;
 mod connections;
-mod deciding;
-mod head;
-mod head_lines;
 mod http_reply;
 mod laws;
 mod limits;
 mod outage;
-mod path;
 mod query;
-mod rejection;
 mod request;
-mod response;
-mod row;
 mod sent_text;
 mod service;
 mod stock;
 mod stock_reading;
-mod target;
 mod worked;
 
-pub use code::Code;
 pub use completeness::{servers_are_complete, worked_servers};
-pub use deciding::{enough, fixed_reply, unavailable_reply};
 pub use http_reply::reply;
+pub use http_rows::{
+    Code, Path, Rejection, enough, fixed_reply, unavailable_reply, worked_replies, worked_rows,
+};
 pub use laws::{
     fixed_rows_reply, long_requests_are_settled, one_reply, one_row, queries_name_no_file,
     serve_in_memory, settled_replies_stay, settled_rows_stay,
 };
-pub use path::Path;
-pub use rejection::Rejection;
 pub use service::serve;
 pub use stock::Stock;
-pub use worked::{worked_answers, worked_queries, worked_replies, worked_rows};
+pub use worked::{worked_answers, worked_queries};

@@ -2,11 +2,11 @@
 
 ghost use Rattle.std.specs.Prelude.{◌≡◌, IfOk};
 ghost use Rattle.tide_server.specs.Queries.{item_of, items_of, pairs_of, said_by};
-ghost use Rattle.tide_server.specs.Workings.Views.{asking_seen};
+ghost use Rattle.http_rows.specs.Workings.Views.{asking_seen};
 
-use crate::asked::Asking;
 use decimal_text::Text;
 use form_urlencoded::{decode, raw_pairs};
+use http_rows::Asking;
 use question::{Item, Items, Origin, Pairs};
 use std::alloc::{AllocError, Global};
 

@@ -3,7 +3,7 @@
 ghost use Rattle.std.specs.Prelude.{IsTrue, is_err};
 ghost use Rattle.tide_server.specs.Workings.Connections.{SentBy};
 
-use crate::head_lines::rest_from;
+use http_rows::rest_from;
 use tide_edge::{Door, Failed};
 
 /// Sends all of a text over the open connection. It takes no memory.

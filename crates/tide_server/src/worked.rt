@@ -1,48 +1,11 @@
 //! Worked rows of the definitions that contracts cite.
 
-ghost use Rattle.std.specs.Prelude.{◌≡◌, ℤ, true, false, List, [], ◌∷◌, Some, None, codes};
+ghost use Rattle.std.specs.Prelude.{◌≡◌, ℤ, true, false, List, [], ◌∷◌, Some, codes};
 ghost use Rattle.harmonics_text.specs.declared.book.Book.{Book};
 ghost use Rattle.station_table.specs.declared.offsets.Offsets.{Offsets};
-ghost use Rattle.tide_server.specs.Heads.{head_length, head_of};
-ghost use Rattle.tide_server.specs.Paths.{path_named};
 ghost use Rattle.tide_server.specs.Queries.{items_of, said_by};
 ghost use Rattle.tide_server.specs.Replies.{reply_of};
-ghost use Rattle.tide_server.specs.Responses.{rejection_of};
-ghost use Rattle.tide_server.specs.Rows.{asks, path_of, query_of, length_in, field_rows, first_row};
-
-use crate::path::Path;
-use crate::rejection::Rejection;
-
-/// Checks the definitions at a few values.
-#[tactic(auto, unfolding(crate::specs::Heads::empty_line, crate::specs::Heads::head_length))]
-pub fn worked_rows()
-    ensures ended { head_length (codes "G / H\r\nA:b\r\n\r\nxy") ≡ Some 14 }
-    ensures bare { head_length (codes "G\n\nxy") ≡ Some 3 }
-    ensures unended { head_length (codes "G\r\n\r") ≡ None }
-    ensures path { path_of (codes "/predict?a=b?c") ≡ codes "/predict" }
-    ensures query { query_of (codes "/predict?a=b?c") ≡ codes "a=b?c" }
-    ensures no_query { query_of (codes "/stations") ≡ [] }
-    ensures two_lengths { length_in (head_of (codes "POST") (codes "/check") 0
-        ((codes "content-length", codes "5") ∷ (codes "Content-Length", codes "5") ∷ [])) ≡ None }
-    ensures coded { length_in (head_of (codes "POST") (codes "/check") 0
-        ((codes "content-length", codes "5") ∷ (codes "Transfer-Encoding", codes "chunked") ∷ [])) ≡ None }
-    ensures known { path_named (codes "/clock") ≡ Some Path.Clock }
-    ensures unknown { path_named (codes "/Clock") ≡ None }
-{}
-
-/// Checks the order of the rows at a few heads, and the bytes of a reply.
-pub fn worked_replies()
-    ensures host_first { first_row (field_rows (head_of (codes "PUT") (codes "/tides") 1 [])) ≡ Some Rejection.BadRequest }
-    ensures path_before_method { first_row (field_rows (head_of (codes "PUT") (codes "/tides") 0 [])) ≡ Some Rejection.NotFound }
-    ensures no_length { first_row (field_rows (head_of (codes "POST") (codes "/check") 0
-        ((codes "Transfer-Encoding", codes "chunked") ∷ []))) ≡ Some Rejection.LengthRequired }
-    ensures two_lengths { first_row (field_rows (head_of (codes "POST") (codes "/check") 0
-        ((codes "content-length", codes "5") ∷ (codes "Content-Length", codes "5") ∷ []))) ≡ Some Rejection.BadRequest }
-    ensures asks { first_row (field_rows (head_of (codes "HEAD") (codes "/clock?station=Pier") 1
-        ((codes "HOST", codes "a") ∷ []))) ≡ None }
-    ensures left_out { rejection_of Rejection.WantsPost true
-        ≡ codes "HTTP/1.1 405 Method Not Allowed\r\nContent-Type: text/plain; charset=utf-8\r\nContent-Length: 19\r\nAllow: POST\r\nConnection: close\r\n\r\n" }
-{}
+ghost use Rattle.http_rows.specs.Rows.{asks};
 
 /// Checks what a few queries say.
 pub fn worked_queries()

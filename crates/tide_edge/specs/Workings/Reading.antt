@@ -1,8 +1,8 @@
 -- Reading the open file on (this project).
-use Rattle.std.specs.Prelude.{◌≡◌, ◌≤◌, ◌+◌, ℕ, Bool, true, List, Option, Some, Result}
+use Rattle.std.specs.Prelude.{◌≡◌, ◌<◌, ◌≤◌, ◌+◌, ℕ, Bool, true, List, length, Option, Some, Result}
 use Rattle.decimal_text.specs.Expected.{Source, Meets}
 use Rattle.tide_edge.specs.Faults.{faults_after}
-use Rattle.tide_edge.specs.FileStates.{FilesState, Openings, just_opened}
+use Rattle.tide_edge.specs.FileStates.{FilesState, Opening, Openings, just_opened}
 use Rattle.tide_edge.specs.Whole.{as_came}
 use Rattle.tide_edge.specs.declared.piece.TheConstants.{PIECE}
 
@@ -25,3 +25,7 @@ HasCome source expected limit before after result =
     × (before.latest ≡ Some (just_opened true name))
     × (after ≡ record before { latest = Some (record { name = name; is_open = true; bytes = bytes; is_ended = is_ended }) })
     × Meets source (Unit {0}) (expected (as_came limit (record { name = name; is_open = true; bytes = bytes; is_ended = is_ended }))) result
+
+-- more than `limit` bytes came of the latest opening
+abbrev pub IsPassed : ℕ → Openings → Type 0
+IsPassed limit o = (opening : Opening) × (o.latest ≡ Some opening) × (limit < length opening.bytes)

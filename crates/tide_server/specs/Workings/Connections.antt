@@ -6,9 +6,9 @@ use Rattle.tide_edge.specs.Doors.{Connection, Connections, DoorState, append_to_
 use Rattle.tide_edge.specs.Faults.{faults_after}
 use Rattle.tide_server.specs.declared.stock.Stock.{Stock}
 use Rattle.tide_server.specs.Conversations.{IsReadEnough, IsServed, IsLeft}
-use Rattle.tide_server.specs.Responses.{fixed_of, unavailable_of}
+use Rattle.http_rows.specs.Responses.{fixed_of, unavailable_of}
 use Rattle.tide_server.specs.Replies.{reply_of}
-use Rattle.tide_server.specs.Rows.{Row, IsRow}
+use Rattle.http_rows.specs.Rows.{Row, IsRow}
 use Rattle.tide_server.specs.Serving.{Answers, AnswersUnlessCut, AsksUnlessCut, Exchange, IsEnough, IsReadAsNeeded, clock_failed}
 
 -- ---- Reading

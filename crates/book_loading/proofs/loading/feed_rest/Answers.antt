@@ -1,9 +1,9 @@
 use Rattle.std.proofs.lemmas.Grind.{pieces}
-use Rattle.std.proofs.Common.{ap, arith, Ok, Err, false, ◌∙◌}
+use Rattle.std.proofs.Common.{ap, arith, Ok, Err, false, refl, ◌∙◌}
 use Rattle.std.specs.Prelude.{◌==◌, ◌||◌}
 use Rattle.tide_edge.specs.Whole.{source_of, whole}
 use Rattle.tide_edge.specs.declared.read_all_fault.ReadAllFault.TheVariants.{TooLong}
-use Rattle.tide_edge.proofs.ReadingLemmas.{came_on, cut_came, ended_came, too_long_on}
+use Rattle.tide_edge.proofs.ReadingLemmas.{came_on, cut_came, ended_came, passed_on, too_long_on}
 use Rattle.book_loading.proofs.LoadingLemmas.{failed_meets}
 use Rattle.book_loading.proofs.loading.feed_rest.Goals as goal
 
@@ -66,3 +66,23 @@ returns-then-count-eq0-clause-came g c =
     at.openings.2
     (rw (← c.if-count-eq0.true) (ap (λ s. s.openings) c.in_ok-count.ensures.after))
     (ended_came c.args.limit at.openings.0 c.loop-count.reader.bytes (rw (← at.counted) at.within))
+
+pub returns-then-count-limit-clause-too_long : goal.returns-then-count-limit-clause-too_long
+returns-then-count-limit-clause-too_long g c =
+    let at = c.loop-count.invariant in (
+      λ is. passed_on
+          c.args.limit
+          c.in_ok-count.count
+          c.read.new.room
+          at.openings.0
+          c.loop-count.reader.bytes
+          (g.F.Files.state c.args.files.now).openings
+          (g.F.Files.state c.loop-count.files).openings
+          (g.F.Files.state c.read.new.self).openings
+          at.openings.2
+          (ap (λ s. s.openings) c.in_ok-count.ensures.after)
+          (search (pieces, arith))
+          (search (pieces, arith, at.within, at.counted))
+          (search (pieces, arith, at.counted)),
+      λ passed. refl,
+    )

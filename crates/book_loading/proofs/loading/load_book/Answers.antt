@@ -2,7 +2,7 @@ use Rattle.book_loading.proofs.LoadingLemmas.{unopened, loaded_opened}
 use Rattle.std.proofs.Common.{None, Err, ap, refl}
 use Rattle.book_loading.specs.Loading.{loaded, source_of}
 use Rattle.book_loading.specs.declared.loading.LoadFault.TheVariants.{Failed}
-use Rattle.tide_edge.proofs.ReadingLemmas.{opened_once, read_on_within, unopened_once, unopened_within}
+use Rattle.tide_edge.proofs.ReadingLemmas.{opened_once, passed_once, read_on_within, unopened_once, unopened_unpassed, unopened_within}
 use Rattle.decimal_text.specs.Expected.{is_outside_fault}
 use Rattle.book_loading.proofs.loading.load_book.Goals as goal
 
@@ -66,3 +66,25 @@ pub returns-clause-read : goal.returns-clause-read
 returns-clause-read g c =
     rw c.in-Err.ensures.after
     (unopened_within (Unit {0}) c.in-Err.field-0 c.args.limit c.args.name.now (g.F.Files.state c.args.files.now))
+
+pub returns-in-Ok-clause-too_long : goal.returns-in-Ok-clause-too_long
+returns-in-Ok-clause-too_long g c =
+    passed_once
+    _
+    source_of
+    (loaded c.args.limit)
+    c.args.limit
+    c.args.name.now
+    (g.F.Files.state c.args.files.now).openings
+    _
+    (g.F.Files.state c.load_rest.new.files).openings
+    c.load_rest.result
+    (ap (λ s. s.openings) c.in-Ok.ensures.after)
+    c.load_rest.ensures.came
+    c.load_rest.ensures.too_long
+
+pub returns-clause-too_long : goal.returns-clause-too_long
+returns-clause-too_long g c = (
+  λ is. absurd cc,
+  λ has. absurd (unopened_unpassed c.args.limit c.args.name.now (g.F.Files.state c.args.files.now).openings _ (ap (λ s. s.openings) c.in-Err.ensures.after) has),
+)

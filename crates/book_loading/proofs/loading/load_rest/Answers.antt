@@ -2,7 +2,7 @@ use Rattle.std.proofs.Common.{Some, Ok, Err, refl}
 use Rattle.harmonics_text.specs.declared.fault.BookFault.TheVariants as form
 use Rattle.book_loading.specs.declared.loading.LoadFault.TheVariants.{Book}
 use Rattle.std.proofs.lemmas.Result.{err_from_is_err_and}
-use Rattle.book_loading.proofs.LoadingLemmas.{excuses_reading, excuses_form, loaded_whole}
+use Rattle.book_loading.proofs.LoadingLemmas.{book_unlike, excuses_reading, excuses_form, fed_passed, fed_unpassed, loaded_whole}
 use Rattle.book_loading.specs.Loading.{loaded, source_of}
 use Rattle.tide_edge.proofs.ReadingLemmas.{come_as, unread_come}
 use Rattle.tide_edge.specs.Whole.{whole, source_of as source_of_reading}
@@ -82,3 +82,13 @@ returns-in_err-reader-clause-came g c =
     c.requires.fresh
     c.from_residual.ensures.1
     refl
+
+pub returns-in_err-fed-clause-too_long : goal.returns-in_err-fed-clause-too_long
+returns-in_err-fed-clause-too_long g c =
+    fed_passed _ _ c.from_residual-in_err-fed.result c.from_residual-in_err-fed.ensures.1 c.in_err-fed.ensures.too_long
+
+pub returns-in_err-book-clause-too_long : goal.returns-in_err-book-clause-too_long
+returns-in_err-book-clause-too_long g c =
+    fed_unpassed _ c.from_residual-in_err-book.result
+    (book_unlike _ c.from_residual-in_err-book.result c.from_residual-in_err-book.ensures.1)
+    c.in_ok-fed.ensures.too_long

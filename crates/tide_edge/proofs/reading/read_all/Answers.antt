@@ -2,7 +2,7 @@ use Rattle.std.proofs.Common.{refl, ap, Err}
 use Rattle.tide_edge.specs.declared.read_all_fault.ReadAllFault.TheVariants.{Failed}
 use Rattle.decimal_text.specs.Expected.{is_outside_fault}
 use Rattle.tide_edge.specs.Whole.{source_of, whole}
-use Rattle.tide_edge.proofs.ReadingLemmas.{opened_once, read_on_whole, read_on_within, unopened_once, unopened_within}
+use Rattle.tide_edge.proofs.ReadingLemmas.{opened_once, passed_once, read_on_whole, read_on_within, unopened_once, unopened_unpassed, unopened_within}
 use Rattle.tide_edge.proofs.reading.read_all.Goals as goal
 
 pub returns-in-Ok-clause-whole : goal.returns-in-Ok-clause-whole
@@ -64,3 +64,25 @@ returns-clause-came g c =
     (Err Failed)
     (ap (λ s. s.openings) c.in-Err.ensures.after)
     (λ firm. refl)
+
+pub returns-in-Ok-clause-too_long : goal.returns-in-Ok-clause-too_long
+returns-in-Ok-clause-too_long g c =
+    passed_once
+    _
+    source_of
+    (whole c.args.limit)
+    c.args.limit
+    c.args.name.now
+    (g.F.Files.state c.args.files.now).openings
+    _
+    (g.F.Files.state c.read_rest.new.files).openings
+    c.read_rest.result
+    (ap (λ s. s.openings) c.in-Ok.ensures.after)
+    c.read_rest.ensures.came
+    c.read_rest.ensures.too_long
+
+pub returns-clause-too_long : goal.returns-clause-too_long
+returns-clause-too_long g c = (
+  λ is. absurd cc,
+  λ has. absurd (unopened_unpassed c.args.limit c.args.name.now (g.F.Files.state c.args.files.now).openings _ (ap (λ s. s.openings) c.in-Err.ensures.after) has),
+)

@@ -1,8 +1,8 @@
 use Rattle.std.proofs.lemmas.Grind.{pieces}
-use Rattle.std.proofs.Common.{ap, arith, Err, false}
+use Rattle.std.proofs.Common.{ap, arith, Err, false, refl}
 use Rattle.std.specs.Prelude.{◌==◌, ◌||◌}
 use Rattle.tide_edge.specs.Whole.{source_of, whole}
-use Rattle.tide_edge.proofs.ReadingLemmas.{came_on, memory_met, too_long_on}
+use Rattle.tide_edge.proofs.ReadingLemmas.{came_on, memory_met, passed_on, too_long_on}
 use Rattle.tide_edge.specs.declared.read_all_fault.ReadAllFault.TheVariants.{TooLong}
 use Rattle.tide_edge.proofs.reading.read_rest.Goals as goal
 
@@ -54,3 +54,23 @@ returns-in_err-extend_from_slice-clause-came g c =
     at.openings.2
     (ap (λ s. s.openings) c.in_ok-count.ensures.after)
     (memory_met _ _ c.from_residual-in_err-extend_from_slice.ensures.1)
+
+pub returns-then-count-limit-clause-too_long : goal.returns-then-count-limit-clause-too_long
+returns-then-count-limit-clause-too_long g c =
+    let at = c.loop-bytes.invariant in (
+      λ is. passed_on
+          c.args.limit
+          c.in_ok-count.count
+          c.read.new.room
+          at.openings.0
+          c.loop-bytes.bytes.items
+          (g.F.Files.state c.args.files.now).openings
+          (g.F.Files.state c.loop-bytes.files).openings
+          (g.F.Files.state c.read.new.self).openings
+          at.openings.2
+          (ap (λ s. s.openings) c.in_ok-count.ensures.after)
+          (search (pieces, arith))
+          (search (pieces, arith, at.within))
+          (search (pieces, arith)),
+      λ passed. refl,
+    )

@@ -1,8 +1,8 @@
 use Rattle.std.proofs.Common.{◌≡◌, ◌≢◌, ◌∙◌, [], false, true, arith, refl, sym}
 use Rattle.std.specs.Prelude.{◌==◌, ◌||◌, is_err}
 use Rattle.std.proofs.lemmas.Grind.{common_steps}
-use Rattle.tide_server.specs.Rows.{is_settled}
-use Rattle.tide_server.specs.Workings.Views.{row_seen}
+use Rattle.http_rows.specs.Rows.{is_settled}
+use Rattle.http_rows.specs.Workings.Views.{row_seen}
 use Rattle.tide_server.proofs.AnswerLemmas.{went_by_row, went_silent, went_unread}
 use Rattle.tide_server.proofs.ConnectionLemmas.{OneMore, all_read, few, goes_on, has_failed, has_read, none_came, not_enough, not_settled, over_none, over_row, read_none, row_found, still_open, still_open_after, unsettled}
 use Rattle.tide_server.proofs.connection.answer_connection.Goals as goal

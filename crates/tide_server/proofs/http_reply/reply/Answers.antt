@@ -1,7 +1,7 @@
 use Rattle.std.proofs.Common.{w64, FitsSigned}
 use Rattle.std.proofs.lemmas.Int.{to_z-of_z}
-use Rattle.tide_server.specs.Rows.{rejects, asks}
-use Rattle.tide_server.specs.Workings.Views.{asking_seen}
+use Rattle.http_rows.specs.Rows.{rejects, asks}
+use Rattle.http_rows.specs.Workings.Views.{asking_seen}
 use Rattle.tide_server.proofs.ReplyLemmas.{row_replies}
 use Rattle.tide_server.proofs.http_reply.reply.Goals as goal
 

@@ -1,4 +1,4 @@
-use Rattle.tide_server.proofs.RowLemmas.{long_settled}
+use Rattle.http_rows.proofs.RowLemmas.{long_settled}
 use Rattle.tide_server.proofs.laws.long_requests_are_settled.Goals as goal
 
 pub returns : goal.returns

@@ -1,5 +1,5 @@
-use Rattle.tide_server.specs.Heads.{head_end}
-use Rattle.tide_server.proofs.RowLemmas.{one_row_at}
+use Rattle.http_rows.specs.Heads.{head_end}
+use Rattle.http_rows.proofs.RowLemmas.{one_row_at}
 use Rattle.tide_server.proofs.laws.one_row.Goals as goal
 
 pub returns : goal.returns

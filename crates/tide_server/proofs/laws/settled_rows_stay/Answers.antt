@@ -1,4 +1,4 @@
-use Rattle.tide_server.proofs.RowLemmas.{settled_stays}
+use Rattle.http_rows.proofs.RowLemmas.{settled_stays}
 use Rattle.tide_server.proofs.laws.settled_rows_stay.Goals as goal
 
 pub returns : goal.returns

@@ -9,7 +9,7 @@ use Rattle.question.specs.Questions.{question_of, with_item, with_items}
 use Rattle.tide_fault.specs.Faults.{ask_line, line_of}
 use Rattle.tide_server.specs.Queries.{said_by}
 use Rattle.tide_server.specs.Replies.{asking_reply, question_reply}
-use Rattle.tide_server.specs.Responses.{status_of}
+use Rattle.http_rows.specs.Responses.{status_of}
 use Rattle.tide_server.proofs.worked.worked_answers.Goals as goal
 
 pub returns-clause-none_asked : goal.returns-clause-none_asked

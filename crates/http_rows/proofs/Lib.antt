@@ -1,0 +1,4 @@
+pub mod EndLemmas
+pub mod HeadLemmas
+pub mod LineLemmas
+pub mod RowLemmas

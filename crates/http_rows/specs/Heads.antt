@@ -1,0 +1,71 @@
+-- The head of a request: where it ends, and what the server reads of it (RFC 9112, sections 2 to 6).
+use Rattle.std.specs.Prelude.{◌≡◌, ℕ, ◌+◌, ◌<◌, ◌≤◌, ◌==◌, ◌&&◌, if◌then◌else◌, List, [], ◌∷◌, length, take, map, filter, count_by, Option, Some, None, is_some, codes}
+use Rattle.std.specs.List.{starts_with}
+use Rattle.std.specs.Option.{option_map}
+use Rattle.std.specs.Str.{str_eq_ignore_ascii_case}
+use Rattle.httparse.specs.Ascii.{line_feed, crlf_bytes}
+use Rattle.httparse.specs.Grammar.{RequestHead, ReadsRequest}
+use Rattle.httparse.specs.Spans.{name_and_value}
+use Rattle.http_rows.specs.declared.limits.TheConstants.{MOST_FIELDS, MOST_HEAD}
+
+-- how long the empty line at the front is: LF, or CR LF
+unfoldable pub empty_line : List ℕ → Option ℕ
+empty_line bytes =
+    if starts_with (λ a b. a == b) bytes (line_feed ∷ []) then Some 1
+    else (if starts_with (λ a b. a == b) bytes crlf_bytes then Some 2 else None)
+
+-- how long the head is: it ends with the empty line that directly follows the first LF which one follows
+unfoldable pub head_length : List ℕ → Option ℕ
+head_length [] = None
+head_length (b ∷ bytes) =
+    option_map (λ n. n + 1) (if b == line_feed && is_some (empty_line bytes) then empty_line bytes else head_length bytes)
+
+-- the head of a request ends within the most bytes that it may have
+abbrev pub head_end : List ℕ → Option ℕ
+head_end request = head_length (take MOST_HEAD request)
+
+abbrev pub line_feeds : List ℕ → ℕ
+line_feeds bytes = count_by (λ b. b == line_feed) bytes
+
+-- how many fields have a name, and the value of the first of them
+pub record Occurs : Type 0 where
+  pub count : ℕ
+  pub first : List ℕ
+
+-- the values of the fields of that name, which is compared without regard to ASCII case
+abbrev pub values_of : List ℕ → List (List ℕ × List ℕ) → List (List ℕ)
+values_of name fields = map (λ f. f.1) (filter (λ f. str_eq_ignore_ascii_case f.0 name) fields)
+
+abbrev pub first_or_empty : List (List ℕ) → List ℕ
+first_or_empty [] = []
+first_or_empty (value ∷ more) = value
+
+abbrev pub occurs : List ℕ → List (List ℕ × List ℕ) → Occurs
+occurs name fields =
+    record { count = length (values_of name fields); first = first_or_empty (values_of name fields) }
+
+-- what the server reads of a head
+pub record Head : Type 0 where
+  pub method : List ℕ
+  pub target : List ℕ
+  pub minor : ℕ
+  pub host : Occurs
+  pub content_length : Occurs
+  pub transfer_coding : Occurs
+
+abbrev pub head_of : List ℕ → List ℕ → ℕ → List (List ℕ × List ℕ) → Head
+head_of method target minor fields = record {
+  method = method;
+  target = target;
+  minor = minor;
+  host = occurs (codes "host") fields;
+  content_length = occurs (codes "content-length") fields;
+  transfer_coding = occurs (codes "transfer-encoding") fields;
+}
+
+-- What bytes read as: the head of the crate's grammar that they are to their last byte, unless it has too many fields.
+abbrev pub ReadsAs : List ℕ → Option Head → Type 0
+ReadsAs bytes None = (h : RequestHead) → ReadsRequest bytes h [] → MOST_FIELDS < length h.fields
+ReadsAs bytes (Some head) =
+    (h : RequestHead) × ReadsRequest bytes h [] × (length h.fields ≤ MOST_FIELDS)
+    × (head ≡ head_of h.method h.target h.minor (map name_and_value h.fields))

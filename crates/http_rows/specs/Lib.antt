@@ -1,0 +1,5 @@
+pub mod Heads
+pub mod Paths
+pub mod Responses
+pub mod Rows
+pub mod Workings

@@ -1,0 +1,32 @@
+-- The paths of the server, each for GET and HEAD or for POST (this project).
+use Rattle.std.specs.Prelude.{ℕ, Bool, true, false, List, [], ◌∷◌, Option, codes}
+use Rattle.std.specs.List.{find}
+use Rattle.std.specs.Str.{bytes_eq}
+use Rattle.http_rows.specs.declared.path.Path.{Path}
+use Rattle.http_rows.specs.declared.path.Path.TheVariants.{Predict, Certify, Heights, Calendar, Clock, Stations, Check}
+
+abbrev pub text_of : Path → List ℕ
+text_of Predict = codes "/predict"
+text_of Certify = codes "/certify"
+text_of Heights = codes "/heights"
+text_of Calendar = codes "/calendar"
+text_of Clock = codes "/clock"
+text_of Stations = codes "/stations"
+text_of Check = codes "/check"
+
+abbrev pub all_paths : List Path
+all_paths = Predict ∷ Certify ∷ Heights ∷ Calendar ∷ Clock ∷ Stations ∷ Check ∷ []
+
+-- the path of a text, if it is known
+abbrev pub path_named : List ℕ → Option Path
+path_named text = find (λ path. bytes_eq (text_of path) text) all_paths
+
+-- whether a path is for POST; the others are for GET and HEAD
+abbrev pub is_posted : Path → Bool
+is_posted Check = true
+is_posted Predict = false
+is_posted Certify = false
+is_posted Heights = false
+is_posted Calendar = false
+is_posted Clock = false
+is_posted Stations = false

@@ -1,0 +1,89 @@
+-- The bytes of a response (RFC 9112, sections 4 and 6; RFC 9110, sections 8, 10 and 15).
+use Rattle.std.specs.Prelude.{ℕ, Bool, if◌then◌else◌, List, [], ◌++◌, length, codes, decimal, Option, Some, None}
+use Rattle.http_rows.specs.Rows.{Row, rejects, asks}
+use Rattle.http_rows.specs.declared.code.Code.{Code}
+use Rattle.http_rows.specs.declared.code.Code.TheVariants as code
+use Rattle.http_rows.specs.declared.rejection.Rejection.{Rejection}
+use Rattle.http_rows.specs.declared.rejection.Rejection.TheVariants.{HeadTooLarge, HeadCutShort, BadRequest, NotFound, WantsGet, WantsPost, LengthRequired, BodyTooLarge, BodyCutShort}
+
+-- a status code and its phrase
+unfoldable pub status_of : Code → List ℕ
+status_of code.Success = codes "200 OK"
+status_of code.BadRequest = codes "400 Bad Request"
+status_of code.NotFound = codes "404 Not Found"
+status_of code.MethodNotAllowed = codes "405 Method Not Allowed"
+status_of code.LengthRequired = codes "411 Length Required"
+status_of code.ContentTooLarge = codes "413 Content Too Large"
+status_of code.Unprocessable = codes "422 Unprocessable Content"
+status_of code.FieldsTooLarge = codes "431 Request Header Fields Too Large"
+status_of code.Unavailable = codes "503 Service Unavailable"
+
+-- the head of a response of a type, for a body of a length, with a line that names the methods allowed or none
+abbrev pub response_head : Code → List ℕ → List ℕ → ℕ → List ℕ
+response_head code kind allow size =
+    codes "HTTP/1.1 " ++ status_of code
+    ++ codes "\r\nContent-Type: " ++ kind ++ codes "; charset=utf-8\r\nContent-Length: " ++ decimal size ++ codes "\r\n"
+    ++ allow
+    ++ codes "Connection: close\r\n\r\n"
+
+-- a response with its body or without it; the length is the body's
+abbrev pub response : Code → List ℕ → List ℕ → List ℕ → Bool → List ℕ
+response code kind allow body bodiless = response_head code kind allow (length body) ++ (if bodiless then [] else body)
+
+-- ---- the fixed rows
+
+unfoldable pub code_of : Rejection → Code
+code_of HeadTooLarge = code.FieldsTooLarge
+code_of HeadCutShort = code.BadRequest
+code_of BadRequest = code.BadRequest
+code_of NotFound = code.NotFound
+code_of WantsGet = code.MethodNotAllowed
+code_of WantsPost = code.MethodNotAllowed
+code_of LengthRequired = code.LengthRequired
+code_of BodyTooLarge = code.ContentTooLarge
+code_of BodyCutShort = code.BadRequest
+
+unfoldable pub body_of : Rejection → List ℕ
+body_of HeadTooLarge = codes "header fields too large\n"
+body_of HeadCutShort = codes "bad request\n"
+body_of BadRequest = codes "bad request\n"
+body_of NotFound = codes "not found\n"
+body_of WantsGet = codes "method not allowed\n"
+body_of WantsPost = codes "method not allowed\n"
+body_of LengthRequired = codes "length required\n"
+body_of BodyTooLarge = codes "content too large\n"
+body_of BodyCutShort = codes "bad request\n"
+
+unfoldable pub allow_of : Rejection → List ℕ
+allow_of WantsGet = codes "Allow: GET, HEAD\r\n"
+allow_of WantsPost = codes "Allow: POST\r\n"
+allow_of HeadTooLarge = []
+allow_of HeadCutShort = []
+allow_of BadRequest = []
+allow_of NotFound = []
+allow_of LengthRequired = []
+allow_of BodyTooLarge = []
+allow_of BodyCutShort = []
+
+-- the reply of a fixed row
+abbrev pub rejection_of : Rejection → Bool → List ℕ
+rejection_of rejection bodiless =
+    response (code_of rejection) (codes "text/plain") (allow_of rejection) (body_of rejection) bodiless
+
+-- the reply of a row that is fixed
+abbrev pub fixed_of : Row → Option (List ℕ)
+fixed_of (rejects rejection bodiless) = Some (rejection_of rejection bodiless)
+fixed_of (asks asking) = None
+
+-- ---- want of memory
+
+abbrev pub is_bodiless : Row → Bool
+is_bodiless (rejects rejection bodiless) = bodiless
+is_bodiless (asks asking) = asking.bodiless
+
+-- the reply that stands for any other one where memory is wanting
+abbrev pub unavailable_to : Bool → List ℕ
+unavailable_to bodiless = response code.Unavailable (codes "text/plain") [] (codes "no memory\n") bodiless
+
+abbrev pub unavailable_of : Row → List ℕ
+unavailable_of row = unavailable_to (is_bodiless row)

@@ -1,0 +1,152 @@
+-- Which row of the table of statuses answers a request (RFC 9110, sections 9 and 15; RFC 9112, sections 2, 3 and 6; the paths
+-- and the order are this project's).
+use Rattle.std.specs.Prelude.{◌≡◌, ℕ, ◌+◌, ◌==◌, nat_lt, nat_le, Bool, true, false, not, ◌&&◌, ◌||◌, if◌then◌else◌, List, [], ◌∷◌, ◌++◌, length, take, drop, Option, Some, None, is_none, unwrap_or, codes}
+use Rattle.std.specs.List.{position_or_len, starts_with}
+use Rattle.std.specs.Option.{option_map_or}
+use Rattle.std.specs.Str.{bytes_eq}
+use Rattle.decimal_text.specs.Digits.{digits_of}
+use Rattle.http_rows.specs.Heads.{Head, head_end, line_feeds, ReadsAs}
+use Rattle.http_rows.specs.Paths.{is_posted, path_named}
+use Rattle.http_rows.specs.declared.limits.TheConstants.{MOST_BODY, MOST_DIGITS, MOST_HEAD, MOST_LINES}
+use Rattle.http_rows.specs.declared.path.Path.{Path}
+use Rattle.http_rows.specs.declared.rejection.Rejection.{Rejection}
+use Rattle.http_rows.specs.declared.rejection.Rejection.TheVariants.{HeadTooLarge, HeadCutShort, BadRequest, NotFound, WantsGet, WantsPost, LengthRequired, BodyTooLarge, BodyCutShort}
+
+-- the path is what stands before the first `?`, and the query is what stands behind it
+abbrev pub path_of : List ℕ → List ℕ
+path_of target = take (position_or_len (λ b. b == 63) target) target
+
+abbrev pub query_of : List ℕ → List ℕ
+query_of target = drop (position_or_len (λ b. b == 63) target + 1) target
+
+abbrev pub path_in : Head → Option Path
+path_in head = path_named (path_of head.target)
+
+abbrev pub wants_get : Head → Bool
+wants_get head = option_map_or (λ path. not (is_posted path)) (path_in head) false
+
+abbrev pub wants_post : Head → Bool
+wants_post head = option_map_or is_posted (path_in head) false
+
+abbrev pub is_head : Head → Bool
+is_head head = bytes_eq head.method (codes "HEAD")
+
+abbrev pub is_read : Head → Bool
+is_read head = bytes_eq head.method (codes "GET") || is_head head
+
+abbrev pub is_post : Head → Bool
+is_post head = bytes_eq head.method (codes "POST")
+
+-- how long the body is to be: one field says it by digits alone, and no transfer coding says it otherwise
+abbrev pub length_in : Head → Option ℕ
+length_in head =
+    if nat_lt 1 head.content_length.count || nat_lt 0 head.transfer_coding.count then None
+    else digits_of MOST_DIGITS head.content_length.first
+
+abbrev pub length_of : Head → ℕ
+length_of head = unwrap_or (length_in head) 0
+
+-- ---- the table, in its order
+
+-- of a request whose head hasn't ended
+abbrev pub unended_rows : List ℕ → List (Bool × Rejection)
+unended_rows request =
+    (nat_le MOST_HEAD (length request), HeadTooLarge)
+    ∷ (true, HeadCutShort)
+    ∷ []
+
+-- of a head that has ended, and of what it reads as
+abbrev pub head_rows : List ℕ → Option Head → List (Bool × Rejection)
+head_rows bytes read =
+    (nat_lt MOST_LINES (line_feeds bytes), HeadTooLarge)
+    ∷ (is_none read, BadRequest)
+    ∷ []
+
+-- of what the head says
+abbrev pub field_rows : Head → List (Bool × Rejection)
+field_rows head =
+    (nat_lt 1 head.host.count || (head.minor == 1 && (head.host.count == 0)), BadRequest)
+    ∷ (not (starts_with (λ a b. a == b) head.target (codes "/")), BadRequest)
+    ∷ (is_none (path_in head), NotFound)
+    ∷ (wants_get head && not (is_read head), WantsGet)
+    ∷ (wants_post head && not (is_post head), WantsPost)
+    ∷ (is_post head && (head.content_length.count == 0), LengthRequired)
+    ∷ (is_post head && is_none (length_in head), BadRequest)
+    ∷ (is_post head && nat_lt MOST_BODY (length_of head), BodyTooLarge)
+    ∷ []
+
+-- of the bytes behind the head
+abbrev pub body_rows : Head → List ℕ → List (Bool × Rejection)
+body_rows head rest =
+    (is_post head && nat_lt (length rest) (length_of head), BodyCutShort)
+    ∷ []
+
+-- the first row whose condition holds
+abbrev pub first_row : List (Bool × Rejection) → Option Rejection
+first_row [] = None
+first_row (row ∷ rows) = if row.0 then Some row.1 else first_row rows
+
+-- ---- the row that answers
+
+-- what is asked of the tables: by the path, the query and the body, and whether the reply leaves its body out
+pub record Asking : Type 0 where
+  pub path : List ℕ
+  pub query : List ℕ
+  pub body : List ℕ
+  pub bodiless : Bool
+
+-- A fixed row rejects a request, with or without the reply's body. Behind these rows the request asks.
+pub data Row : Type 0 where
+  rejects : Rejection → Bool → Row
+  asks : Asking → Row
+
+abbrev pub asking : Head → List ℕ → Asking
+asking head rest = record {
+  path = path_of head.target;
+  query = query_of head.target;
+  body = (if is_post head then take (length_of head) rest else []);
+  bodiless = is_head head;
+}
+
+-- a reply to HEAD leaves its body out once the head was read
+abbrev pub field_row : Option Rejection → Head → List ℕ → Row
+field_row (Some rejection) head rest = rejects rejection (is_head head)
+field_row None head rest = asks (asking head rest)
+
+abbrev pub head_row : Option Rejection → Option Head → List ℕ → Row
+head_row (Some rejection) read rest = rejects rejection false
+head_row None None rest = rejects BadRequest false
+head_row None (Some head) rest = field_row (first_row (field_rows head ++ body_rows head rest)) head rest
+
+-- of a head that has ended
+abbrev pub ended_row : List ℕ → Option Head → List ℕ → Row
+ended_row bytes read rest = head_row (first_row (head_rows bytes read)) read rest
+
+-- of a request whose head hasn't ended
+abbrev pub unended_row : List ℕ → Row
+unended_row request = head_row (first_row (unended_rows request)) None []
+
+-- The row of a request, by where its head ends.
+abbrev pub IsRowAt : Option ℕ → List ℕ → Row → Type 0
+IsRowAt None request row = row ≡ unended_row request
+IsRowAt (Some end) request row =
+    (read : Option Head) × ReadsAs (take end request) read × (row ≡ ended_row (take end request) read (drop end request))
+
+abbrev pub IsRow : List ℕ → Row → Type 0
+IsRow request row = IsRowAt (head_end request) request row
+
+-- Whether more bytes of the request can't change the row: neither its head nor its body was cut short.
+abbrev pub is_settled_by : Rejection → Bool
+is_settled_by HeadCutShort = false
+is_settled_by BodyCutShort = false
+is_settled_by HeadTooLarge = true
+is_settled_by BadRequest = true
+is_settled_by NotFound = true
+is_settled_by WantsGet = true
+is_settled_by WantsPost = true
+is_settled_by LengthRequired = true
+is_settled_by BodyTooLarge = true
+
+abbrev pub is_settled : Row → Bool
+is_settled (rejects rejection bodiless) = is_settled_by rejection
+is_settled (asks asking) = true

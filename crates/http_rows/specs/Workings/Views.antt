@@ -1,0 +1,39 @@
+-- What the server's own types are in the definitions, and what is known of them (this project).
+use Rattle.std.specs.Prelude.{◌≤◌, length}
+use Rattle.http_rows.specs.Heads as heads
+use Rattle.http_rows.specs.Paths.{text_of}
+use Rattle.http_rows.specs.Rows as rows
+use Rattle.http_rows.specs.declared.asked.Asking.{Asking}
+use Rattle.http_rows.specs.declared.head.Head.{Head}
+use Rattle.http_rows.specs.declared.head.Occurs.{Occurs}
+use Rattle.http_rows.specs.declared.row.Row.{Row}
+use Rattle.http_rows.specs.declared.limits.TheConstants.{MOST_BODY}
+use Rattle.http_rows.specs.declared.row.Row.TheVariants.{Rejects, Asks}
+
+abbrev pub occurs_seen : Occurs → heads.Occurs
+occurs_seen o = record { count = o.count; first = o.first.now }
+
+abbrev pub head_seen : Head → heads.Head
+head_seen h = record {
+  method = h.method.now;
+  target = h.target.now;
+  minor = h.minor;
+  host = occurs_seen h.host;
+  content_length = occurs_seen h.content_length;
+  transfer_coding = occurs_seen h.transfer_coding;
+}
+
+abbrev pub asking_seen : Asking → rows.Asking
+asking_seen a = record { path = text_of a.path; query = a.query.now; body = a.body.now; bodiless = a.bodiless }
+
+abbrev pub row_seen : Row → rows.Row
+row_seen (Rejects rejection bodiless) = rows.rejects rejection bodiless
+row_seen (Asks asking) = rows.asks (asking_seen asking)
+
+-- what is asked stands behind the fixed rows
+abbrev pub IsAsking : rows.Asking → Type 0
+IsAsking a = length a.body ≤ MOST_BODY
+
+abbrev pub IsAskingRow : rows.Row → Type 0
+IsAskingRow (rows.rejects rejection bodiless) = Unit {0}
+IsAskingRow (rows.asks asking) = IsAsking asking

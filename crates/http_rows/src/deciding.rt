@@ -1,0 +1,40 @@
+//! What a request's bytes decide by themselves.
+
+ghost use Rattle.std.specs.Prelude.{◌≡◌, [], is_some, unwrap_or};
+ghost use Rattle.http_rows.specs.Responses.{fixed_of, unavailable_of};
+ghost use Rattle.http_rows.specs.Rows.{is_settled, IsRow};
+ghost use Rattle.http_rows.specs.Rows as rows;
+
+use crate::responses::{write_rejection, write_unavailable};
+use crate::row::{Row, row_for};
+use arrayvec::ArrayString;
+
+/// Whether the bytes of a request that came so far settle its reply. It takes no memory.
+pub fn enough(request: &[u8]) -> bool
+    ensures { (row : rows.Row) × IsRow request.now row × (result ≡ is_settled row) }
+{
+    row_for(request).is_settled()
+}
+
+/// Writes the reply to the whole of a request, if it is one that needs no answer of the predictor. It takes no memory.
+pub fn fixed_reply(request: &[u8], out: &mut ArrayString<256>) -> bool
+    requires { out.old.bytes ≡ [] }
+    ensures { (row : rows.Row) × IsRow request.now row
+        × (result ≡ is_some (fixed_of row)) × (out.new.bytes ≡ unwrap_or (fixed_of row) []) }
+{
+    match row_for(request) {
+        Row::Rejects(rejection, bodiless) => {
+            write_rejection(rejection, bodiless, out);
+            true
+        }
+        Row::Asks(_) => false,
+    }
+}
+
+/// Writes the reply that stands for another one where memory is wanting. It takes no memory.
+pub fn unavailable_reply(request: &[u8], out: &mut ArrayString<256>)
+    requires { out.old.bytes ≡ [] }
+    ensures { (row : rows.Row) × IsRow request.now row × (out.new.bytes ≡ unavailable_of row) }
+{
+    write_unavailable(row_for(request).is_bodiless(), out);
+}

@@ -1,0 +1,58 @@
+//! The lines of a request's head.
+
+ghost use Rattle.std.specs.Prelude.{◌≡◌, ◌≤◌, length, drop, IfSome};
+ghost use Rattle.http_rows.specs.Heads.{empty_line, head_length, head_end, line_feeds};
+
+use crate::limits::MOST_HEAD;
+
+/// How long the empty line at the front is.
+#[tactic(auto, unfolding(crate::specs::Heads::empty_line))]
+fn empty_line(bytes: &[u8]) -> Option<usize>
+    ensures value { result ≡ empty_line bytes.now }
+    ensures within { IfSome result (λ n. n ≤ length bytes.now) }
+{
+    if bytes.starts_with(b"\n".as_slice()) {
+        Some(1)
+    } else if bytes.starts_with(b"\r\n".as_slice()) {
+        Some(2)
+    } else {
+        None
+    }
+}
+
+/// The bytes from an index on.
+pub fn rest_from(bytes: &[u8], at: usize) -> &[u8]
+    requires { at ≤ length bytes.now }
+    ensures { result.now ≡ drop at bytes.now }
+{
+    &bytes[at..]
+}
+
+/// How long the head is that the bytes begin with.
+fn head_length(bytes: &[u8]) -> Option<usize>
+    ensures value { result ≡ head_length bytes.now }
+    ensures within { IfSome result (λ n. n ≤ length bytes.now) }
+{
+    for at in 0..bytes.len() {
+        if bytes[at] == b'\n'
+            && let Some(more) = empty_line(rest_from(bytes, at + 1))
+        {
+            return Some(at + 1 + more);
+        }
+    }
+    None
+}
+
+/// How long the head of a request is, if it ends within its first bytes.
+pub(crate) fn head_end(request: &[u8]) -> Option<usize>
+    ensures value { result ≡ head_end request.now }
+    ensures within { IfSome result (λ n. n ≤ length request.now) }
+{
+    head_length(&request[..request.len().min(MOST_HEAD)])
+}
+
+pub(crate) fn line_feeds(bytes: &[u8]) -> usize
+    ensures { result ≡ line_feeds bytes.now }
+{
+    bytes.iter().filter(|b| **b == b'\n').count()
+}

@@ -1,0 +1,67 @@
+//! The paths that are known.
+
+/// A path that is known.
+#[derive(Clone, Copy, Debug, PartialEq, Eq)]
+pub enum Path {
+    Predict,
+    Certify,
+    Heights,
+    Calendar,
+    Clock,
+    Stations,
+    Check,
+}
+
+static PATHS: [Path; 7] = [
+    Path::Predict,
+    Path::Certify,
+    Path::Heights,
+    Path::Calendar,
+    Path::Clock,
+    Path::Stations,
+    Path::Check,
+];
+
+impl Path {
+    ghost use Rattle.std.specs.Prelude.{◌≡◌, drop, IfSome};
+    ghost use Rattle.http_rows.specs.Paths.{is_posted, path_named, text_of};
+
+    fn text(self) -> &'static str
+        ensures { result.now ≡ text_of self }
+    {
+        match self {
+            Path::Predict => "/predict",
+            Path::Certify => "/certify",
+            Path::Heights => "/heights",
+            Path::Calendar => "/calendar",
+            Path::Clock => "/clock",
+            Path::Stations => "/stations",
+            Path::Check => "/check",
+        }
+    }
+
+    /// The path of that text, if it is known.
+    pub(crate) fn named(text: &[u8]) -> Option<Path>
+        ensures named { result ≡ path_named text.now }
+        ensures same { IfSome result (λ path. text_of path ≡ text.now) }
+    {
+        PATHS
+            .iter()
+            .copied()
+            .find(|path| path.text().as_bytes() == text)
+    }
+
+    /// The command that it names, which is its text without the `/`.
+    pub fn command(self) -> &'static str
+        ensures { result.now ≡ drop 1 (text_of self) }
+    {
+        &self.text()[1..]
+    }
+
+    /// Whether it is for POST; else it is for GET and HEAD.
+    pub(crate) fn is_posted(self) -> bool
+        ensures { result ≡ is_posted self }
+    {
+        matches!(self, Path::Check)
+    }
+}

@@ -1,0 +1,158 @@
+//! Responses written.
+
+ghost use Rattle.std.specs.Prelude.{◌≡◌, ◌≤◌, ◌+◌, ◌++◌, [], length, codes, decimal, IfOk};
+ghost use Rattle.arrayvec.specs.ArrayString.{array_string_len};
+ghost use Rattle.http_rows.specs.Responses.{status_of, code_of, body_of, allow_of, response_head, response, rejection_of, unavailable_to};
+
+use crate::code::Code;
+use crate::rejection::Rejection;
+use arrayvec::ArrayString;
+use decimal_text::Bytes;
+use itoa::Buffer;
+use std::alloc::{AllocError, Global};
+
+#[tactic(auto, unfolding(crate::specs::Responses::status_of))]
+fn status_of(code: Code) -> &'static str
+    ensures text { result.now ≡ status_of code }
+    ensures short { length result.now ≤ 35 }
+{
+    match code {
+        Code::Success => "200 OK",
+        Code::BadRequest => "400 Bad Request",
+        Code::NotFound => "404 Not Found",
+        Code::MethodNotAllowed => "405 Method Not Allowed",
+        Code::LengthRequired => "411 Length Required",
+        Code::ContentTooLarge => "413 Content Too Large",
+        Code::Unprocessable => "422 Unprocessable Content",
+        Code::FieldsTooLarge => "431 Request Header Fields Too Large",
+        Code::Unavailable => "503 Service Unavailable",
+    }
+}
+
+#[tactic(auto, unfolding(crate::specs::Responses::code_of))]
+fn code_of(rejection: Rejection) -> Code
+    ensures { result ≡ code_of rejection }
+{
+    match rejection {
+        Rejection::HeadTooLarge => Code::FieldsTooLarge,
+        Rejection::HeadCutShort | Rejection::BadRequest | Rejection::BodyCutShort => {
+            Code::BadRequest
+        }
+        Rejection::NotFound => Code::NotFound,
+        Rejection::WantsGet | Rejection::WantsPost => Code::MethodNotAllowed,
+        Rejection::LengthRequired => Code::LengthRequired,
+        Rejection::BodyTooLarge => Code::ContentTooLarge,
+    }
+}
+
+#[tactic(auto, unfolding(crate::specs::Responses::body_of))]
+fn body_of(rejection: Rejection) -> &'static str
+    ensures text { result.now ≡ body_of rejection }
+    ensures short { length result.now ≤ 24 }
+{
+    match rejection {
+        Rejection::HeadTooLarge => "header fields too large\n",
+        Rejection::HeadCutShort | Rejection::BadRequest | Rejection::BodyCutShort => {
+            "bad request\n"
+        }
+        Rejection::NotFound => "not found\n",
+        Rejection::WantsGet | Rejection::WantsPost => "method not allowed\n",
+        Rejection::LengthRequired => "length required\n",
+        Rejection::BodyTooLarge => "content too large\n",
+    }
+}
+
+#[tactic(auto, unfolding(crate::specs::Responses::allow_of))]
+fn allow_of(rejection: Rejection) -> &'static str
+    ensures text { result.now ≡ allow_of rejection }
+    ensures short { length result.now ≤ 18 }
+{
+    match rejection {
+        Rejection::WantsGet => "Allow: GET, HEAD\r\n",
+        Rejection::WantsPost => "Allow: POST\r\n",
+        _ => "",
+    }
+}
+
+fn push_number(number: usize, out: &mut ArrayString<256>)
+    requires { array_string_len out.old + 40 ≤ 256 }
+    ensures bytes { out.new.bytes ≡ out.old.bytes ++ decimal number }
+    ensures short { array_string_len out.new ≤ array_string_len out.old + 40 }
+{
+    let mut buffer = Buffer::new();
+    out.push_str(buffer.format(number));
+}
+
+/// Writes the head of a response for a body of so many bytes.
+fn write_head(code: Code, kind: &str, allow: &str, size: usize, out: &mut ArrayString<256>)
+    requires empty { out.old.bytes ≡ [] }
+    requires kind { length kind.now ≤ 10 }
+    requires allow { length allow.now ≤ 18 }
+    ensures bytes { out.new.bytes ≡ response_head code kind.now allow.now size }
+    ensures short { array_string_len out.new ≤ 184 }
+{
+    out.push_str("HTTP/1.1 ");
+    out.push_str(status_of(code));
+    out.push_str("\r\nContent-Type: ");
+    out.push_str(kind);
+    out.push_str("; charset=utf-8\r\nContent-Length: ");
+    push_number(size, out);
+    out.push_str("\r\n");
+    out.push_str(allow);
+    out.push_str("Connection: close\r\n\r\n");
+}
+
+/// Writes a response of plain text.
+fn write_plain(code: Code, allow: &str, body: &str, bodiless: bool, out: &mut ArrayString<256>)
+    requires empty { out.old.bytes ≡ [] }
+    requires allow { length allow.now ≤ 18 }
+    requires body { length body.now ≤ 24 }
+    ensures { out.new.bytes ≡ response code (codes "text/plain") allow.now body.now bodiless }
+{
+    write_head(code, "text/plain", allow, body.len(), out);
+    if !bodiless {
+        out.push_str(body);
+    }
+}
+
+/// Writes the reply of a fixed row.
+pub fn write_rejection(rejection: Rejection, bodiless: bool, out: &mut ArrayString<256>)
+    requires { out.old.bytes ≡ [] }
+    ensures { out.new.bytes ≡ rejection_of rejection bodiless }
+{
+    write_plain(
+        code_of(rejection),
+        allow_of(rejection),
+        body_of(rejection),
+        bodiless,
+        out,
+    );
+}
+
+/// Writes the reply that stands for another one where memory is wanting.
+pub fn write_unavailable(bodiless: bool, out: &mut ArrayString<256>)
+    requires { out.old.bytes ≡ [] }
+    ensures { out.new.bytes ≡ unavailable_to bodiless }
+{
+    write_plain(Code::Unavailable, "", "no memory\n", bodiless, out);
+}
+
+/// A response with its body, or with the head alone.
+pub fn response(
+    alloc: Global,
+    code: Code,
+    kind: &str,
+    body: &[u8],
+    bodiless: bool,
+) -> Result<Bytes, AllocError>
+    requires { length kind.now ≤ 10 }
+    ensures { IfOk result (λ bytes. bytes ≡ response code kind.now [] body.now bodiless) }
+{
+    let mut head = ArrayString::<256>::new();
+    write_head(code, kind, "", body.len(), &mut head);
+    let mut bytes = head.as_bytes().to_vec(alloc)?;
+    if !bodiless {
+        bytes.extend_from_slice(body)?;
+    }
+    Ok(Bytes::from_vec(bytes))
+}

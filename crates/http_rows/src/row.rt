@@ -1,0 +1,90 @@
+//! The row of the table that answers a request.
+
+ghost use Rattle.std.specs.Prelude.{◌≡◌, Option};
+ghost use Rattle.http_rows.specs.Heads as heads;
+ghost use Rattle.http_rows.specs.Rows as rows;
+ghost use Rattle.http_rows.specs.Workings.Views.{IsAskingRow, row_seen};
+
+use crate::asked::{Asking, asked};
+use crate::head::{is_head, read_head};
+use crate::head_lines::{head_end, line_feeds};
+use crate::limits::{MOST_HEAD, MOST_LINES};
+use crate::rejection::Rejection;
+
+/// The row of the table that answers a request.
+#[derive(Clone, Copy, Debug)]
+pub enum Row<'a> {
+    /// A fixed one, and whether the reply leaves its body out.
+    Rejects(Rejection, bool),
+    /// One behind the fixed rows, by what is asked.
+    Asks(Asking<'a>),
+}
+
+impl Row<'_> {
+    ghost use Rattle.std.specs.Prelude.{◌≡◌};
+    ghost use Rattle.http_rows.specs.Responses.{is_bodiless};
+    ghost use Rattle.http_rows.specs.Rows.{is_settled};
+    ghost use Rattle.http_rows.specs.Workings.Views.{row_seen};
+
+    /// Whether more bytes of the request can't change it.
+    pub fn is_settled(&self) -> bool
+        ensures { result ≡ is_settled (row_seen self.now) }
+    {
+        match self {
+            Row::Rejects(rejection, _) => rejection.is_settled(),
+            Row::Asks(_) => true,
+        }
+    }
+
+    /// Whether the reply leaves its body out.
+    pub fn is_bodiless(&self) -> bool
+        ensures { result ≡ is_bodiless (row_seen self.now) }
+    {
+        match self {
+            Row::Rejects(_, bodiless) => *bodiless,
+            Row::Asks(asking) => asking.bodiless,
+        }
+    }
+}
+
+/// The row that answers the whole request.
+pub fn row_for(request: &[u8]) -> Row<'_>
+    ensures row { rows.IsRow request.now (row_seen result) }
+    ensures known { IsAskingRow (row_seen result) }
+{
+    match head_end(request) {
+        Some(end) => {
+            let (bytes, rest) = request.split_at(end);
+            ended_row(bytes, rest)
+        }
+        None => unended_row(request),
+    }
+}
+
+fn unended_row(request: &[u8]) -> Row<'_>
+    ensures { row_seen result ≡ rows.unended_row request.now }
+{
+    if request.len() < MOST_HEAD {
+        Row::Rejects(Rejection::HeadCutShort, false)
+    } else {
+        Row::Rejects(Rejection::HeadTooLarge, false)
+    }
+}
+
+fn ended_row<'a>(bytes: &'a [u8], rest: &'a [u8]) -> Row<'a>
+    ensures row { (read : Option heads.Head) × heads.ReadsAs bytes.now read
+        × (row_seen result ≡ rows.ended_row bytes.now read rest.now) }
+    ensures known { IsAskingRow (row_seen result) }
+{
+    let read = read_head(bytes);
+    if line_feeds(bytes) > MOST_LINES {
+        return Row::Rejects(Rejection::HeadTooLarge, false);
+    }
+    let Some(head) = read else {
+        return Row::Rejects(Rejection::BadRequest, false);
+    };
+    match asked(&head, rest) {
+        Ok(asking) => Row::Asks(asking),
+        Err(rejection) => Row::Rejects(rejection, is_head(&head)),
+    }
+}

@@ -1,0 +1,30 @@
+//! What a request's target names.
+
+ghost use Rattle.std.specs.Prelude.{◌≡◌, ◌==◌, position};
+ghost use Rattle.http_rows.specs.Rows.{path_of, query_of};
+
+/// The path of a target.
+pub(crate) fn path_of(target: &[u8]) -> &[u8]
+    ensures { result.now ≡ path_of target.now }
+{
+    match question_mark(target) {
+        Some(at) if at < target.len() => &target[..at],
+        _ => target,
+    }
+}
+
+/// The query of a target, which is empty where it has none.
+pub(crate) fn query_of(target: &[u8]) -> &[u8]
+    ensures { result.now ≡ query_of target.now }
+{
+    match question_mark(target) {
+        Some(at) if at < target.len() => &target[at + 1..],
+        _ => &[],
+    }
+}
+
+fn question_mark(target: &[u8]) -> Option<usize>
+    ensures { result ≡ position (λ b. b == 63) target.now }
+{
+    target.iter().position(|b| *b == b'?')
+}
