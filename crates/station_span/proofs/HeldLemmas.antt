@@ -1,5 +1,5 @@
 -- What a station that was found says, in the words of the definitions.
-use Rattle.std.proofs.Common.{◌≡◌, ℕ, ◌<◌, ◌^◌, ℤ, pos, ◌+ℤ◌, ◌-ℤ◌, ◌≤ℤ◌, ◌<ℤ◌, unsigned_abs, length, Bool, IsTrue, List, All, Option, refl, sym, subst, ap, ◌∙◌, arith}
+use Rattle.std.proofs.Common.{◌≡◌, ◌<◌, ◌^◌, ℤ, pos, ◌-ℤ◌, ◌≤ℤ◌, ◌<ℤ◌, unsigned_abs, IsTrue, List, All, Option, refl, sym, subst, ap, ◌∙◌, arith}
 use Rattle.std.proofs.lemmas.Int.{ints}
 use Rattle.curve_law.specs.declared.cell.Cell.{Cell}
 use Rattle.curve_law.specs.declared.event.Event.{Event}
@@ -7,9 +7,8 @@ use Rattle.station_span.specs.declared.following.FoundEvents.{FoundEvents}
 use Rattle.event_list.specs.declared.span.Span.{Span}
 use Rattle.event_list.specs.Events.{cells_in, covers_of, merged_of}
 use Rattle.event_text.specs.Lines.{IsListed}
-use Rattle.event_list.specs.Shifts.{IsMovable, greatest_add, least_add, shifted_of, widened_of}
+use Rattle.event_list.specs.Shifts.{IsMovable, shifted_of, widened_of}
 use Rattle.rate_bound.specs.declared.version.Version.TheVariants.{Second}
-use Rattle.station_curve.specs.Curves.{PredictsOver}
 use Rattle.station_table.specs.Bases.{is_equal, is_plain}
 use Rattle.year_blend.specs.Places.{InDomain}
 use Rattle.station_span.specs.declared.found.Found.{Found}
@@ -18,7 +17,7 @@ use Rattle.station_span.specs.declared.reach.Reach.TheVariants.{Events, Levels, 
 use Rattle.station_span.specs.Following.{cells_of, events_of, tracks_of}
 use Rattle.station_span.specs.Levels.{is_rising_at, level_at}
 use Rattle.station_span.specs.Sites.{moved, reached}
-use Rattle.station_span.specs.Workings.Curves.{AreMerged, HasMinutes, IsReady, followed_tide, tide_cells}
+use Rattle.station_span.specs.Workings.Curves.{AreMerged, HasMinutes, IsReady, followed_tide}
 use Rattle.station_span.specs.Workings.Finds.{AreLooked, AreReferences, HasPeak, IsLooked, IsSiteList, site_of, tide_of_found}
 use Rattle.station_span.specs.Workings.Levels.{HasLevel, is_tide_rising, source_of, tide_level}
 use Rattle.station_span.specs.Workings.Spans.{IsFound}

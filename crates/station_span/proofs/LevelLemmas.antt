@@ -6,7 +6,7 @@ use Rattle.std.proofs.lemmas.Int.{ints, fold-int_max_bounds, fold-int_min_bounds
 use Rattle.std.proofs.lemmas.Nat.{le-div}
 use Rattle.curve_law.proofs.CoverLemmas.{by_test}
 use Rattle.decimal_text.specs.Rounding.{half_up, rounded_of}
-use Rattle.event_list.specs.Shifts.{greatest_add, least_add, scaled, slack_adds, widened_of}
+use Rattle.event_list.specs.Shifts.{greatest_add, least_add, scaled, slack_adds}
 use Rattle.harmonics_text.specs.declared.book.Book.{Book}
 use Rattle.station_curve.specs.Curves.{PredictsOver}
 use Rattle.station_curve.specs.Schureman.{predicted_level, predicted_millionths}
@@ -19,7 +19,7 @@ use Rattle.year_blend.specs.Weights.{total_weight}
 use Rattle.zone_time.specs.Zones.{InZoneYears}
 use Rattle.station_span.specs.declared.asked.Asked.{Asked}
 use Rattle.station_span.specs.declared.reach.Reach.{Reach}
-use Rattle.station_span.specs.declared.reach.Reach.TheVariants.{Events, Levels}
+use Rattle.station_span.specs.declared.reach.Reach.TheVariants.{Levels}
 use Rattle.station_span.specs.Workings.Tides.{SiteTide}
 use Rattle.station_span.specs.Levels.{level_at, level_in, is_rising_at}
 use Rattle.station_span.specs.Sites.{Site, moved, reached}

@@ -1,5 +1,5 @@
 -- The certificate that is written of a station's tracks.
-use Rattle.std.proofs.Common.{◌≡◌, ℕ, ◌^◌, ◌<◌, ◌≤◌, ℤ, Bool, true, false, List, [], length, Option, Some, None, is_some, option_map, Ok, All, refl, ap, ◌∙◌, inr, arith}
+use Rattle.std.proofs.Common.{◌≡◌, ℕ, ◌^◌, ◌<◌, ◌≤◌, ℤ, Bool, true, false, List, [], length, Option, Some, None, is_some, option_map, Ok, All, refl, inr, arith}
 use Rattle.std.specs.Prelude.{unsigned_abs, IfSome, unwrap_or}
 use Rattle.std.specs.Option.{ForSome}
 use Rattle.std.proofs.lemmas.Int.{ints}
@@ -14,9 +14,8 @@ use Rattle.curve_law.specs.declared.tracks.Tracks.{Tracks}
 use Rattle.curve_law.specs.declared.verdict.Verdict.TheVariants.{Accepted}
 use Rattle.curve_law.specs.Meaning.{Meaning, IsSpan}
 use Rattle.curve_law.specs.Verdicts.{verdict}
-use Rattle.curve_law.proofs.AgreeLemmas.{cover-agrees}
 use Rattle.event_list.specs.declared.span.Span.{Span}
-use Rattle.event_list.specs.Events.{Followed, IsKnown, AreAccepted, IsAccepted, AgreeIfFollowed, AllAgree, minutes_in, cover_over, covers_of, cell_count, cells_in}
+use Rattle.event_list.specs.Events.{Followed, IsKnown, AreAccepted, IsAccepted, minutes_in, cover_over, covers_of, cell_count, cells_in}
 use Rattle.event_list.specs.Shifts.{widened_of}
 use Rattle.event_list.proofs.EventLemmas.{covers-accepted}
 use Rattle.harmonics_text.specs.declared.book.Book.{Book}
@@ -32,11 +31,10 @@ use Rattle.station_span.specs.declared.asked.Asked.{Asked}
 use Rattle.station_span.specs.declared.reach.Reach.TheVariants.{Events}
 use Rattle.station_span.specs.Workings.Tides.{SiteTide}
 use Rattle.tide_answer.specs.Answers.{certified}
-use Rattle.station_span.specs.Following.{if_asked, followed_by, tracks_of, cells_of}
+use Rattle.station_span.specs.Following.{if_asked, tracks_of, cells_of}
 use Rattle.station_span.specs.Sites.{Site, site_in}
 use Rattle.tide_answer.specs.Workings.Certifying.{certificate_in}
 use Rattle.station_span.specs.Workings.Curves.{followed_tide, IsReady}
-use Rattle.station_span.specs.Workings.Spans.{IsFound}
 use Rattle.station_cells.proofs.CellLemmas.{IsOf, accepted_track, few_track, usual_track}
 use Rattle.station_span.proofs.FollowLemmas.{ready_known, few_cells}
 use Rattle.station_span.proofs.MovableLemmas.{millionths_small}

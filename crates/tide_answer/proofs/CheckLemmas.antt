@@ -23,7 +23,6 @@ use Rattle.event_list.specs.Order.{ordered}
 use Rattle.event_list.specs.Shifts.{IsMovable, widened_of, moved_within, shifted_of}
 use Rattle.event_list.proofs.EventLemmas.{events_of as events_in, events-parts, shifted-events}
 use Rattle.harmonics_text.specs.declared.book.Book.{Book}
-use Rattle.harmonics_text.specs.declared.book.Units.{Units}
 use Rattle.rate_bound.specs.declared.version.Version.{Version}
 use Rattle.rate_bound.specs.declared.version.Version.TheVariants.{Second}
 use Rattle.rate_bound.specs.Meanings.{mark_meaning}

@@ -1,6 +1,5 @@
 -- What the answers of a highest water come to: its text, the certificate that is written, and one that is read.
-use Rattle.std.proofs.Common.{◌≡◌, ℕ, ◌+◌, ◌<◌, ◌≤◌, ◌^◌, ℤ, ◌+ℤ◌, List, [], ◌∷◌, map, length, length-append, Ok, refl, sym, ap, ◌∙◌, arith}
-use Rattle.std.proofs.lemmas.Int.{ints}
+use Rattle.std.proofs.Common.{◌≡◌, ℕ, ◌+◌, ◌<◌, ◌≤◌, ◌^◌, List, [], ◌∷◌, map, length, length-append, Ok, refl, sym, ap, ◌∙◌, arith}
 use Rattle.std.proofs.lemmas.List.{length-map}
 use Rattle.cert_text.specs.Certificates.{IsStationName}
 use Rattle.cert_text.specs.Lines.{last_line}
@@ -9,12 +8,8 @@ use Rattle.decimal_text.specs.declared.limits.TheConstants.{MOST_BYTES}
 use Rattle.harmonics_text.specs.declared.book.Book.{Book}
 use Rattle.highest_water.specs.declared.certificate.PeakCertificate.{PeakCertificate}
 use Rattle.highest_water.specs.declared.peak.Peak.{Peak}
-use Rattle.highest_water.specs.declared.verdict.PeakVerdict.TheVariants.{Accepted}
 use Rattle.highest_water.specs.PeakTexts.{IsPeakCertificate, cell_lines_of, peak_cell_line_of, peak_head_lines_of, peak_lines_of, peak_text}
-use Rattle.station_curve.specs.Limits.{IsGentle}
 use Rattle.station_table.specs.declared.offsets.Offsets.{Offsets}
-use Rattle.zone_time.specs.declared.zone.Zone.{Zone}
-use Rattle.station_span.specs.declared.asked.Asked.{Asked}
 use Rattle.station_span.specs.declared.found.Found.{Found}
 use Rattle.station_span.specs.Peaks.{highest_of, highest_site, highest_verdict}
 use Rattle.station_span.specs.Sites.{Site}

@@ -1,5 +1,5 @@
 -- What is ready for a question by its steps.
-use Rattle.std.proofs.Common.{◌≡◌, ℕ, Bool, true, false, ◌&&◌, if◌then◌else◌, IsTrue, List, Option, Some, None, Ok, Err, refl, sym}
+use Rattle.std.proofs.Common.{◌≡◌, ℕ, Bool, true, false, ◌&&◌, if◌then◌else◌, IsTrue, List, Option, Some, None, Ok, Err, refl}
 use Rattle.decimal_text.specs.Expected.{◌>>=◌, Excused}
 use Rattle.harmonics_text.specs.declared.book.Book.{Book}
 use Rattle.question.specs.declared.command.Command.{Command}

@@ -1,4 +1,4 @@
-use Rattle.std.proofs.Common.{refl, ◌∙◌}
+use Rattle.std.proofs.Common.{◌∙◌}
 use Rattle.station_span.proofs.HeldLemmas.{site_list}
 use Rattle.station_span.proofs.following.find_events.Goals as goal
 

@@ -1,4 +1,4 @@
-use Rattle.std.proofs.Common.{refl, ◌∙◌}
+use Rattle.std.proofs.Common.{refl}
 use Rattle.station_span.proofs.HeldLemmas.{cells_for, few_for, plain_for, tracks_are}
 use Rattle.station_span.proofs.following.merge_of.Goals as goal
 
