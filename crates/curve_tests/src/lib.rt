@@ -24,8 +24,14 @@ mod reports;
 #[cfg(test)]
 mod sheets;
 #[cfg(test)]
+mod sines;
+#[cfg(test)]
 mod sizes;
+#[cfg(test)]
+mod slope_bounds;
 #[cfg(test)]
 mod stations;
 #[cfg(test)]
 mod year_lists;
+#[cfg(test)]
+mod years;

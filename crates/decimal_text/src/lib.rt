@@ -39,6 +39,3 @@ pub use text::Text;
 pub use whole::{are_digits, digits, digits_value, wide_digits, wide_digits_value};
 pub use words::Words;
 pub use writing::write;
-
-#[cfg(test)]
-mod tests;

@@ -25,6 +25,3 @@ pub use near::{CHORD_ERROR, chord_sine};
 pub use rate::step;
 pub use sine::{icos, isin};
 pub use turn::{QUARTER_TURN, turn_of, turn_sine};
-
-#[cfg(test)]
-mod tests;

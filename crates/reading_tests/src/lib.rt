@@ -10,6 +10,8 @@ mod asking;
 #[cfg(test)]
 mod certificates;
 #[cfg(test)]
+mod decimals;
+#[cfg(test)]
 mod edge;
 #[cfg(test)]
 mod faults;
@@ -21,6 +23,8 @@ mod loading;
 mod offsets;
 #[cfg(test)]
 mod peak_texts;
+#[cfg(test)]
+mod samples;
 #[cfg(test)]
 mod sizes;
 #[cfg(test)]

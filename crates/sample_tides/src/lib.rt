@@ -16,6 +16,3 @@ mod worked;
 
 pub use file::sample;
 pub use worked::{worked_draws, worked_lines};
-
-#[cfg(test)]
-mod tests;

@@ -14,6 +14,3 @@ pub use laws::{predicted_agreements, table_checks};
 pub use station_gaps::agreement;
 pub use unit_gaps::unit_gap;
 pub use worked::{worked_agreements, worked_gaps, worked_unit_gaps};
-
-#[cfg(test)]
-mod tests;

@@ -22,6 +22,3 @@ pub use parts::{Place, Stretch};
 pub use spanning::{LONGEST_SPAN, stretch};
 pub use weights::{TOTAL_WEIGHT, weight, weight_slope};
 pub use years::year_start;
-
-#[cfg(test)]
-mod tests;

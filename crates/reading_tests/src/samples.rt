@@ -1,4 +1,4 @@
-use super::*;
+use sample_tides::*;
 use std::test::Fail;
 
 /// The line of that number, counted from 1.

@@ -1,5 +1,5 @@
-use super::*;
 use harmonics_text::read_book;
+use slope_agreement::*;
 use station_curve::StationCurve;
 use std::alloc::Global;
 use std::test::Fail;

@@ -1,4 +1,4 @@
-use super::*;
+use fixed_sine::*;
 
 #[test]
 fn sines_and_cosines(rt: HostRuntime) {

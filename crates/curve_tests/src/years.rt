@@ -1,4 +1,4 @@
-use super::*;
+use year_blend::*;
 
 #[test]
 fn starts_of_years(rt: HostRuntime) {

@@ -1,5 +1,5 @@
-use super::*;
 use arrayvec::ArrayString;
+use decimal_text::*;
 use std::test::Fail;
 
 #[test]
