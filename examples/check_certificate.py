@@ -1,6 +1,6 @@
 #!/usr/bin/env python3
-"""Checks a certificate by docs/CERTIFICATES.md and prints the first line of what `tide check` prints, or `tide peakcheck`
-where its first line is `peak certificate 1`, over constants and a table that are in order.
+"""Checks a certificate by docs/CERTIFICATES.md and prints the first line of the answer of `tide check` or, if the text
+begins with `peak certificate 1`, of `tide peakcheck`. The constants and the table have to be without fault.
 
 check_certificate.py file=CONSTANTS certificate=C [offsets=TABLE]
 """
@@ -19,13 +19,13 @@ class NotACertificate(Exception):
 
 
 class Rejected(Exception):
-    """What is wrong with the cells."""
+    """The fault of the cells."""
 
 
 # ---- the text
 
 def number(text, most):
-    """The number that a text writes, at most so large in size, or None."""
+    """The number that a text writes, up to a greatest size, or None."""
     if not re.fullmatch('0|-?[1-9][0-9]*', text) or len(text) > 40 or abs(int(text)) > most:
         return None
     return int(text)
@@ -97,7 +97,7 @@ class Text:
 
 
 class Certificate(Text):
-    """What the text of a certificate of events says."""
+    """The contents of a certificate of events."""
 
     def __init__(self, data):
         super().__init__(data)
@@ -128,7 +128,7 @@ class Certificate(Text):
 
 
 class PeakCertificate(Text):
-    """What the text of a certificate of a highest water says."""
+    """The contents of a certificate of a highest water."""
 
     def __init__(self, data):
         super().__init__(data)
@@ -172,7 +172,7 @@ def check(constants, table, certificate):
 # ---- the highest water
 
 def is_under(track, a, minutes, at, value):
-    """Whether the end values and the rate leave a stretch no room: before `at` for the value, behind it for a greater."""
+    """Whether the end values and the rate exclude a value as great in a stretch before `at`, or a greater one after it."""
     rate = track.rate(a, minutes)
     if a <= at < a + minutes or rate is None:
         return False

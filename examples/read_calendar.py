@@ -1,5 +1,5 @@
 #!/usr/bin/env python3
-"""Prints what a calendar holds, one line an event, as the package icalendar takes it in (Debian: python3-icalendar).
+"""Prints a line for each event of a calendar, as the package icalendar reads it (Debian: python3-icalendar).
 
 read_calendar.py CALENDAR
 """
@@ -10,7 +10,7 @@ from icalendar import Calendar
 
 
 def events(text):
-    """The start and the summary of each event; none where there is no text."""
+    """The start and the summary of each event; none if the text is empty."""
     calendar = Calendar.from_ical(text) if text else Calendar()
     return [(event['dtstart'].dt, event['summary']) for event in calendar.walk('VEVENT')]
 

@@ -3,7 +3,7 @@
 
 tide_client.py station=NAME begin=2025-06-01T00:00 end=2025-06-08T00:00 zone=America/New_York [mark=4] [server=URL]
 
-It prints the events of a station as tab-separated rows. Here begin and end are read on the zone's clock.
+It prints the events of a station as tab-separated rows. `begin` and `end` are local times of the zone.
 """
 
 import csv
@@ -20,7 +20,7 @@ import zoneinfo
 
 
 class Row(typing.NamedTuple):
-    """An event of a station, or with '' for its event a height."""
+    """An event of a station, or a height, whose `event` is ''."""
     time: datetime.datetime
     event: str
     level: decimal.Decimal
@@ -55,7 +55,7 @@ class Client:
             raise Refusal(fault.code, fault.read().decode(errors='replace').strip()) from None
 
     def stations(self):
-        """All stations but those whose reference is missing. A name may have parentheses, so a reference is one of the file's."""
+        """All stations whose reference is in the file. A name may have parentheses, so a reference is found by the file's names."""
         lines = [it.split(' ', 2) for it in self.text('stations').split('\n')[:-1]]
         own = {text for kind, _, text in lines if kind == 'Ref'}
         for kind, units, text in lines:

@@ -40,12 +40,12 @@ class Refused(Exception):
 # ---- numbers, moments and files
 
 def tokens(line):
-    """What stands between spaces and tabs."""
+    """The parts between spaces and tabs."""
     return re.findall('[^ \t]+', line)
 
 
 def decimal(text, places):
-    """The number that a decimal denotes, times 10 to so many places."""
+    """The value of a decimal, times 10 to the power of `places`."""
     whole, _, fraction = text.lstrip('+-').partition('.')
     size = int(whole or '0') * 10 ** places + int(fraction[:places].ljust(places, '0') or '0')
     return -size if text.startswith('-') else size
@@ -214,7 +214,7 @@ class Curve:
 # ---- tracks
 
 class Track:
-    """The slope where `times` is None, else `times` levels and `plus` more."""
+    """The slope if `times` is None, else the level times `times` plus `plus`."""
 
     def __init__(self, curve, version, kinds, times=None, plus=0):
         self.curve, self.version, self.kinds, self.times = curve, version, kinds, times
@@ -254,7 +254,7 @@ class Track:
 # ---- questions
 
 def settled(constants, table, name, begin, end, adds_of, may_be_empty=True):
-    """The curve, the offsets, and the first and the last of the reference's minutes, by the adds that count."""
+    """The curve, the offsets, and the first and the last of the reference's minutes, by the adds that are used."""
     record, offsets = find(constants, table, name)
     curve = Curve(constants, record)
     if curve.unit == 'knots^2':

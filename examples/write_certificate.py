@@ -1,5 +1,5 @@
 #!/usr/bin/env python3
-"""Writes a certificate by docs/CERTIFICATES.md, with the longest quiet cell that it finds from each minute on.
+"""Writes a certificate by docs/CERTIFICATES.md, with the longest quiet cell that it finds at each minute.
 
 write_certificate.py file=CONSTANTS station=S begin=A end=B [mark=M] [offsets=TABLE] [version=1]
 """
@@ -10,7 +10,7 @@ from tide_numbers import Constants, Refused, asked, decimal, moment
 
 
 def longest_quiet(track, a, most):
-    """The minutes of a quiet cell from a minute on, or 1: more by twice as many each time, and then by half as many."""
+    """The minutes of a quiet cell at a minute, or 1. The length grows by steps that double, and then by steps that halve."""
     minutes, more = 1, 1
     while minutes + more <= most and track.is_quiet(a, minutes + more):
         minutes, more = minutes + more, 2 * more

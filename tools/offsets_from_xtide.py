@@ -4,8 +4,8 @@
 offsets_from_xtide.py xml=OFFSETS.XML [file=CONSTANTS] [version=1] > TABLE
 
 With `file`, stations whose reference isn't in that file of harmonic constants, or has another unit, are left out.
-Version 2, the usual one, has the times of slack water of their own that currents may have; version 1 hasn't.
-What is left out is counted on standard error.
+Version 2, the default, keeps the slack times of currents that have their own; version 1 doesn't. Standard error has the
+number of stations that are left out, by the reason.
 """
 
 import collections
@@ -26,7 +26,7 @@ class LeftOut(Exception):
 
 
 def plain(text):
-    """A value without its entities; an ampersand that begins none is one."""
+    """A value without its entities; an ampersand that begins no entity is kept."""
     return ENTITY.sub(lambda found: ENTITIES.get(found[1]) or chr(int(found[2])), text)
 
 
@@ -81,7 +81,7 @@ def decimal(text, least, most, why):
 
 
 def row(station, found, units):
-    """The values by their columns; slack times are empty where the station has none."""
+    """The values by their columns; slack times are empty if the station has none."""
     made = {'name': name(station.get('name')), 'reference': name(station.get('reference'))}
     unit = units.get(made['reference']) if units else None
     if units and not unit:

@@ -1,4 +1,4 @@
-"""What the checks of a built program share: running it, starting it as a server, and reporting each check."""
+"""The common part of the checks of a built program: running it, starting it as a server, and reporting each check."""
 import os
 import pathlib
 import select
@@ -40,7 +40,7 @@ class Report:
             print(text.encode('ascii', 'backslashreplace').decode(), flush=True)
 
     def check(self, name, body, again=None):
-        """Makes a check, which returns what is wrong, or nothing. One that fails is put on the list `again`, if there is one."""
+        """Makes a check, which returns its fault, or nothing. A check that fails is put on the list `again`, if there is one."""
         try:
             seen = body()
         except Skipped as why:

@@ -1,4 +1,4 @@
-"""Checks of single runs of a built program: what it prints, its statuses, and the files and streams that it is given."""
+"""Checks of single runs of a built program: its output, its statuses, its files and its streams."""
 import datetime
 import errno
 import fcntl
@@ -18,12 +18,12 @@ WORDS = ('predict', 'file=pier.txt', 'station=Pier', 'begin=2000-01-10T00:00Z', 
 PIER = ('Pier\n2000-01-10 06:00 UTC      -1.00 feet  Low Tide\n2000-01-10 11:59 UTC       1.00 feet  High Tide\n'
         '2000-01-10 18:00 UTC      -1.00 feet  Low Tide\n2000-01-10 23:59 UTC       1.00 feet  High Tide\n').encode()
 MOST_FILE, MOST_ZONE = 67_108_864, 1_048_576
-# What a program may use of memory here; the file below takes more.
+# The memory that a program may use here; the file below takes more.
 FEW_MEGABYTES = (32, 48, 64)
 
 
 def recorded():
-    """The runs that are written down: arguments, status, standard output, standard error."""
+    """The recorded runs: arguments, status, standard output, standard error."""
     runs = []
     for line in RUNS.read_text(encoding='utf-8').splitlines():
         sign, rest = line[:1], line[2:]
@@ -82,7 +82,7 @@ def not_utf_8(place):
 
 
 def clock_lines(text, begun):
-    """What is wrong in the lines of `clock` at a tide that is the same each day."""
+    """The fault in the lines of `clock`, at a tide that is the same each day."""
     lines = text.splitlines()
     first = re.fullmatch(r'Now (\S+ \S+) UTC +(-?\d+\.\d\d) feet  (Rising|Falling)', lines[1] if len(lines) > 1 else '')
     if lines[:1] != ['Pier'] or not first or not is_present(first[1], '%Y-%m-%d %H:%M', begun):
@@ -138,7 +138,7 @@ def closed_pipe(place):
 
 
 def left_in_between(place):
-    """A reader that leaves after the first bytes of a long list: a front part is written, then the fault."""
+    """A reader that leaves after the first bytes of a long list: a prefix is written, then the fault."""
     words = ('heights', 'file=daily.txt', 'station=Pier', 'begin=2010-01-01T00:00Z', 'end=2010-03-01T00:00Z', 'step=1')
     with subprocess.Popen(place.command(words), cwd=place.folder, stdin=subprocess.DEVNULL, stdout=subprocess.PIPE,
                           stderr=subprocess.PIPE) as process:
@@ -151,7 +151,7 @@ def left_in_between(place):
 
 
 def no_room(place):
-    """Standard output is a file that may not grow past some blocks: a front part is written, then the fault."""
+    """Standard output is a file that may not grow past some blocks: a prefix is written, then the fault."""
     words = ('heights', 'file=daily.txt', 'station=Pier', 'begin=2010-01-01T00:00Z', 'end=2010-01-08T00:00Z', 'step=1')
     path = place.folder / 'short'
     with open(path, 'wb') as file:
@@ -224,7 +224,7 @@ def too_long(place):
 
 
 def no_memory(place):
-    """A table for which there is no memory, since a table is read whole, where a short file is read."""
+    """A table for which there is no memory, since a table is read whole; the file of constants is short."""
     with open(place.folder / 'large', 'wb') as file:
         file.truncate(MOST_FILE)
     for megabytes in FEW_MEGABYTES:

@@ -1,4 +1,4 @@
-"""Checks of `tide serve`: where it listens, what it replies, and when it parts from a client."""
+"""Checks of `tide serve`: its address, its replies, and when it closes a connection."""
 import os
 import pathlib
 import select
@@ -13,7 +13,7 @@ PIER_DAY = '/predict?station=Pier&begin=2000-01-10T00:00Z&end=2000-01-11T00:00Z'
 # A reply of 8 megabytes, more than sockets hold.
 LONG = (f'/heights?station={LONG_NAME.replace(" ", "+")}&begin=2010-01-01T00:00Z&end=2010-01-26T00:00Z&step=1&layout=csv')
 LONG_BYTES = 8_000_000
-# When a server parts from a client, in seconds: its time, and what a busy machine adds.
+# When a server closes a connection, in seconds: its limit, and what a busy machine adds.
 EARLIEST, LATEST, WATCHED = 57, 66, 80
 # How long a client pauses in its request, in seconds.
 PAUSE = 10
@@ -83,7 +83,7 @@ def clock(place):
 
 
 def commands(place):
-    """The recorded answers of the commands that the server has too, over a table; more than five replies of one server."""
+    """The recorded answers of the commands that the server has, with a table; more than five replies of one server."""
     paths = {'predict', 'certify', 'heights', 'calendar', 'stations'}
     runs = [it for it in recorded() if it[0] and it[0][0] in paths and it[1] == 0 and 'file=tides.txt' in it[0]]
     seen, count = [], 0
@@ -126,7 +126,7 @@ def refusals(place):
 
 
 def sends_on(place):
-    """Clients that go on sending a body to a path that isn't there for some time, and read the reply only then."""
+    """Clients that send a body to an unknown path for some time, and read the reply only then."""
     with Server(place, file='pier.txt') as server:
         for number in range(3):
             for _ in range(20):
@@ -155,7 +155,7 @@ def sent_on(server, pause):
 
 
 def farewell(place):
-    """A client that sends on and on after its reply is parted from two seconds later."""
+    """A client that goes on sending after its reply is cut two seconds later."""
     with Server(place, file='pier.txt') as server, server.connect() as link:
         link.sendall(request('/nowhere'))
         if received(link) != response(b'not found\n', '404 Not Found'):
@@ -169,12 +169,12 @@ def farewell(place):
             sent += 1
             time.sleep(0.1)
         seen = time.monotonic() - begun
-    # Without a farewell the second or third byte can't be sent any more.
+    # If the server doesn't wait before it closes, the second or third byte can't be sent any more.
     return '' if sent > 4 and seen <= 12 else f'after {sent} bytes and {seen:.1f} s'
 
 
 def no_descriptor(place):
-    """A server that has a descriptor for one connection serves on; one that has none ends, and doesn't try on and on."""
+    """A server with a descriptor for one connection serves on; one without ends, and doesn't try again for ever."""
     with Server(place, file='pier.txt', limit='ulimit -n 5') as server:
         for _ in range(20):
             seen = unequal(server.reply(request(PIER_DAY)), response(PIER))
@@ -262,8 +262,8 @@ def most_sent():
 
 
 def parted(step, asked=b'', waits=False):
-    """How long a server stays with a client that takes a step each second, if that is wrong: from the begin of its reply, which it
-    asks for in two pieces with a pause between, if it waits for one, or else from the begin of the connection."""
+    """A check of the time until a server closes the connection of a client that takes a step each second. If the client waits
+    for its reply, which it requests in two pieces with a pause between, the time begins with the reply; else with the connection."""
     def seconds(place):
         if waits and most_sent() > 6_000_000:
             raise Skipped(f'a connection may hold {most_sent()} bytes')
@@ -294,7 +294,7 @@ def parted(step, asked=b'', waits=False):
 
 
 def anything(link):
-    """What comes from a server that has parted, or may have."""
+    """The bytes from a server that has closed the connection, or may have."""
     link.settimeout(2)
     try:
         return link.recv(1000)
@@ -314,7 +314,7 @@ def sip(link):
     link.recv(1024)
 
 
-# Those that measure time, or wait for a minute.
+# Checks that measure time, or wait for a minute.
 TIMED = {
     'a client that sends on after its reply is cut after two seconds': farewell,
     'a silent client is cut after a minute': parted(sit),

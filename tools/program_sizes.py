@@ -52,7 +52,7 @@ def digest(data):
 
 
 def as_summed(place, name, *words, status=0):
-    """Whether standard output has the length and the SHA-256 that are written down, and standard error nothing."""
+    """Whether standard output has the recorded length and SHA-256, and standard error is empty."""
     begun = now()
     ended = place.run(*words)
     seen = difference(ended, status, ended.stdout, b'')

@@ -1,5 +1,5 @@
 #!/usr/bin/env python3
-"""Extracts the notes on each station from XTide's files, as the page reads them (stations.json).
+"""Extracts the notes on each station from XTide's files, in the form of the page's file stations.json.
 
 stations_from_xtide.py file=CONSTANTS [xml=OFFSETS.XML] [only=CONSTANTS] > stations.json
 
@@ -7,8 +7,8 @@ CONSTANTS is a text file of harmonic constants, whose comments before a station 
 subordinate stations. `only` keeps the stations of another file of constants.
 
 The result is an object with a member for each station's name: an object of `zone`, `latitude` and `longitude` (degrees,
-north and east positive), `datum`, `country`, `source` and `identifier`. A note that isn't there, or is `Unknown`, has no
-member. Of two stations of one name the first has the notes. The counts are on standard error.
+north and east positive), `datum`, `country`, `source` and `identifier`. A note that is missing or `Unknown` has no member.
+Of two stations of one name the first has the notes. Standard error has the number of stations with each note.
 """
 
 import collections

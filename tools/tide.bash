@@ -19,7 +19,7 @@ _tide_keys() {
   esac
 }
 
-# The values that a key may have, as far as they can be told, which begin with the text $2.
+# The known values of the key $1 that begin with the text $2.
 _tide_values() {
   local hour name word
   case "$1" in
@@ -51,7 +51,7 @@ _tide() {
     key="${word%%=*}" value="${word#*=}"
     [[ " $(_tide_keys "${COMP_WORDS[1]}") " == *" $key "* ]] || return
     mapfile -t COMPREPLY < <(_tide_values "$key" "$value")
-    # bash parts words at = and :, and takes only what follows; an @ it takes too.
+    # bash splits words at = and :, and replaces only the part behind these; an @ belongs to that part.
     [[ "$part" == [=:] ]] && part=
     [[ "$value" == @* ]] || COMPREPLY=("${COMPREPLY[@]#"${value%"$part"}"}")
     case "$key" in file | offsets | certificate) compopt -o filenames ;; esac

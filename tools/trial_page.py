@@ -1,4 +1,4 @@
-"""What tools/try_site tries of the page: its tests, its texts, its keys, its notes on stations and its paper."""
+"""The trials of the page for tools/try_site: its tests, its texts, its keys, its notes on stations and its paper."""
 
 import html
 import itertools
@@ -16,7 +16,7 @@ BOSTON = 'Boston, Boston Harbor, Massachusetts'
 SEATTLE = 'Seattle, Puget Sound, Washington'
 STRANGE = 'Cais "d\'Água", Olhão & <b>Ria</b>'
 PAPERS = {'A4': (8.27, 11.69), 'Letter': (8.5, 11)}
-# The page has an answer, or says why there is none.
+# The page shows an answer, or the reason why there is none.
 SHOWN = 'document.querySelector("#answer[aria-busy=false]:not([hidden]), #trouble .note") !== null'
 # What the page has measured when its layout is the paper's: the right edges of the curve's canvas and of the text.
 MEASURE = """matchMedia('print').addEventListener('change', ({ matches }) => {

@@ -70,7 +70,7 @@ class Site:
         self.nginx = None
         shutil.copytree(SERVER / 'html', folder / 'html')
         text = (SERVER / 'nginx.conf').read_text().replace('/usr/share/tide/server/html', str(folder / 'html'))
-        # Nothing of a site that this machine has.
+        # No file of another site of this machine.
         text = text.replace('/etc/tide', str(folder / 'settings')).replace('/var/lib/tide', str(folder / 'notes'))
         for usual, port in zip((8000, 8081, 8082, 8083, 8084), [self.port, *self.ports]):
             text = text.replace(f'127.0.0.1:{usual}', f'127.0.0.1:{port}')
@@ -135,11 +135,11 @@ class Site:
             link.close()
 
     def home(self):
-        """What the browser finds around it: a home in the folder, and a clock."""
+        """The environment of the browser: a home in the folder, and a clock."""
         return {**os.environ, 'HOME': str(self.folder), 'TZ': 'America/New_York'}
 
     def browse(self, page, *flags):
-        """What a browser without a window makes of a page: its document, and what it complained of."""
+        """The document of a page in a browser without a window, and the browser's complaints."""
         command = [*BROWSER, '--enable-logging=stderr', f'--user-data-dir={self.folder / "browser"}',
                    '--virtual-time-budget=30000', *(flags or ['--dump-dom']), f'http://127.0.0.1:{self.port}/{page}']
         with subprocess.Popen(command, stdout=subprocess.PIPE, stderr=subprocess.PIPE, text=True, env=self.home(),
@@ -198,7 +198,7 @@ class Tab:
         return said.get('result', {})
 
     def note(self, event, values):
-        """Keeps the requests of the page, and what the browser complains of."""
+        """Keeps the requests of the page, and the browser's complaints."""
         if event == 'Network.requestWillBeSent':
             self.requests.append(values['request']['url'])
         if event == 'Log.entryAdded' and values['entry']['level'] in ('warning', 'error'):

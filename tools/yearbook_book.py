@@ -42,7 +42,7 @@ def contents_of(title, book):
 
 
 def book_of(title, book):
-    """One PDF of all: the contents, then each station's sheets, which have the pages' numbers already."""
+    """One PDF of all stations: the contents, then each station's sheets, which already have page numbers."""
     text = sheets.document(title, contents_of(title, book), STYLE, book.words['paper'])
     with tempfile.TemporaryDirectory() as folder:
         contents, whole = pathlib.Path(folder) / 'contents.pdf', pathlib.Path(folder) / 'whole.pdf'

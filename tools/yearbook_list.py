@@ -1,4 +1,4 @@
-"""The stations of a yearbook: their names, zones and sills, with what is known of them."""
+"""The stations of a yearbook: their names, zones and sills, with units, references and notes."""
 
 import csv
 import hashlib
@@ -15,7 +15,7 @@ ZONE = re.compile(r'[\w+-]+(/[\w+-]+)*')
 
 
 class Wrong(Exception):
-    """Why there is no yearbook."""
+    """The reason why there is no yearbook."""
 
 
 def read_list(path):

@@ -15,7 +15,7 @@ DAY = datetime.timedelta(days=1)
 SIZES = (64, 72, 80, 92, 104, 120, 144, 180, 240)  # those of year.css
 SIGNS = {'High Tide': 'H', 'Low Tide': 'L', 'Max Flood': 'F', 'Max Ebb': 'E', 'Min Flood': 'f', 'Min Ebb': 'e',
          'Slack Flood Begins': 'SF', 'Slack Ebb Begins': 'SE'}
-WARNING = 'NOT FOR NAVIGATION. Predicted from harmonic constants; the weather is not in it.'
+WARNING = 'NOT FOR NAVIGATION. Predicted from harmonic constants, without the weather.'
 
 
 class Clock:
@@ -149,7 +149,7 @@ class Year:
 
 
 def add_line(lines, point):
-    """Adds a point to a day's lines: a maximum stands beside the slack before it."""
+    """Adds a point to a day's lines: a maximum is beside the slack before it."""
     if point.word and not point.is_slack() and lines and lines[-1][0] and lines[-1][0].word and not lines[-1][1]:
         lines[-1][1] = point
     else:
@@ -232,7 +232,7 @@ def legend(year):
     words = {event.word for event in year.events}
     signs = ', '.join(f'{sign} {word}' for word, sign in SIGNS.items() if word in words)
     times = ' '.join(text for texts in year.above.values() for text in texts)
-    return '; '.join([signs] + ['clock: from here by this offset'] * bool(year.changes) + ['+N: it ends N days later'] * ('+' in times)
+    return '; '.join([signs] + ['clock: the offset of the times from here on'] * bool(year.changes) + ['+N: it ends N days later'] * ('+' in times)
                      + ['..: outside this year'] * ('..' in times))
 
 

@@ -2,7 +2,7 @@ import { isMark, readPoints, timesAbove } from './events.js';
 import { ask } from './replies.js';
 import { clockAt, daysLater, momentText, monthsLater, startOfDay } from './zones.js';
 
-/** A request's result; if it is refused with the line, another's, and the refusal. */
+/** The result of a request; if it is refused with the line, the result of another one, and the refusal. */
 async function orElse(requested, line, other) {
   try {
     return [await requested, []];
@@ -20,7 +20,7 @@ function datesOf({ view, date }) {
   return dates;
 }
 
-/** The offsets of the clocks that a sheet shows, in order; those of its first minute if it shows none. */
+/** The offsets of the times that a sheet shows, in order; if it shows no time, the offset of its first minute. */
 export function offsetsOf(begin, events, above, zone) {
   const times = above.flatMap(({ from, to, openFrom, openTo }) => [...(openFrom ? [] : [from]), ...(openTo ? [] : [to])]);
   const moments = [...events.filter(event => !isMark(event)).map(({ moment }) => moment), ...times].sort((one, other) => one - other);

@@ -4,7 +4,7 @@ import { dateText, startOfDay } from './zones.js';
 const INK = '#1a2a3a', WATER = '#0b5394', SILL = '#b3541e', NOW = '#a61c3c', GUIDE = '#8797a7';
 /** Pixels of height for a label beyond the curve, for the times of slack below it, and for the dates. */
 const LABEL = 74, SLACK_TIMES = 40, DATES = 20;
-/** A width that fits A4 and Letter, for a browser that doesn't report its paper's. */
+/** A width that fits A4 and Letter, for a browser that doesn't report the width of its paper. */
 const PAPER = '700px';
 
 /** A row for each moment of the levels and the events: the moment, its level, and the level again at an event. */
@@ -86,7 +86,7 @@ function freeX(area, graph, events, y, width) {
   return places.reduce((best, x) => (crossed(x) < crossed(best) ? x : best));
 }
 
-/** Draws what lies before the curve: the events, the sill's name, and 'now'. */
+/** Draws in front of the curve: the events, the sill's name, and 'now'. */
 function drawBefore(context, area, graph, { events, sillText, sill, isPaper }) {
   for (const event of events) drawEvent(context, area, graph, event);
   if (sill !== null) {
@@ -109,7 +109,7 @@ export function rangeOf(levels, height, hasSlack) {
 // The legend would write styles into the document, which the page's own policy refuses.
 if (window.Dygraph) Dygraph.PLUGINS = Dygraph.PLUGINS.filter(plugin => plugin !== Dygraph.Plugins.Legend);
 
-/** Draws the levels in a box, with the events named, a line at the sill if there is one, and the present moment. */
+/** Draws the levels in a box, with labels of the events, a line at the sill if there is one, and the present moment. */
 export function drawChart(box, picture) {
   const { levels, events, dates, zone, sill, report, isPaper } = picture;
   const days = dates.map(date => ({ date, start: startOfDay(date, zone) }));
@@ -138,7 +138,7 @@ export function drawChart(box, picture) {
   });
 }
 
-/** Calls for the chart again, as wide as the paper, when the page is printed, and as wide as the window afterwards. */
+/** Has the chart drawn again, as wide as the paper, when the page is printed, and as wide as the window afterwards. */
 export function followPaper(box, draw) {
   const fit = (width, isPaper) => {
     Object.assign(box.style, { width, minWidth: width });

@@ -12,7 +12,7 @@ export function distanceOf(from, to) {
   return 2 * EARTH * Math.asin(Math.min(1, Math.sqrt(part)));
 }
 
-/** The true bearing in whole degrees, from 0 to 359, as one sets out. */
+/** The true bearing at the start, in whole degrees from 0 to 359. */
 export function bearingOf(from, to) {
   const [here, there, east] = [from.latitude, to.latitude, to.longitude - from.longitude].map(radians);
   const x = Math.sin(east) * Math.cos(there);
@@ -32,7 +32,7 @@ export function placeText({ latitude, longitude }) {
   return `${text(latitude, 'NS')}, ${text(longitude, 'EW')}`;
 }
 
-/** The stations nearest to one, with their distances and bearings. A station without coordinates has none and is none. */
+/** The stations nearest to one, with their distances and bearings. Stations without coordinates have none, and are left out. */
 export function nearestTo(station, stations, count) {
   if (!hasPlace(station?.notes)) return [];
   return stations.filter(other => other !== station && hasPlace(other.notes))

@@ -57,7 +57,7 @@ function noteOf(error) {
   return element('div', { className: 'note' }, error.message, ...(error.line ? [' ', element('code', {}, error.line)] : []));
 }
 
-/** A line of a list of stations: a link with the station's kind and name, and what else is said. */
+/** A line of a list of stations: a link with the station's kind and name, and a quiet text. */
 function stationLine({ name, isCurrent }, quiet) {
   const kind = isCurrent ? 'current' : 'tide';
   return element('li', {}, element('a', { href: addressOf({ station: name, sill: null, zone: null }) },
@@ -239,7 +239,7 @@ function listen() {
   followPaper(place('curve'), isPaper => { if (graph) showCurve(drawn, isPaper); });
 }
 
-/** The clock and the printing are open in a wide window, and folded in a narrow one. */
+/** Opens the controls of clock and printing in a wide window, and folds them in a narrow one. */
 function foldControls() {
   const wide = window.matchMedia('(min-width: 45rem)');
   const fold = () => { place('more').open = wide.matches; };
@@ -260,7 +260,7 @@ async function start() {
     trouble = noteOf(error);
   }
   await show();
-  // A fault that the question had too is shown once.
+  // A fault that the question has too is shown once.
   if (trouble && place('trouble').textContent !== trouble.textContent) place('count').replaceChildren(trouble);
 }
 

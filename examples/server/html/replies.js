@@ -1,13 +1,13 @@
-/** The forms of refusals. In a text $1 is what the line names, and {key} the value of a key of the question. */
+/** The lines of refusals and the page's texts for them. In a text $1 is a part of the line, and {key} the value of a key of the question. */
 const TEXTS = [
   [/^refused: no station$/, 'There is no station “{station}” here. Look for a part of its name above.'],
   [/^refused: no reference (.*)$/, '“{station}” is computed by differences from “$1”, which the file of constants lacks.'],
-  [/^refused: hydraulic$/, '“{station}” is a hydraulic current, computed from a difference of water levels, which is not predicted.'],
+  [/^refused: hydraulic$/, '“{station}” is a hydraulic current, whose speed comes from a difference of water levels. Such currents are not predicted.'],
   [/^refused: out of years: file has (.*) to (.*)$/, 'The constants reach from $1 to $2. Choose a date between them.'],
-  [/^refused: mark not here$/, '“{station}” has no times above a level: only its turns are computed, not the curve between.'],
-  [/^refused: level not here$/, '“{station}” has no curve: only its turns are computed, with different offsets for highs and lows.'],
+  [/^refused: mark not here$/, '“{station}” has no times above a level: only its turns are computed, not the curve between them.'],
+  [/^refused: level not here$/, '“{station}” has no curve: only its turns are computed, since its highs and lows have different offsets.'],
   [/^refused: backward span$/, 'The question ends ({end}) before it begins ({begin}).'],
-  [/^limit: (.*)$/, 'The question is larger than what is computed: $1.'],
+  [/^limit: (.*)$/, 'The question exceeds a limit: $1.'],
 ];
 const KEYS = { mark: 'sill or limit', station: 'station', begin: 'begin', end: 'end', step: 'step' };
 
@@ -18,11 +18,11 @@ export class NoAnswer extends Error {
   }
 }
 
-/** The text for a pair of the question that is out of form. The pairs are numbered from 1. */
+/** The text for a pair of the question with a bad value. The pairs are numbered from 1. */
 function pairText(number, question) {
   const [key, value] = Object.entries(question)[number - 1] ?? ['', ''];
   const form = key === 'mark' ? ' a number such as 4 or -1.25, with at most six decimals' : ' of its form';
-  return key ? `The ${KEYS[key] ?? `value of ${key}`}, “${value}”, is not${form}.` : 'The question is not in order.';
+  return key ? `The ${KEYS[key] ?? `value of ${key}`}, “${value}”, is not${form}.` : 'The question is not valid.';
 }
 
 function refusal(line, question) {
@@ -33,7 +33,7 @@ function refusal(line, question) {
   return new NoAnswer('refused', whole, line);
 }
 
-/** The text of an answer; otherwise it throws why there is none. What isn't plain text comes from a server in between. */
+/** The text of an answer; throws the reason if there is none. A reply that isn't plain text comes from a server in between. */
 export function answerOf(status, type, body, question = {}) {
   const isOurs = /^text\/(plain|csv)\b/.test(type ?? '');
   if (status === 200 && isOurs) return body;
@@ -54,7 +54,7 @@ export async function ask(path, question) {
   return answerOf(reply.status, reply.headers.get('Content-Type'), body, question);
 }
 
-/** The notes on stations by their names; without the file, none. */
+/** The notes on stations by their names; an empty object if the file doesn't exist. */
 export async function readNotes() {
   try {
     const reply = await fetch('stations.json');

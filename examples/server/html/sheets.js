@@ -16,10 +16,10 @@ export function element(name, traits = {}, ...children) {
 const cell = (text, className = '') => element('td', { className }, text);
 const head = (text, traits = {}) => element('th', { scope: 'col', ...traits }, text);
 
-/** The events of a date without the marks, whose times the times above the sill give. */
+/** The events of a date without the marks, which the times above the sill show. */
 const eventsOn = (date, events) => events.filter(event => event.clock.date === date && !isMark(event));
 const emphasis = event => (isStrongest(event) ? 'top' : '');
-/** The name of a level that times are computed for: a sill's, or a current's limit. */
+/** The name of the level for which times are computed: a sill, or the limit of a current. */
 export const thresholdText = ({ isCurrent, sill, units }) => (isCurrent ? `limit of ${sill} ${units}` : `sill at ${sill} ${units}`);
 
 /** The time of a clock, with its offset if the sheet has more than one. */

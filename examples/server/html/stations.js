@@ -6,7 +6,7 @@ function withReference(text, references) {
   return { name: text.slice(0, cut), reference: text.slice(cut + 2, -1) };
 }
 
-/** The stations of the program's list. A name may hold ` (` itself, so a reference is known by its name. */
+/** The stations of the program's list. A name may have ` (` itself, so a reference is found by the names of `Ref` lines. */
 export function readStations(text) {
   const lines = text.split('\n').map(line => LINE.exec(line)).filter(Boolean);
   const references = new Set(lines.filter(([, kind]) => kind === 'Ref').map(line => line[3]));
@@ -28,8 +28,8 @@ export function withNotes(stations, notes) {
 const folded = text => text.normalize('NFD').replace(/\p{M}/gu, '').toLowerCase();
 
 /**
- * The stations with each of the words in their name, country or identifier, whatever the accents and capitals; those
- * whose name begins with a word come first.
+ * The stations that have each of the words in their name, country or identifier, without regard to accents and capitals;
+ * those whose name begins with a word come first.
  */
 export function findStations(stations, words) {
   const parts = folded(words).split(/\s+/).filter(Boolean);

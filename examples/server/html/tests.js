@@ -133,11 +133,11 @@ for (const [line, text] of [
   ['refused: no reference Boston', '“Atlantis” is computed by differences from “Boston”, which the file of constants lacks.'],
   ['refused: backward span', 'The question ends (2025-06-01T00:00Z) before it begins (2025-06-08T00:00Z).'],
   ['refused: out of years: file has 2020-01-01T00:00Z to 2030-12-31T23:59Z', 'The constants reach from 2020-01-01T00:00Z to 2030-12-31T23:59Z. Choose a date between them.'],
-  ['refused: mark not here', '“Atlantis” has no times above a level: only its turns are computed, not the curve between.'],
-  ['limit: span of 9999999 minutes', 'The question is larger than what is computed: span of 9999999 minutes.'],
+  ['refused: mark not here', '“Atlantis” has no times above a level: only its turns are computed, not the curve between them.'],
+  ['limit: span of 9999999 minutes', 'The question exceeds a limit: span of 9999999 minutes.'],
   ['words: pair 5 has a bad value', 'The sill or limit, “deep”, is not a number such as 4 or -1.25, with at most six decimals.'],
   ['words: pair 2 has a bad value', 'The begin, “2025-06-08T00:00Z”, is not of its form.'],
-  ['words: pair 9 has a bad value', 'The question is not in order.'],
+  ['words: pair 9 has a bad value', 'The question is not valid.'],
   ['refused: for a new reason', 'The server has no answer to this question.'],
 ]) same(`the text for ${line}`, noAnswer(422, 'text/plain', `${line}\n`, QUESTION).slice(1), [text, line]);
 

@@ -54,7 +54,7 @@ export function linesOf(points) {
   return lines;
 }
 
-/** A time above the sill in the clock of a zone. `+N`: it ends N days later, where that isn't the same or the next day. */
+/** A time above the sill by the clock of a zone. `+N`: it ends N days later, if that isn't the same or the next day. */
 export function aboveText({ from, to, openFrom, openTo }, zone) {
   const [first, last] = [clockAt(from, zone), clockAt(to, zone)];
   const days = (Date.parse(last.date) - Date.parse(first.date)) / DAY;
@@ -69,7 +69,7 @@ export function dayOf(date, { points, above, zone }) {
   };
 }
 
-/** How many lines a day takes: its times above the sill have a column beside a tide, and lines below a current. */
+/** The number of lines of a day: times above the sill have a column beside a tide, and lines below a current. */
 export const heightOf = ({ lines, above }, isCurrent) =>
   Math.max(2, isCurrent ? lines.length + above.length : Math.max(lines.length, above.length));
 

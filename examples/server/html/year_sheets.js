@@ -54,7 +54,7 @@ function monthPart(month, answer) {
     ...halves.map(dates => element('div', { className: 'half' }, table(dates))));
 }
 
-/** The offset with which a month begins: that of the last change before its first day. */
+/** The offset with which a month begins: the offset of the last change before its first day. */
 const offsetBefore = (date, { changes, offset }) => changes.filter(({ clock }) => clock.date < date).at(-1)?.clock.offset ?? offset;
 
 /** The unit, the datum, the clock and the sill. */
@@ -72,12 +72,12 @@ function aboutLines({ isCurrent, units, datum, reference, sill, zone, offset, ch
 function legendOf({ events, above, changes, zone }) {
   const signs = Object.entries(SIGNS).filter(([word]) => events.some(({ event }) => event === word));
   const times = above.map(time => aboveText(time, zone));
-  return [signs.map(([word, sign]) => `${sign} ${word}`).join(', '), ...(changes.length > 0 ? ['clock: from here by this offset'] : []),
+  return [signs.map(([word, sign]) => `${sign} ${word}`).join(', '), ...(changes.length > 0 ? ['clock: the offset of the times from here on'] : []),
     ...(times.some(text => text.includes('+')) ? ['+N: it ends N days later'] : []),
     ...(times.some(text => text.includes('..')) ? ['..: outside this year'] : [])].join('; ');
 }
 
-/** How many lines the fullest half of a month has. */
+/** The number of lines of the fullest half of a month. */
 function mostLines(answer) {
   const halves = MONTHS.flatMap((_, place) => halvesOf(answer.year, place + 1));
   return Math.max(...halves.map(dates => dates.reduce((sum, date) => sum + heightOf(dayOf(date, answer), answer.isCurrent), 0)));
@@ -93,6 +93,6 @@ export function yearSheets(answer) {
     ...aboutLines(answer).map(line => element('p', {}, line)),
     element('div', { className: 'months' }, ...[first, first + 1, first + 2].map(month => monthPart(month, answer))),
     element('p', { className: 'legend' }, legendOf(answer)),
-    element('p', { className: 'warning' }, 'NOT FOR NAVIGATION. Predicted from harmonic constants; the weather is not in it.'),
+    element('p', { className: 'warning' }, 'NOT FOR NAVIGATION. Predicted from harmonic constants, without the weather.'),
     ...constants.map(line => element('p', { className: 'constants' }, line))));
 }

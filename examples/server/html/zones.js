@@ -30,7 +30,7 @@ function offsetText(minutes) {
   return `${minutes < 0 ? '-' : '+'}${two(Math.floor(size / 60))}:${two(size % 60)}`;
 }
 
-/** What a zone's clock shows at a moment: its date, its time, and how far it is ahead of UTC. */
+/** The date and the time of a zone's clock at a moment, and how far it is ahead of UTC. */
 export function clockAt(moment, zone) {
   const parts = Object.fromEntries(formatOf(zone).formatToParts(moment).map(part => [part.type, part.value]));
   const date = `${parts.year.padStart(4, '0')}-${parts.month}-${parts.day}`;
@@ -39,7 +39,7 @@ export function clockAt(moment, zone) {
   return { date, time, ahead, offset: offsetText(ahead / MINUTE) };
 }
 
-/** The first moment of a date by a zone's clock; where that day has no midnight, the moment that would have been it. */
+/** The first moment of a date by a zone's clock; if that day has no midnight, the moment that midnight would have been. */
 export function startOfDay(date, zone) {
   const midnight = Date.parse(`${date}T00:00Z`);
   const around = [midnight - DAY, midnight + DAY].map(moment => midnight - clockAt(moment, zone).ahead);
@@ -68,7 +68,7 @@ export function dateText(date, parts = { weekday: 'short', day: 'numeric', month
   return new Intl.DateTimeFormat('en-GB', { timeZone: 'UTC', ...parts }).format(Date.parse(`${date}T00:00Z`));
 }
 
-/** A moment as the program's `begin` and `end` have it. */
+/** A moment in the form of the program's `begin` and `end`. */
 export const momentText = moment => `${new Date(moment).toISOString().slice(0, 16)}Z`;
 
 /** How far one zone's clock is ahead of another's at some moments: as `6 h ahead`, `3 h 30 min behind`, or '' if never. */
