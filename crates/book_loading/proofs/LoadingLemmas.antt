@@ -1,4 +1,4 @@
--- What loading gives, from what its reading and its form give.
+-- The result of loading, from the results of reading and parsing.
 use Rattle.std.proofs.Common.{◌≡◌, ◌↔◌, ℕ, List, Option, IsErrAnd, Some, None, IsSome, Result, Ok, Err, refl}
 use Rattle.std.specs.Bool.{IsTrue}
 use Rattle.tide_edge.proofs.ReadingLemmas.{begun_whole}
@@ -17,7 +17,7 @@ use Rattle.book_loading.specs.declared.loading.LoadFault.TheVariants.{Failed, To
 use Rattle.book_loading.specs.Loading.{loaded, fault_of_reading, source_of}
 use Rattle.book_loading.specs.Workings.Feeding.{bytes_fed}
 
--- where reading has a fault
+-- reading failed
 pub excuses_reading : (limit : ℕ) (firm : Type 0) (file : Option (List ℕ)) (fault : ReadAllFault) → Excuses (source_of_reading fault) firm (whole limit file) fault → Excuses (source_of (fault_of_reading fault)) firm (loaded limit file) (fault_of_reading fault)
 unfolding loaded
 excuses_reading limit firm file reading.Failed excused = λ s. rw (excused s) refl
@@ -30,30 +30,30 @@ pub failed_meets : (limit : ℕ) (reader : Fed) (file : Option (List ℕ)) (resu
 failed_meets limit reader file (Err it) none is = rw (is, none) (λ firm. refl)
 failed_meets limit reader file (Ok done) none is = absurd is
 
--- where the form has one
+-- a line is bad
 pub excuses_form : (limit : ℕ) (firm : Type 0) (file : Option (List ℕ)) (bytes : List ℕ) (fault : BookFault) → whole limit file ≡ Ok bytes → FailsBook fault (book_of bytes) → Excuses (source_of (Book fault)) firm (loaded limit file) (Book fault)
 unfolding loaded
 excuses_form limit firm file bytes form.NoMemory read fails = tt
 excuses_form limit firm file bytes (form.At line why) read fails = rw (read, fails) refl
 
--- where neither has
+-- neither failed
 pub loaded_whole : (limit : ℕ) (file : Option (List ℕ)) (bytes : List ℕ) (book : TheBook) → whole limit file ≡ Ok bytes → book_of bytes ≡ Ok book → loaded limit file ≡ Ok book
 unfolding loaded
 loaded_whole limit file bytes book read gives = rw (read, gives) refl
 
--- where no file was opened
+-- no file was opened
 pub unopened : (limit : ℕ) (firm : Type 0) (file : Option (List ℕ)) → (firm → file ≡ None) → firm → loaded limit file ≡ Err Failed
 unfolding loaded
 unopened limit firm file absent = λ s. rw (absent s) refl
 
--- what loading the rest gave is what loading the file gives
+-- the result of loading the rest of an opened file is that of loading the file
 pub loaded_opened : {T : Type 0} (opened : T) (limit : ℕ) (name : List ℕ) (s : FilesState) (result : Result TheBook LoadFault)
     → (IsTrue s.store.is_observable → IsSome (s.store.folder name))
     → (IsTrue s.store.is_observable → Meets source_of (IsTrue s.store.is_steady) (loaded limit (Some (files_after_open (Ok opened) name s).rest)) result)
     → IsTrue s.store.is_observable → Meets source_of (IsTrue s.store.is_steady) (loaded limit (s.store.folder name)) result
 loaded_opened opened limit name s result found meets t = rw (begun_whole s name t (found t)) (meets t)
 
--- what feeding gave
+-- the result of feeding
 abbrev fed_fault : ReadAllFault → Result (Unit {0}) ReadAllFault
 fed_fault fault = Err fault
 

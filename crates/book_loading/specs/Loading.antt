@@ -1,4 +1,4 @@
--- A book loaded from a file, whose reading comes before its form (this project).
+-- A book loaded from a file: a failure of reading takes precedence over a bad line (this project).
 use Rattle.std.specs.Prelude.{ℕ, Bool, true, false, List, Option, Result, Ok, Err}
 use Rattle.decimal_text.specs.Expected.{◌>>=◌}
 use Rattle.harmonics_text.specs.declared.book.Book.{Book as TheBook}
@@ -11,34 +11,37 @@ use Rattle.tide_edge.specs.Whole.{whole}
 use Rattle.book_loading.specs.declared.loading.LoadFault.{LoadFault}
 use Rattle.book_loading.specs.declared.loading.LoadFault.TheVariants.{Failed, TooLong, Book}
 
+-- a fault of reading as a fault of loading
 abbrev pub fault_of_reading : ReadAllFault → LoadFault
 fault_of_reading reading.Failed = Failed
 fault_of_reading reading.TooLong = TooLong
 fault_of_reading reading.NoMemory = Book form.NoMemory
 
--- its bytes, or the fault of reading them
+-- the file's bytes, or the fault of reading them
 abbrev pub bytes_from : Result (List ℕ) ReadAllFault → Result (List ℕ) LoadFault
 bytes_from (Ok bytes) = Ok bytes
 bytes_from (Err fault) = Err (fault_of_reading fault)
 
--- their book, or the first line that breaks a rule
+-- the book of the bytes, or the first line that breaks a rule
 abbrev pub book_from : Result TheBook At → Result TheBook LoadFault
 book_from (Ok book) = Ok book
 book_from (Err at) = Err (Book (form.At at.line at.why))
 
--- of what the map of the files has under the name: its book, if it has at most `limit` bytes
+-- the expected result for the contents of a file, if there is one: its book, if it has at most `limit`
+-- bytes
 unfoldable pub loaded : ℕ → Option (List ℕ) → Result TheBook LoadFault
 loaded limit file = do
   bytes ← bytes_from (whole limit file)
   book_from (book_of bytes)
 
--- where each fault comes from
+-- the cause of each error
 abbrev pub source_of : LoadFault → Source
 source_of Failed = outside
 source_of TooLong = given
 source_of (Book form.NoMemory) = memory
 source_of (Book (form.At line why)) = given
 
+-- a fault is out of memory
 abbrev pub wants_memory : LoadFault → Bool
 wants_memory Failed = false
 wants_memory TooLong = false

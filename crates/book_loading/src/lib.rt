@@ -1,6 +1,6 @@
 //! Books of harmonic constants, loaded from files.
 //!
-//! [`load_book`] reads a file in pieces, and makes the book as they come.
+//! [`load_book`] reads a file in pieces, and parses each piece as it comes.
 #![tactic(auto)]
 
 mod loading;

@@ -14,28 +14,34 @@ use harmonics_text::{Book, BookFault, BookReader};
 use std::alloc::{AllocError, Global};
 use tide_edge::{Files, PIECE, ReadAllFault};
 
-/// Why a file wasn't loaded.
+/// The reason why a file wasn't loaded.
 #[derive(Clone, Copy, Debug, PartialEq, Eq)]
 pub enum LoadFault {
     /// Opening or reading the file failed.
     Failed,
-    /// More bytes came than were allowed.
+    /// The file has more bytes than the limit.
     TooLong,
-    /// The file isn't of its form, or memory was wanting.
+    /// The file has a bad line, or memory ran out.
     Book(BookFault),
 }
 
-/// Loads the book of the file of that name, if it has at most `limit` bytes, which are at most
-/// 400,000,000. The file is read in pieces of at most 65,536 bytes, and none of them
-/// is kept. It is read on after a line that breaks a rule, so that a fault of reading comes first.
-/// It is opened at most once, its end is found at most once, and at most a piece past the limit is read,
-/// whatever is answered.
+/// Loads the book of the file `name`, if it has at most `limit` bytes; `limit` is at most 400,000,000.
+/// The file is read in pieces of at most 65,536 bytes, which aren't kept. It is read to its end also
+/// after a bad line, so that a failure of reading takes precedence. The file is opened at most once, its
+/// end is found at most once, and at most one piece past `limit` is read, whatever the result.
 ///
 /// # Errors
-/// [`LoadFault::Failed`] exactly where the count of faults of `files` is one more, and over steady
-/// files only where there is no file of that name; [`LoadFault::TooLong`] exactly where more than `limit` bytes
-/// came; [`LoadFault::Book`] with the file's first bad line where neither holds, or with want
-/// of memory.
+/// [`LoadFault::Failed`] exactly if the count of faults of `files` grows by one, and if the files are
+/// steady only if there is no file `name`; [`LoadFault::TooLong`] exactly if more than `limit` bytes
+/// came; otherwise [`LoadFault::Book`] with the file's first bad line, or if memory runs out.
+///
+/// # Examples
+/// ```
+/// let mut files = MemoryFiles::new(Vec::new(rt.alloc()), Vec::new(rt.alloc()));
+/// let name = Text::from_str(rt.alloc(), "harmonics")?;
+/// let loaded = load_book(rt.alloc(), &mut files, &name, 1_000);
+/// assert_eq!(rt; loaded.err(), Some(LoadFault::Failed));
+/// ```
 pub fn load_book<F: Files>(
     alloc: Global,
     files: &mut F,
@@ -77,13 +83,13 @@ fn load_rest<F: Files>(
     let mut reader = BookReader::new(alloc)?;
     let fed = feed_rest(files, room, &mut reader, limit);
     let book = reader.finish();
-    // A fault of reading comes first.
+    // A failure of reading takes precedence over a bad line.
     fed?;
     Ok(book?)
 }
 
-/// Feeds the rest of the open file to a new reader in pieces of the room's size, if at most `limit`
-/// bytes are left. What the reader finds is told when it finishes.
+/// Feeds the rest of the open file to `reader`, in pieces of at most the length of `room`, if at most
+/// `limit` bytes are left. A fault that the reader finds is returned when it finishes.
 fn feed_rest<F: Files>(
     files: &mut F,
     room: &mut [u8],

@@ -1,4 +1,4 @@
--- What is found on one cell, and on the cells after it.
+-- The verdict on one cell, and on the cells after it.
 use Rattle.std.proofs.Common.{◌≡◌, ◌≢◌, ◌⊎◌, inl, inr, ℕ, ◌+◌, ◌<◌, ◌≤◌, ℤ, pos, ◌+ℤ◌, List, ◌∷◌, get_or, drop, length, refl, sym, add-one, drop-cons, arith}
 use Rattle.std.proofs.lemmas.Int.{ints, to_z-of_z}
 use Rattle.std.proofs.lemmas.List.{drop_all}
@@ -35,7 +35,7 @@ unit_finding-unit c a number cell (inr (kind, level, turn)) = rw turn (unit_find
 
 pub ruleset findings = (to_z-of_z, quiet_finding-is_quiet, unit_finding-unit)
 
--- ---- the first of the cells that are left, and the others
+-- ---- the first of the cells left, and the others
 
 cells-left : (cells : List Cell) (i : ℕ) (d : Cell) → i < length cells → drop i cells ≡ get_or cells i d ∷ drop (i + 1) cells
 cells-left cells i d some = rw (add-one, drop-cons cells i d) refl
@@ -61,7 +61,7 @@ wrong-first (NotQuiet cell) w wrong = refl
 wrong-first (WrongStep cell) w wrong = refl
 wrong-first (WrongLevel cell written computed) w wrong = refl
 
--- of all findings the first is this one, or one on the cells after it, or there are no more
+-- the first fault is that of this cell, or of a cell after it, or there is none
 pub first-found : (c : Meaning) (a : ℤ) (number : ℕ) (cells : List Cell) (i : ℕ) (d : Cell) (all found : Verdict) → i < length cells → all ≡ cells_verdict c a number (drop i cells) → found ≡ cell_verdict c a number (get_or cells i d) → found ≢ Accepted → found ≡ all
 unfolding cells_verdict
 first-found c a number cells i d all found some left is wrong =

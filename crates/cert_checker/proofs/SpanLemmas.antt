@@ -1,4 +1,4 @@
--- Whether cells have the minutes of a span.
+-- Cells that have the minutes of a span, or don't.
 use Rattle.std.proofs.Common.{◌≡◌, ◌≢◌, ℕ, ◌-◌, ◌^◌, ◌==◌, min, w64, to_z, of_z, ℤ, pos, ◌-ℤ◌, unsigned_abs, true, false, List, refl, sym, ap, arith, ◌∙◌}
 use Rattle.std.proofs.lemmas.Bool.{ne_eqb}
 use Rattle.std.proofs.lemmas.Bool.Decides.{Decides-eqb}

@@ -11,12 +11,24 @@ use crate::covering::{covered_by, minutes_of};
 use crate::finding::finding_on;
 use curve_law::{Cell, Cells, Curve, Point, Verdict, point_at};
 
-/// What is found on cells that are said to be those of the minutes from `begin` on and before `end`,
-/// which the curve tells: first whether they have its minutes, and then the first cell that is wrong.
-/// Accepted cells have exactly the events of the span.
+/// Checks `cells`, which claim to be those of the minutes from `begin` on and before `end`, all of them
+/// minutes of `curve`: first their number of minutes, then each cell. Accepted cells have exactly the
+/// events of the span.
 ///
-/// There are fewer than 2^32 cells, and with the values that the curve was asked for at most 2^62. The
-/// curve is asked for at most one value a cell and one more.
+/// There are fewer than 2^32 cells; cells and earlier evaluations of the curve together are at most 2^62.
+/// The curve is evaluated at most once a cell and once more.
+///
+/// # Examples
+/// ```
+/// let mut items = Vec::new(rt.alloc());
+/// items.push(Cell::Quiet(8))?;
+/// let cells = Cells::from_vec(items);
+/// let mut line = Line::new(10, false, 1);
+/// assert_eq!(rt; check_track(&mut line, &cells, 0, 8), Verdict::Accepted);
+/// let mut line = Line::new(-2, false, 1);
+/// let verdict = check_track(&mut line, &cells, 0, 8);
+/// assert_eq!(rt; verdict, Verdict::NotQuiet { cell: 1 });
+/// ```
 pub fn check_track<C: Curve>(curve: &mut C, cells: &Cells, begin: i64, end: i64) -> Verdict
     requires forward { begin ≤ℤ end }
     requires first { (C.meaning curve.old).first ≤ℤ begin }
@@ -37,7 +49,7 @@ pub fn check_track<C: Curve>(curve: &mut C, cells: &Cells, begin: i64, end: i64)
     first_finding(curve, cells.as_slice(), begin)
 }
 
-/// The first finding on cells that lie over their minutes from `begin` on.
+/// Returns the first fault of `cells` from `begin` on, or [`Verdict::Accepted`].
 fn first_finding<C: Curve>(curve: &mut C, cells: &[Cell], begin: i64) -> Verdict
     requires span { IsSpan (C.meaning curve.old) begin (all_minutes cells.now) }
     requires few { length cells.now < 2 ^ 32 }
@@ -59,7 +71,7 @@ fn first_finding<C: Curve>(curve: &mut C, cells: &[Cell], begin: i64) -> Verdict
     Verdict::Accepted
 }
 
-/// The point at which the cell ends that begins at a minute.
+/// Evaluates `curve` at the end of `cell`, which begins at `begin`, and returns the point.
 fn end_of<C: Curve>(curve: &mut C, begin: i64, cell: Cell) -> Point
     requires span { IsSpan (C.meaning curve.old) begin (minutes_of cell) }
     requires few { C.count curve.old < 2 ^ 63 }

@@ -1,11 +1,11 @@
-//! How many minutes cells have.
+//! The number of minutes of cells.
 
 ghost use Rattle.std.specs.Prelude.{◌≡◌, ◌-◌, ◌^◌, pos, min};
 ghost use Rattle.curve_law.specs.Cells.{minutes_of, all_minutes};
 
 use curve_law::Cell;
 
-/// The minutes of a cell.
+/// Returns the number of minutes of `cell`.
 pub fn minutes_of(cell: Cell) -> u32
     ensures { result ≡ minutes_of cell }
 {
@@ -15,7 +15,7 @@ pub fn minutes_of(cell: Cell) -> u32
     }
 }
 
-/// The minutes of all cells, or the greatest `i64` where they have more.
+/// Returns the number of minutes of all `cells`, or the greatest `i64` if that is less.
 #[tactic(auto, using(crate::proofs::CoveringLemmas::covering))]
 pub fn covered_by(cells: &[Cell]) -> i64
     ensures { result ≡ pos (min (all_minutes cells.now) (2 ^ 63 - 1)) }

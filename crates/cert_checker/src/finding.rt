@@ -1,4 +1,4 @@
-//! What is found on one cell.
+//! The verdict on one cell.
 
 ghost use Rattle.std.specs.Prelude.{◌≡◌, pos, ◌+ℤ◌};
 ghost use Rattle.curve_law.specs.Meaning.{IsSpan};
@@ -8,7 +8,7 @@ ghost use Rattle.cert_checker.specs.Workings.Findings.{quiet_finding, level_find
 
 use curve_law::{Cell, Curve, Point, Verdict, is_quiet, unit_cell};
 
-/// The finding on the cell of a number, which begins at a point, by the values at both its ends.
+/// Returns the verdict on `cell`, the one with this `number`, by the points at its begin and its end.
 #[tactic(auto, using(crate::proofs::FindingLemmas::findings))]
 pub fn finding_on<C: Curve>(
     curve: &C,
@@ -45,7 +45,7 @@ fn quiet_finding(number: u32, is_quiet: bool) -> Verdict
     }
 }
 
-/// The finding on a cell of one minute, by the right one.
+/// Returns the verdict on a cell of one minute; `right` is the right cell.
 fn unit_finding(number: u32, cell: Cell, right: Cell) -> Verdict
     ensures { result ≡ unit_finding number cell right }
 {

@@ -1,7 +1,7 @@
 //! The check of a track's cells, whoever made them.
 //!
-//! [`check_track`] needs a curve and cells alone: it knows nothing of tides, nor of how a search cuts a
-//! span. It asks the curve for the value at each cell's end once, and takes no memory.
+//! [`check_track`] depends on a curve and cells only, not on tides or on how a search cuts a span. It
+//! evaluates the curve once at each cell's end, and doesn't allocate.
 #![tactic(auto)]
 
 mod checking;

@@ -5,14 +5,14 @@ use curve_law::samples::{Line, Ripple};
 use curve_law::{Cell, Cells, Curve, Kind, Verdict};
 use std::alloc::{AllocError, Global};
 
-// Whether cells may be checked on a curve, of which no value was asked yet.
+// Returns true if cells may be checked on `curve`, not yet evaluated.
 fn can_check<C: Curve>(curve: &C, begin: i64, end: i64) -> bool
     ensures { IsTrue result → (begin ≤ℤ end) × ((C.meaning curve.now).first ≤ℤ begin) × (end ≤ℤ (C.meaning curve.now).last) × (C.count curve.now ≡ 0) }
 {
     begin <= end && curve.first() <= begin && end <= curve.last() && curve.evaluations() == 0
 }
 
-// Whether the check of these cells finds this, and asks for no more than one value a cell and one more.
+// Returns true if the verdict on `cells` is `wanted`, after at most one evaluation a cell and one more.
 fn finds<C: Curve + Drop>(
     alloc: Global,
     curve: C,
@@ -31,7 +31,7 @@ fn finds<C: Curve + Drop>(
     Ok(found == wanted && curve.evaluations() as usize <= cells.len() + 1)
 }
 
-// A line that rises past 0 after minute 2, where its level is 2.
+// Returns a line that rises past 0 after minute 2, where its level is 2.
 fn rising() -> Line {
     Line::new(-2, false, 1)
 }

@@ -1,4 +1,4 @@
--- The cells of the written rule have the length of their span, and are accepted.
+-- The cells of a span by the halving rule have the length of the span, and are accepted.
 use Rattle.std.proofs.Common.{◌≡◌, ℕ, zero, suc, ◌+◌, ◌-◌, ◌/◌, ◌≤◌, ◌<◌, ◌==◌, ℤ, pos, ◌+ℤ◌, true, nat_le, List, [], ◌∷◌, ◌++◌, length, length-append, refl, sym, arith}
 use Rattle.std.proofs.lemmas.Bool.Decides.{nat_tests, Decides-int_eq, Decides-eqb}
 use Rattle.std.proofs.lemmas.Int.{ints}
@@ -15,7 +15,7 @@ use Rattle.curve_law.specs.Verdicts.{cell_verdict, or_next, cells_verdict, verdi
 use Rattle.curve_law.proofs.CoverLemmas.{by_test, split-one, split-step, cover-none, cover-last, cover-block}
 use Rattle.curve_law.proofs.VerdictLemmas.{same_kind-refl}
 
--- cells of a span, at least one and at most one a minute, each of which says what is so
+-- cells of a span: at least one, at most one a minute, each with a true claim
 pub record AreRight (c : Meaning) (a : ℤ) (n : ℕ) (cells : List Cell) : Type 0 where
   pub whole : all_minutes cells ≡ n
   pub few : length cells ≤ n

@@ -1,4 +1,5 @@
--- A curve that changes by at most its rate in each minute keeps its side between end values that are far enough from 0.
+-- A value that changes by at most its rate each minute stays on its side of 0 between end values far
+-- enough from 0.
 use Rattle.std.proofs.Common.{nat_le, ◌⊎◌, ◌≡◌, ◌≢◌, ℕ, zero, suc, ◌+◌, ◌-◌, ◌*◌, ◌≤◌, ◌<◌, ℤ, pos, negsuc, ◌+ℤ◌, ◌-ℤ◌, ◌*ℤ◌, neg_ℤ, ◌≤ℤ◌, ◌<ℤ◌, unsigned_abs, int_lt, int_le, Bool, true, false, not, ◌&&◌, ◌||◌, cond, Option, Some, None, refl, sym, ◌∙◌, arith}
 use mathlib.Core.Bool.{beq}
 use Rattle.std.proofs.lemmas.Bool.Decides.{nat_tests}
@@ -9,7 +10,7 @@ use Rattle.curve_law.specs.Meaning.{Meaning, IsSpan, IsRate, IsLawful}
 use Rattle.curve_law.specs.declared.quiet.TheConstants.{MOST_MINUTES}
 use Rattle.curve_law.specs.Cover.{keeps_side, is_quiet, unit_cell}
 
--- how far the value is after so many minutes, and before as many
+-- a bound on the value some minutes after the begin, and some minutes before the end
 pub drift_up : (f : ℤ → ℤ) (a : ℤ) (r n : ℕ) → ((k : ℕ) → k < n → unsigned_abs (f (a +ℤ pos k +ℤ pos 1) -ℤ f (a +ℤ pos k)) ≤ r) → f (a +ℤ pos n) ≤ℤ (f a +ℤ pos (r * n))
 drift_up f a r zero steps = let here : a +ℤ pos 0 ≡ a = omega (arith, ints) in rw here (omega (arith, ints))
 drift_up f a r (suc n) steps =
@@ -26,7 +27,7 @@ drift_down f a r (suc n) steps =
     let there : a +ℤ pos n +ℤ pos 1 ≡ a +ℤ pos (suc n) = omega (arith, ints) in
     rw (← there) (omega (arith, ints))
 
--- the steps of the second part of so many minutes
+-- the steps of the second part of a cell
 pub later_steps : (f : ℤ → ℤ) (a : ℤ) (r j i : ℕ) → ((k : ℕ) → k < j + i → unsigned_abs (f (a +ℤ pos k +ℤ pos 1) -ℤ f (a +ℤ pos k)) ≤ r) → (k : ℕ) → k < i → unsigned_abs (f (a +ℤ pos j +ℤ pos k +ℤ pos 1) -ℤ f (a +ℤ pos j +ℤ pos k)) ≤ r
 later_steps f a r j i steps k few =
     let there : a +ℤ pos j +ℤ pos k ≡ a +ℤ pos (j + k) = omega (arith, ints) in
@@ -77,7 +78,7 @@ rated c a n (Some rate) is lawful span two most keeps j few =
     let law = lawful.rates a n rate (record { first = span.first; last = span.last; some = omega arith; few = most }) is in
     same_side c a j (n - j) rate (omega arith) (rw all at law) (rw all at keeps)
 
--- inside a quiet cell no side differs from its ends'
+-- each value in a quiet cell is on the side of its ends
 pub quiet-sides : (c : Meaning) (a : ℤ) (n : ℕ) → IsLawful c → IsSpan c a n → is_quiet c a n ≡ true → (j : ℕ) → j ≤ n → side_at c.track (a +ℤ pos j) ≡ side_at c.track a
 quiet-sides c a n lawful span quiet =
     let parts = quiet_parts c a n quiet in
@@ -95,7 +96,7 @@ change true false e = refl
 change false true e = refl
 change false false e = absurd (e refl)
 
--- nor is there an event after any of its minutes
+-- no event comes after any minute of a quiet cell
 pub quiet-no_event : (c : Meaning) (a : ℤ) (n : ℕ) → IsLawful c → IsSpan c a n → is_quiet c a n ≡ true → (k : ℕ) → k < n → has_event c.track (a +ℤ pos k) ≡ false
 quiet-no_event c a n lawful span quiet k few =
     let here = quiet-sides c a n lawful span quiet k (omega arith) in
@@ -103,7 +104,7 @@ quiet-no_event c a n lawful span quiet k few =
     let next : a +ℤ pos k +ℤ pos 1 ≡ a +ℤ pos (suc k) = omega (arith, ints) in
     no_change (side_at c.track (a +ℤ pos k)) (side_at c.track (a +ℤ pos k +ℤ pos 1)) (here ∙ sym (rw next there))
 
--- the test goes by the side of the first value
+-- the test depends on the side of the first value
 pub keeps-above : (v w most rate : ℤ) (n : ℕ) → most ≡ rate *ℤ pos n → pos 0 <ℤ v → pos 0 <ℤ w → int_lt most (v +ℤ w) ≡ keeps_side (Some rate) n v w
 unfolding keeps_side
 keeps-above v w most rate n e first second = rw e (grind (arith, ints))
@@ -161,7 +162,7 @@ differ true false h e = cc
 differ false true h e = cc
 differ false false h e = cc
 
--- values on two sides are the ends of no quiet cell
+-- values on two sides of 0 are the ends of no quiet cell
 pub crossed-loud : (c : Meaning) (a : ℤ) (n : ℕ) → not (beq (int_lt (pos 0) (c.track.value a)) (int_lt (pos 0) (c.track.value (a +ℤ pos n)))) ≡ true → false ≡ is_quiet c a n
 unfolding is_quiet
 crossed-loud c a n other =

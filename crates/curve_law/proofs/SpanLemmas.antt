@@ -1,4 +1,4 @@
--- The minutes of a span as 64 bits, and a count of them that stops at the greatest `i64`.
+-- The minutes of a span as 64-bit numbers, and a count of them that saturates at the greatest `i64`.
 use Rattle.std.proofs.Common.{◌≡◌, ℕ, ◌-◌, ◌^◌, min, w64, to_z, of_z, FitsSigned, ℤ, pos, ◌-ℤ◌, ◌≤ℤ◌, unsigned_abs, refl, sym, ap, arith, ◌∙◌}
 use Rattle.std.proofs.lemmas.Int.{ints, to_z-of_z}
 use Rattle.curve_law.specs.Meaning.{Meaning, IsSpan, IsLawful}
@@ -13,7 +13,7 @@ pub record IsBetween (c : Meaning) (begin end : ℤ) : Type 0 where
 pub all-of : (n : ℕ) (begin end : ℤ) → n ≡ unsigned_abs (end -ℤ begin) → begin ≤ℤ end → (end -ℤ begin) ≤ℤ pos (2 ^ 61) → pos (min n (2 ^ 63 - 1)) ≡ end -ℤ begin
 all-of n begin end is forward few = omega (arith, ints)
 
--- more minutes than an `i64` holds are not those of a span
+-- no span has more minutes than an `i64` holds
 whole-of : (n : ℕ) (begin end : ℤ) → pos (min n (2 ^ 63 - 1)) ≡ end -ℤ begin → begin ≤ℤ end → (end -ℤ begin) ≤ℤ pos (2 ^ 61) → n ≡ unsigned_abs (end -ℤ begin)
 whole-of n begin end is forward few = omega (arith, ints)
 
@@ -23,14 +23,14 @@ minutes-few c begin end between =
     let first = between.first in let last = between.last in
     omega (arith, ints)
 
--- a minute of the span as 64 bits
+-- a minute of the span as a 64-bit number
 minute-fits : (c : Meaning) (begin end m : ℤ) → IsBetween c begin end → begin ≤ℤ m → m ≤ℤ end → FitsSigned w64 m
 minute-fits c begin end m between from to =
     let early = between.lawful.early in let late = between.lawful.late in
     let first = between.first in let last = between.last in
     omega (arith, ints)
 
--- the ends of the span, and its minutes, as 64 bits
+-- the ends of the span, and the number of its minutes, as 64-bit numbers
 pub ends-are : (c : Meaning) (begin end : ℤ) → IsBetween c begin end → to_z w64 (of_z w64 end) -ℤ to_z w64 (of_z w64 begin) ≡ end -ℤ begin
 ends-are c begin end between =
     let forward = between.forward in

@@ -1,4 +1,4 @@
--- How the plain list of a span is made of those of its parts.
+-- The plain list of a span from those of its parts.
 use Rattle.std.proofs.Common.{◌≡◌, ℕ, zero, suc, ◌+◌, ◌<◌, ℤ, pos, ◌+ℤ◌, true, false, cond, [], ◌∷◌, ◌++◌, map, refl, ap, arith}
 use Rattle.std.proofs.lemmas.Int.{ints}
 use Rattle.std.proofs.lemmas.List.{map-append}
@@ -33,7 +33,7 @@ pub plain_list-one : (t : Track) (a : ℤ) → plain_list t a 1 ≡ cond (has_ev
 unfolding plain_list minutes
 plain_list-one t a = elim (has_event t a) as (λ v. map (event_at t) (cond v (a ∷ []) []) ≡ cond v (event_at t a ∷ []) []) [ true ↦ refl | false ↦ refl ]
 
--- no event where no minute has one
+-- no event if no minute has one
 pub plain_list-none : (t : Track) (a : ℤ) (n : ℕ) → ((k : ℕ) → k < n → has_event t (a +ℤ pos k) ≡ false) → plain_list t a n ≡ []
 plain_list-none t a zero none = plain_list-zero t a
 plain_list-none t a (suc n) none =

@@ -1,4 +1,4 @@
--- What an accepted verdict says, and which cells are accepted.
+-- Cells that are accepted, and the events that they have.
 use Rattle.std.proofs.Common.{◌≡◌, ℕ, suc, ◌==◌, ℤ, pos, ◌+ℤ◌, Bool, true, false, cond, List, [], ◌∷◌, refl, sym, arith}
 use Rattle.std.specs.Ordering.{int_eq}
 use Rattle.std.proofs.lemmas.Bool.Decides.{nat_tests, Decides-int_eq, Decides-eqb}
@@ -65,7 +65,7 @@ both_accepted (NotQuiet cell) w h = cc
 both_accepted (WrongStep cell) w h = cc
 both_accepted (WrongLevel cell written computed) w h = cc
 
--- what a test says that chooses acceptance
+-- a test that selects acceptance is true
 accepted_true : (b : Bool) (v : Verdict) → (v ≡ Accepted → ⊥) → cond b Accepted v ≡ Accepted → b ≡ true
 accepted_true true v unlike h = refl
 accepted_true false v unlike h = absurd (unlike h)
@@ -74,7 +74,7 @@ accepted_false : (b : Bool) (v : Verdict) → (v ≡ Accepted → ⊥) → cond 
 accepted_false true v unlike h = absurd (unlike h)
 accepted_false false v unlike h = refl
 
--- what a test says that chooses what may be accepted
+-- a test that selects a verdict which may be acceptance
 tested : (b : Bool) (v w : Verdict) → (w ≡ Accepted → ⊥) → cond b v w ≡ Accepted → (b ≡ true) × (v ≡ Accepted)
 tested true v w unlike h = (refl, h)
 tested false v w unlike h = absurd (unlike h)

@@ -1,27 +1,27 @@
--- Cells that lie one after the other, and the events in them (this project).
+-- Cells one after the other, and their events (this project).
 use Rattle.std.specs.Prelude.{ℕ, ◌+◌, ℤ, pos, ◌+ℤ◌, List, [], ◌∷◌, ◌++◌}
 use Rattle.curve_law.specs.declared.cell.Cell.{Cell}
 use Rattle.curve_law.specs.declared.cell.Cell.TheVariants.{Quiet, Still, Turn}
 use Rattle.curve_law.specs.declared.event.Event.{Event}
 
--- how many minutes a cell has
+-- the number of minutes of a cell
 abbrev pub minutes_of : Cell → ℕ
 minutes_of (Quiet n) = n
 minutes_of Still = 1
 minutes_of (Turn kind level) = 1
 
--- how many minutes they have together
+-- the number of minutes of all cells
 unfoldable pub all_minutes : List Cell → ℕ
 all_minutes [] = 0
 all_minutes (cell ∷ cells) = minutes_of cell + all_minutes cells
 
--- the event in a cell that begins at a minute
+-- the event in a cell that begins at minute `a`
 abbrev pub event_in : ℤ → Cell → List Event
 event_in a (Quiet n) = []
 event_in a Still = []
 event_in a (Turn kind level) = record { minute = a; kind = kind; level = level } ∷ []
 
--- the events of cells of which the first begins at a minute, and each other one where the one before it ends
+-- the events of consecutive cells, of which the first begins at minute `a`
 unfoldable pub turns : ℤ → List Cell → List Event
 turns a [] = []
 turns a (cell ∷ cells) = event_in a cell ++ turns (a +ℤ pos (minutes_of cell)) cells

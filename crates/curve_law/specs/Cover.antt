@@ -1,4 +1,5 @@
--- The cells of a span: quiet ones where the rate shows that nothing happens, and halves down to single minutes elsewhere (this project).
+-- The cells of a span: quiet ones if the rate excludes any event, else halves, down to single minutes
+-- (this project).
 use Rattle.std.specs.Prelude.{ℕ, zero, suc, ◌-◌, ◌/◌, ℤ, pos, ◌+ℤ◌, ◌*ℤ◌, neg_ℤ, int_lt, int_le, nat_le, Bool, true, false, ◌&&◌, ◌||◌, if◌then◌else◌, Option, Some, None, List, [], ◌∷◌, ◌++◌}
 use Rattle.curve_law.specs.declared.cell.Cell.{Cell}
 use Rattle.curve_law.specs.declared.cell.Cell.TheVariants.{Quiet, Still, Turn}
@@ -6,23 +7,24 @@ use Rattle.curve_law.specs.declared.quiet.TheConstants.{MOST_MINUTES}
 use Rattle.curve_law.specs.Track.{Track, has_event, event_at}
 use Rattle.curve_law.specs.Meaning.{Meaning}
 
--- the values at both ends of so many minutes are too far on one side of 0 for the rate to lead to the other side between them
+-- v and w, n minutes apart, are so far on one side of 0 that a value can't cross 0 between them at this
+-- rate
 unfoldable pub keeps_side : Option ℤ → ℕ → ℤ → ℤ → Bool
 keeps_side None n v w = false
 keeps_side (Some rate) n v w =
     (int_lt (pos 0) v && int_lt (pos 0) w && int_lt (rate *ℤ pos n) (v +ℤ w))
     || (int_le v (pos 0) && int_le w (pos 0) && int_le (rate *ℤ pos n) (neg_ℤ (v +ℤ w)))
 
--- a cell of so many minutes from a minute on is quiet
+-- the cell of n minutes from minute `a` on is quiet
 unfoldable pub is_quiet : Meaning → ℤ → ℕ → Bool
 is_quiet c a n =
     nat_le 2 n && nat_le n MOST_MINUTES && keeps_side (c.rate a n) n (c.track.value a) (c.track.value (a +ℤ pos n))
 
--- the cell of a single minute
+-- the cell of the single minute `a`
 unfoldable pub unit_cell : Track → ℤ → Cell
 unit_cell t a = if has_event t a then Turn (event_at t a).kind (t.note a) else Still
 
--- the cells of so many minutes, with as many halvings as are allowed
+-- the cells of n minutes from minute `a` on, with at most `halvings` halvings
 unfoldable pub split_within : ℕ → Meaning → ℤ → ℕ → List Cell
 split_within zero c a n = []
 split_within (suc halvings) c a n =
@@ -34,11 +36,12 @@ split_within (suc halvings) c a n =
       ]
     ]
 
--- the cells of so many minutes: one that is quiet, one of a single minute, or those of its two halves, the first the shorter
+-- the cells of n minutes from `a` on: a quiet one, one of a single minute, or those of the two halves,
+-- the shorter first
 unfoldable pub split : Meaning → ℤ → ℕ → List Cell
 split c a n = split_within n c a n
 
--- the cells of so many minutes, with as many blocks as are allowed
+-- the cells of n minutes from minute `a` on, in at most `blocks` blocks
 unfoldable pub cover_within : ℕ → Meaning → ℤ → ℕ → List Cell
 cover_within zero c a n = []
 cover_within (suc blocks) c a n =
@@ -47,6 +50,7 @@ cover_within (suc blocks) c a n =
       | false ↦ split c a MOST_MINUTES ++ cover_within blocks c (a +ℤ pos MOST_MINUTES) (n - MOST_MINUTES)
     ]
 
--- the cells of a span of so many minutes, in blocks of 1,024 minutes from its begin on, of which the last may be shorter
+-- the cells of the span of n minutes from `a` on, in blocks of 1,024 minutes from its begin on; the last
+-- may be shorter
 unfoldable pub cover : Meaning → ℤ → ℕ → List Cell
 cover c a n = cover_within n c a n

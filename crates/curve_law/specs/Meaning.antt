@@ -1,44 +1,45 @@
--- What is known of a curve: a track, and how fast its value may change (this project).
+-- A curve: a track, and bounds on how fast its value changes (this project).
 use Rattle.std.specs.Prelude.{◌≡◌, ℕ, ◌+◌, ◌*◌, ◌^◌, ◌<◌, ◌≤◌, ℤ, pos, neg_ℤ, ◌+ℤ◌, ◌-ℤ◌, ◌*ℤ◌, ◌≤ℤ◌, ◌<ℤ◌, unsigned_abs, Option, Some}
 use Rattle.curve_law.specs.declared.quiet.TheConstants.{MOST_MINUTES}
 use Rattle.curve_law.specs.Track.{Track}
 
--- the minutes from the first to the last, the track over them, and how much its value changes at most in each minute of a cell,
--- which is given by its first minute and its number of minutes; a cell may have no such rate
+-- the first and last minute, the track between them, and a bound on the change of its value in each
+-- minute of a cell, which is named by its first minute and its number of minutes; a cell may have no
+-- bound
 pub record Meaning : Type 0 where
   pub first : ℤ
   pub last : ℤ
   pub track : Track
   pub rate : ℤ → ℕ → Option ℤ
 
--- a minute that has a value
+-- minute m has a value
 pub record IsMinute (c : Meaning) (m : ℤ) : Type 0 where
   pub first : c.first ≤ℤ m
   pub last : m ≤ℤ c.last
 
--- a number that is at most so far from the value at a minute
+-- `near` is within `error` of the value at minute m
 abbrev pub IsNearValue : Meaning → ℕ → ℤ → ℤ → Type 0
 IsNearValue c error m near = unsigned_abs (near -ℤ c.track.value m) ≤ error
 
--- a span of so many minutes that has a value at both ends, and so at each of its minutes
+-- a span of n minutes from minute `a` on, with a value at both ends, and so at each of its minutes
 pub record IsSpan (c : Meaning) (a : ℤ) (n : ℕ) : Type 0 where
   pub first : c.first ≤ℤ a
   pub last : (a +ℤ pos n) ≤ℤ c.last
 
--- a cell of so many minutes that has a value at both ends, of a length that may have a rate
+-- a cell of 1 to 1,024 minutes with a value at both ends
 pub record IsCell (c : Meaning) (a : ℤ) (n : ℕ) : Type 0 where
   pub first : c.first ≤ℤ a
   pub last : (a +ℤ pos n) ≤ℤ c.last
   pub some : 1 ≤ n
   pub few : n ≤ MOST_MINUTES
 
--- each step of a minute within the cell changes the value by at most the rate
+-- each step of one minute within the cell changes the value by at most the rate
 pub record IsRate (c : Meaning) (a : ℤ) (n : ℕ) (rate : ℤ) : Type 0 where
   pub small : (rate *ℤ pos MOST_MINUTES) <ℤ pos (5 * 10 ^ 37)
   pub steps : (k : ℕ) → k < n →
       pos (unsigned_abs (c.track.value (a +ℤ pos k +ℤ pos 1) -ℤ c.track.value (a +ℤ pos k))) ≤ℤ rate
 
--- what holds of every curve
+-- the law of a curve: minutes and values within limits, and each rate bounds the steps of its cell
 pub record IsLawful (c : Meaning) : Type 0 where
   pub forward : c.first ≤ℤ c.last
   pub early : neg_ℤ (pos (2 ^ 60)) ≤ℤ c.first
@@ -46,7 +47,7 @@ pub record IsLawful (c : Meaning) : Type 0 where
   pub values : (m : ℤ) → IsMinute c m → unsigned_abs (c.track.value m) < 10 ^ 37
   pub rates : (a : ℤ) (n : ℕ) (rate : ℤ) → IsCell c a n → c.rate a n ≡ Some rate → IsRate c a n rate
 
--- two curves say the same of a span of so many minutes: the kinds, the value and the level at each minute, the rate of each cell
+-- two curves agree over the n minutes from `a` on: in kinds, values, levels, and the rate of each cell
 pub record AgreeOver (c d : Meaning) (a : ℤ) (n : ℕ) : Type 0 where
   pub rising : c.track.rising ≡ d.track.rising
   pub falling : c.track.falling ≡ d.track.falling

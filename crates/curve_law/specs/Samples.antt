@@ -5,7 +5,7 @@ use Rattle.std.specs.Ordering.{int_eq}
 use Rattle.curve_law.specs.declared.kind.Kind.TheVariants.{High, Low, MarkRising, MarkFalling}
 use Rattle.curve_law.specs.Meaning.{Meaning}
 
--- a value that rises or falls by 1 each minute; its level is the minute
+-- a value that rises or falls by 1 each minute, with the minute as its level
 abbrev pub line : ℤ → Bool → ℤ → Meaning
 line start falls rate = record {
   first = negsuc 999999;

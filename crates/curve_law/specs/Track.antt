@@ -1,33 +1,34 @@
--- What is followed minute by minute, and the plain list of its events, which looks at every minute of a span (this project).
+-- A track, and the plain list of its events, which looks at each minute of a span (this project).
 use Rattle.std.specs.Prelude.{ℕ, zero, suc, ℤ, pos, ◌+ℤ◌, Bool, not, int_lt, if◌then◌else◌, List, [], ◌∷◌, map, filter}
 use Rattle.curve_law.specs.declared.kind.Kind.{Kind}
 use Rattle.curve_law.specs.declared.event.Event.{Event}
 
--- a value at each minute, the level that an event after the minute carries, and the kinds of the two events
+-- the value at each minute, the level of an event after each minute, and the kinds of a rising and a
+-- falling event
 pub record Track : Type 0 where
   pub value : ℤ → ℤ
   pub note : ℤ → ℤ
   pub rising : Kind
   pub falling : Kind
 
--- the side of zero at a minute: a value of 0 is on the side of the negative ones
+-- the value at minute m is above 0; a value of 0 counts as below
 abbrev pub side_at : Track → ℤ → Bool
 side_at t m = int_lt (pos 0) (t.value m)
 
--- an event happens after a minute where the sides there and at the next minute differ
+-- an event comes after minute m: the sides of zero at m and at the next minute differ
 abbrev pub has_event : Track → ℤ → Bool
 has_event t m = if side_at t m then not (side_at t (m +ℤ pos 1)) else side_at t (m +ℤ pos 1)
 
--- the event after a minute that has one: from above 0 it is the falling one
+-- the event after a minute that has one: the falling one from above 0, else the rising one
 abbrev pub event_at : Track → ℤ → Event
 event_at t m =
     record { minute = m; kind = if side_at t m then t.falling else t.rising; level = t.note m }
 
--- that many minutes, from the first one on
+-- the n minutes from `a` on
 unfoldable pub minutes : ℤ → ℕ → List ℤ
 minutes a zero = []
 minutes a (suc n) = a ∷ minutes (a +ℤ pos 1) n
 
--- the events of that many minutes, from the first one on
+-- the events of the n minutes from `a` on
 unfoldable pub plain_list : Track → ℤ → ℕ → List Event
 plain_list t a n = map (event_at t) (filter (has_event t) (minutes a n))

@@ -1,4 +1,5 @@
--- What a check of cells finds, whoever made them: the length, then the first cell that says what isn't so (this project).
+-- The result of checking cells, whoever made them: first the length, then the first cell whose claim is
+-- false (this project).
 use Rattle.std.specs.Prelude.{ℕ, suc, ◌-◌, ◌^◌, min, ℤ, pos, ◌+ℤ◌, Bool, ◌==◌, if◌then◌else◌, List, [], ◌∷◌}
 use Rattle.std.specs.Ordering.{int_eq}
 use Rattle.curve_law.specs.declared.cell.Cell.{Cell}
@@ -12,7 +13,7 @@ use Rattle.curve_law.specs.Meaning.{Meaning}
 use Rattle.curve_law.specs.Cells.{minutes_of, all_minutes}
 use Rattle.curve_law.specs.Cover.{is_quiet}
 
--- the place of a kind in the order in which events of one minute are listed
+-- the rank of a kind in the order in which events of one minute are listed
 abbrev pub place_of : Kind → ℕ
 place_of High = 0
 place_of Low = 1
@@ -21,23 +22,24 @@ place_of EbbBegins = 3
 place_of MarkRising = 4
 place_of MarkFalling = 5
 
+-- two kinds are the same
 abbrev pub same_kind : Kind → Kind → Bool
 same_kind kind other = place_of kind == place_of other
 
--- the event after a minute that has one is of this kind and level
+-- the verdict on an event: the kind and the level are those of the event after minute `a`
 abbrev pub step_verdict : Meaning → ℤ → ℕ → Kind → ℤ → Verdict
 step_verdict c a number kind level =
     if same_kind kind (event_at c.track a).kind
     then (if int_eq level (c.track.note a) then Accepted else WrongLevel number level (c.track.note a))
     else WrongStep number
 
--- the finding on the cell of this number, which begins at a minute
+-- the verdict on the cell with this number, which begins at minute `a`
 unfoldable pub cell_verdict : Meaning → ℤ → ℕ → Cell → Verdict
 cell_verdict c a number (Quiet n) = if is_quiet c a n then Accepted else NotQuiet number
 cell_verdict c a number Still = if has_event c.track a then WrongStep number else Accepted
 cell_verdict c a number (Turn kind level) = if has_event c.track a then step_verdict c a number kind level else WrongStep number
 
--- the first finding, or the next one where nothing was wrong
+-- the first fault, or the next verdict if there is none
 abbrev pub or_next : Verdict → Verdict → Verdict
 or_next Accepted next = next
 or_next (WrongLength covered wanted) next = WrongLength covered wanted
@@ -45,13 +47,13 @@ or_next (NotQuiet cell) next = NotQuiet cell
 or_next (WrongStep cell) next = WrongStep cell
 or_next (WrongLevel cell written computed) next = WrongLevel cell written computed
 
--- the first finding on cells of which the first begins at a minute and has this number
+-- the first fault of consecutive cells, of which the first has this number and begins at minute `a`
 unfoldable pub cells_verdict : Meaning → ℤ → ℕ → List Cell → Verdict
 cells_verdict c a number [] = Accepted
 cells_verdict c a number (cell ∷ cells) =
     or_next (cell_verdict c a number cell) (cells_verdict c (a +ℤ pos (minutes_of cell)) (suc number) cells)
 
--- the finding on the cells of a span of so many minutes; cells are counted from 1
+-- the verdict on the cells of the span of n minutes from `a` on; cells are counted from 1
 unfoldable pub verdict : Meaning → ℤ → ℕ → List Cell → Verdict
 verdict c a n cells =
     if all_minutes cells == n then cells_verdict c a 1 cells

@@ -2,14 +2,15 @@
 
 use crate::kind::Kind;
 
-/// A stretch of a track's minutes, and what is said of them. It lies where the cells before it end.
+/// A cell: some consecutive minutes of a track, and the claim about their events. It begins where the
+/// cell before it ends.
 #[derive(Clone, Copy, Debug, PartialEq, Eq)]
 pub enum Cell {
-    /// So many minutes, from 2 to 1,024, with no event after any of them.
+    /// This number of minutes, from 2 to 1,024, with no event after any of them.
     Quiet(u32),
     /// One minute with no event after it.
     Still,
-    /// One minute with this event after it, and the level at the minute, in millionths of the
+    /// One minute with an event of this kind after it, and the level at the minute, in millionths of the
     /// station's unit.
     Turn(Kind, i64),
 }

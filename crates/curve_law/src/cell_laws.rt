@@ -1,4 +1,4 @@
-//! What follows of cells, of the curve's law and of verdicts.
+//! Theorems about cells, curves and verdicts.
 
 ghost use Rattle.std.specs.Prelude.{◌≡◌, ℕ, ◌+◌, ◌-◌, ◌/◌, ◌<◌, ◌≤◌, ℤ, pos, ◌+ℤ◌, true, false, List, [], ◌∷◌, ◌++◌, length};
 ghost use Rattle.curve_law.specs.declared.cell.Cell.{Cell};
@@ -10,8 +10,8 @@ ghost use Rattle.curve_law.specs.Cells.{all_minutes, turns};
 ghost use Rattle.curve_law.specs.Cover.{is_quiet, unit_cell, split, cover};
 ghost use Rattle.curve_law.specs.Verdicts.{verdict};
 
-/// The cells of a block: one of a single minute, one that is quiet, or those of its first half,
-/// rounded down, and of the rest.
+/// Proves that the cells of a block are one of a single minute, one that is quiet, or those of its first
+/// half, rounded down, and of the rest.
 pub fn cells_are_halved()
     ensures one_minute { (c : Meaning) (a : ℤ) → split c a 1 ≡ unit_cell c.track a ∷ [] }
     ensures quiet { (c : Meaning) (a : ℤ) (n : ℕ) → is_quiet c a n ≡ true → split c a n ≡ Cell.Quiet n ∷ [] }
@@ -19,8 +19,8 @@ pub fn cells_are_halved()
         split c a n ≡ split c a (n / 2) ++ split c (a +ℤ pos (n / 2)) (n - n / 2) }
 {}
 
-/// The cells of a span: none, those of its last block of at most 1,024 minutes, or those of a block
-/// of 1,024 minutes and of the rest.
+/// Proves that the cells of a span are none, those of its last block of at most 1,024 minutes, or those
+/// of a block of 1,024 minutes and of the rest.
 pub fn spans_are_cut_into_blocks()
     ensures no_minute { (c : Meaning) (a : ℤ) → cover c a 0 ≡ [] }
     ensures last_block { (c : Meaning) (a : ℤ) (n : ℕ) → n ≤ MOST_MINUTES → cover c a n ≡ split c a n }
@@ -28,8 +28,8 @@ pub fn spans_are_cut_into_blocks()
         cover c a n ≡ split c a MOST_MINUTES ++ cover c (a +ℤ pos MOST_MINUTES) (n - MOST_MINUTES) }
 {}
 
-/// Inside a quiet cell no side differs from that at its ends, and no event stands after any of its
-/// minutes.
+/// Proves that each value in a quiet cell is on the same side of zero as the values at its ends, and that
+/// no event comes after any of its minutes.
 pub fn quiet_cells_have_no_event()
     ensures sides { (c : Meaning) (a : ℤ) (n : ℕ) → IsLawful c → IsSpan c a n → is_quiet c a n ≡ true →
         (k : ℕ) → k ≤ n → side_at c.track (a +ℤ pos k) ≡ side_at c.track a }
@@ -37,14 +37,14 @@ pub fn quiet_cells_have_no_event()
         (k : ℕ) → k < n → has_event c.track (a +ℤ pos k) ≡ false }
 {}
 
-/// The events of accepted cells are exactly those of the span, whoever made the cells.
+/// Proves that the events of accepted cells are exactly those of the span, whoever made the cells.
 pub fn accepted_cells_are_exact()
     ensures { (c : Meaning) (a : ℤ) (n : ℕ) (cells : List Cell) → IsLawful c → IsSpan c a n →
         verdict c a n cells ≡ Verdict.Accepted → turns a cells ≡ plain_list c.track a n }
 {}
 
-/// The cells of a span by the rule have its minutes, at most one cell a minute. They are accepted,
-/// and so their events are exactly those of the span.
+/// Proves that the cells of a span by the halving rule have all its minutes, number at most one a minute,
+/// and are accepted, so that their events are exactly those of the span.
 pub fn covers_are_accepted()
     ensures minutes { (c : Meaning) (a : ℤ) (n : ℕ) → all_minutes (cover c a n) ≡ n }
     ensures few { (c : Meaning) (a : ℤ) (n : ℕ) → length (cover c a n) ≤ n }
@@ -53,8 +53,8 @@ pub fn covers_are_accepted()
         turns a (cover c a n) ≡ plain_list c.track a n }
 {}
 
-/// Two curves that say the same of a span have the same events there, the same cells and the same
-/// verdicts, whatever they say elsewhere.
+/// Proves that two curves that agree over a span have the same events, cells and verdicts there, whatever
+/// they are elsewhere.
 pub fn agreeing_curves_have_one_answer()
     ensures events { (c d : Meaning) (a : ℤ) (n : ℕ) → AgreeOver c d a n →
         plain_list c.track a n ≡ plain_list d.track a n }

@@ -5,7 +5,7 @@ ghost use Rattle.std.specs.Prelude.{◌≡◌};
 use crate::cell::Cell;
 use std::marker::Model;
 
-/// Cells that lie one after the other. Contracts see it as the list of them.
+/// Cells one after the other. In contracts its value is the list of them.
 #[derive(Clone, Debug, Drop)]
 pub struct Cells {
     items: Vec<Cell>,
@@ -21,14 +21,14 @@ impl Model for Cells {
 }
 
 impl Cells {
-    /// The list of a vector's cells. It takes no memory.
+    /// Returns the list of the cells in `items`. It doesn't allocate.
     pub fn from_vec(items: Vec<Cell>) -> Cells
         ensures { result ≡ items.items }
     {
         Cells { items }
     }
 
-    /// The cells, lent.
+    /// Borrows the cells as a slice.
     pub fn as_slice(&self) -> &[Cell]
         ensures { result.now ≡ self.now }
     {

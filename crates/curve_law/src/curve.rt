@@ -1,36 +1,37 @@
-//! A value at each minute, and how fast it may change.
+//! Curves: a value at each minute, and bounds on its rate of change.
 
 ghost use Rattle.std.specs.Prelude.{◌≡◌, ℕ, ◌+◌, ◌^◌, ◌<◌, ◌≤◌, ℤ, pos};
 ghost use Rattle.curve_law.specs.Meaning.{Meaning, IsMinute, IsCell, IsNearValue, IsLawful};
 
 use crate::kind::Kind;
 
-/// A track that is asked minute by minute, and that knows how fast its value may change.
+/// A track that is evaluated minute by minute, with bounds on how fast its value changes.
 ///
-/// Minutes are counted from 1970-01-01T00:00Z. What a curve means never changes. It counts the calls of
-/// `value` and `near_value`. Not counted are `exact_value`, whose near value was counted, `note` and `rate`.
+/// Minutes are counted from 1970-01-01T00:00Z. No call changes the values of a curve. A curve counts the
+/// calls of `value` and `near_value`. It doesn't count `exact_value`, whose approximate value was
+/// counted, nor `note` and `rate`.
 pub trait Curve {
-    /// The minutes, values, levels, kinds and rates that it tells.
+    /// The first and last minute, the values, levels, kinds and rates of the curve.
     ghost meaning: { Self → Meaning };
 
-    /// The near value at each minute.
+    /// The approximate value at each minute.
     ghost near: { Self → ℤ → ℤ };
 
-    /// How far a near value may be from the value.
+    /// The most that an approximate value differs from the value.
     ghost error: { Self → ℕ };
 
-    /// How many values it was asked for.
+    /// The number of evaluations so far.
     ghost count: { Self → ℕ };
 
-    /// The first minute that has a value.
+    /// Returns the first minute that has a value.
     fn first(&self) -> i64
         ensures { result ≡ (meaning self.now).first };
 
-    /// The last minute that has a value.
+    /// Returns the last minute that has a value.
     fn last(&self) -> i64
         ensures { result ≡ (meaning self.now).last };
 
-    /// The value at a minute, below 10^37 in size. This call counts.
+    /// Evaluates the curve: returns the value at minute `m`, below 10^37 in size. The call is counted.
     fn value(&mut self, m: i64) -> i128
         requires minute { IsMinute (meaning self.old) m }
         requires few { count self.old < 2 ^ 63 }
@@ -40,7 +41,8 @@ pub trait Curve {
         ensures same_near { near self.new ≡ near self.old }
         ensures same_error { error self.new ≡ error self.old };
 
-    /// A number near the value at a minute, which may take less time. This call counts too.
+    /// Returns an approximation of the value at minute `m`, within [`Curve::error`], which may take less
+    /// time. The call is counted.
     fn near_value(&mut self, m: i64) -> i128
         requires minute { IsMinute (meaning self.old) m }
         requires few { count self.old < 2 ^ 63 }
@@ -50,45 +52,45 @@ pub trait Curve {
         ensures same_near { near self.new ≡ near self.old }
         ensures same_error { error self.new ≡ error self.old };
 
-    /// The value at a minute whose near value is `near_value`. It isn't counted again.
+    /// Returns the value at minute `m`, whose approximation is `near_value`. The call isn't counted.
     fn exact_value(&self, m: i64, near_value: i128) -> i128
         requires minute { IsMinute (meaning self.now) m }
         requires near { near_value ≡ near self.now m }
         ensures { result ≡ (meaning self.now).track.value m };
 
-    /// How far a near value may be from the value, at most 10^36.
+    /// Returns the most that an approximate value differs from the value, at most 10^36.
     fn error(&self) -> i128
         ensures { result ≡ pos (error self.now) };
 
-    /// How much the value changes at most in each of `n` minutes from `a` on, from 1 to 1,024
-    /// minutes, where the curve can tell. 1,024 times a rate is below 5*10^37.
+    /// Returns a bound on the change of the value in each of the `n` minutes from `a` on, or `None` if
+    /// the curve has none there. `n` is from 1 to 1,024. 1,024 times a rate is below 5*10^37.
     fn rate(&self, a: i64, n: u32) -> Option<i128>
         requires { IsCell (meaning self.now) a n }
         ensures { result ≡ (meaning self.now).rate a n };
 
-    /// The level that an event after a minute carries, in millionths of the station's unit.
+    /// Returns the level that an event after minute `m` has, in millionths of the station's unit.
     fn note(&self, m: i64) -> i64
         requires { IsMinute (meaning self.now) m }
         ensures { result ≡ (meaning self.now).track.note m };
 
-    /// The kind of an event where the value rises past 0.
+    /// Returns the kind of an event at which the value rises from 0 or below to above 0.
     fn rising(&self) -> Kind
         ensures { result ≡ (meaning self.now).track.rising };
 
-    /// The kind of an event where the value falls to 0 or below.
+    /// Returns the kind of an event at which the value falls from above 0 to 0 or below.
     fn falling(&self) -> Kind
         ensures { result ≡ (meaning self.now).track.falling };
 
-    /// How many values it was asked for, exact and near ones.
+    /// Returns the number of evaluations so far, exact and approximate ones.
     fn evaluations(&self) -> u64
         ensures { result ≡ count self.now };
 
-    /// A rate is a bound on each step, and all numbers are within their limits.
+    /// Each rate bounds each step, and all numbers are within their limits.
     ghost lawful: { (curve : Self) → IsLawful (meaning curve) };
 
-    /// No near value is too far from the value for sums of such.
+    /// The error is small enough to add approximate values without overflow.
     ghost narrow: { (curve : Self) → error curve ≤ 10 ^ 36 };
 
-    /// A near value is at most the error from the value.
+    /// Each approximate value differs from the value by at most the error.
     ghost close: { (curve : Self) → (m : ℤ) → IsMinute (meaning curve) m → IsNearValue (meaning curve) (error curve) m (near curve m) };
 }

@@ -5,7 +5,7 @@ ghost use Rattle.std.specs.Prelude.{◌≡◌};
 use crate::event::Event;
 use std::marker::Model;
 
-/// Events in their order. Contracts see it as the list of them.
+/// Events in order of time. In contracts its value is the list of them.
 #[derive(Clone, Debug, Drop)]
 pub struct Events {
     items: Vec<Event>,
@@ -21,14 +21,14 @@ impl Model for Events {
 }
 
 impl Events {
-    /// The list of a vector's events. It takes no memory.
+    /// Returns the list of the events in `items`. It doesn't allocate.
     pub fn from_vec(items: Vec<Event>) -> Events
         ensures { result ≡ items.items }
     {
         Events { items }
     }
 
-    /// The events, lent.
+    /// Borrows the events as a slice.
     pub fn as_slice(&self) -> &[Event]
         ensures { result.now ≡ self.now }
     {

@@ -1,18 +1,18 @@
-//! What happens at an event.
+//! The kinds of events.
 
-/// What happens at an event. In the order in which events of one minute are listed.
+/// The kind of an event. Events of one minute are listed in the order of these variants.
 #[derive(Clone, Copy, Debug, PartialEq, Eq)]
 pub enum Kind {
-    /// The level stops rising.
+    /// A high water or greatest stream: the level stops rising.
     High,
-    /// The level stops falling.
+    /// A low water or least stream: the level stops falling.
     Low,
-    /// A current turns to flood.
+    /// A slack: a current turns to flood.
     FloodBegins,
-    /// A current turns to ebb.
+    /// A slack: a current turns to ebb.
     EbbBegins,
-    /// The level rises past a mark.
+    /// The level rises above a mark.
     MarkRising,
-    /// The level falls to a mark.
+    /// The level falls to a mark or below.
     MarkFalling,
 }

@@ -1,8 +1,8 @@
-//! Tracks and their events: what the workspace says of curves that pass zero.
+//! Tracks and their events: the definitions of curves that cross zero.
 //!
-//! A track has a whole number at each minute, and an [`Event`] after each minute where its side of
-//! zero changes. The plain list of a span, in `specs/Track.antt`, looks at every minute of it: it is
-//! what each quicker search has to give. A [`Curve`] is a track that knows how fast it may change.
+//! A track has a whole number at each minute, and an [`Event`] after each minute at which it changes its
+//! side of zero. The plain list of a span, in `specs/Track.antt`, looks at each minute: it is the result
+//! that each faster search has to return. A [`Curve`] is a track with bounds on its rate of change.
 #![tactic(auto)]
 
 mod cell;

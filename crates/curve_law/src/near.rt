@@ -1,4 +1,4 @@
-//! Which cell lies between two near values. Where they leave it open, the values are taken.
+//! The cell between two approximate values. If these leave it open, the exact values are used.
 
 ghost use Rattle.std.specs.Prelude.{◌≡◌, ◌*◌, ◌^◌, ◌<◌, ◌≤◌, ℤ, pos, ◌+ℤ◌, ◌-ℤ◌, ◌≤ℤ◌, int_lt, unsigned_abs, IfSome};
 ghost use Rattle.curve_law.specs.Meaning.{IsNearValue, IsSpan};
@@ -10,8 +10,8 @@ use crate::cell::Cell;
 use crate::curve::Curve;
 use crate::quiet::{MOST_MINUTES, cell_of_sides, is_quiet, most_change, unit_cell};
 
-/// True if the `n` minutes from `a` on are a quiet cell. `near` and `end_near` are the near values at both
-/// ends.
+/// Returns true if the `n` minutes from `a` on are a quiet cell. `near` and `end_near` are the
+/// approximate values at its ends.
 pub fn is_quiet_near<C: Curve>(curve: &C, a: i64, n: u32, near: i128, end_near: i128) -> bool
     requires span { IsSpan (C.meaning curve.now) a n }
     requires few { n ≤ MOST_MINUTES }
@@ -25,8 +25,8 @@ pub fn is_quiet_near<C: Curve>(curve: &C, a: i64, n: u32, near: i128, end_near: 
     }
 }
 
-/// The cell of the single minute `a`. `near` and `next_near` are the near values at it and at the next
-/// minute.
+/// Returns the cell of the single minute `a`. `near` and `next_near` are the approximate values at `a`
+/// and at the next minute.
 pub fn unit_cell_near<C: Curve>(curve: &C, a: i64, near: i128, next_near: i128) -> Cell
     requires span { IsSpan (C.meaning curve.now) a 1 }
     requires near { near ≡ C.near curve.now a }
@@ -39,7 +39,8 @@ pub fn unit_cell_near<C: Curve>(curve: &C, a: i64, near: i128, next_near: i128) 
     }
 }
 
-/// Whether a cell is quiet, where near values tell.
+/// Returns whether the `n` minutes from `a` on are a quiet cell, or `None` if the approximate values at
+/// its ends leave it open.
 fn quiet_as_told<C: Curve>(curve: &C, a: i64, n: u32, near: i128, end_near: i128) -> Option<bool>
     requires span { IsSpan (C.meaning curve.now) a n }
     requires few { n ≤ MOST_MINUTES }
@@ -57,7 +58,8 @@ fn quiet_as_told<C: Curve>(curve: &C, a: i64, n: u32, near: i128, end_near: i128
     }
 }
 
-/// The cell of the single minute `a`, if near values at it and at the next minute determine it.
+/// Returns the cell of the single minute `a`, or `None` if the approximate values at `a` and the next
+/// minute leave it open.
 fn unit_cell_as_told<C: Curve>(curve: &C, a: i64, near: i128, next_near: i128) -> Option<Cell>
     requires span { IsSpan (C.meaning curve.now) a 1 }
     requires near { IsNearValue (C.meaning curve.now) (C.error curve.now) a near }
@@ -100,7 +102,8 @@ fn unit_cell_exactly<C: Curve>(curve: &C, a: i64, near: i128, next_near: i128) -
     unit_cell(curve, a, value, next_value)
 }
 
-/// The side of 0 of each value that is near, where they have one.
+/// Returns true if each value within `error` of `near` is above 0, false if none is, and `None`
+/// otherwise.
 fn side_of(near: i128, error: i128) -> Option<bool>
     requires near { unsigned_abs near < 2 * 10 ^ 37 }
     requires least { pos 0 ≤ℤ error }
@@ -117,7 +120,8 @@ fn side_of(near: i128, error: i128) -> Option<bool>
     }
 }
 
-/// Whether each sum that is near is greater than so much, whatever its sign, or each is smaller.
+/// Returns true if each sum within `error` of `near` exceeds `most` in size, false if each is smaller,
+/// and `None` otherwise.
 fn passes(near: i128, error: i128, most: i128) -> Option<bool>
     requires near { unsigned_abs near < 4 * 10 ^ 37 }
     requires least { pos 0 ≤ℤ error }

@@ -1,11 +1,11 @@
-//! Which event follows a minute.
+//! The kind of the event at a crossing of zero.
 
 ghost use Rattle.std.specs.Prelude.{◌≡◌, if◌then◌else◌};
 
 use crate::kind::Kind;
 
-/// The kind of the event after a minute that has one, by its side of zero: the falling one from
-/// above 0, and the rising one from 0 or less.
+/// Returns the kind of the event after a minute that has one: `falling` if its value is above 0, else
+/// `rising`.
 pub fn kind_after(is_above: bool, rising: Kind, falling: Kind) -> Kind
     ensures { result ≡ (if is_above then falling else rising) }
 {

@@ -5,14 +5,14 @@ ghost use Rattle.curve_law.specs.Meaning.{IsMinute};
 
 use crate::curve::Curve;
 
-/// A minute, and a curve's value there, or one near it.
+/// A minute, and the value of a curve there, exact or approximate.
 #[derive(Clone, Copy, Debug, Default)]
 pub struct Point {
     pub minute: i64,
     pub value: i128,
 }
 
-/// The point of a curve at a minute.
+/// Evaluates `curve` at `minute`, and returns the point.
 pub fn point_at<C: Curve>(curve: &mut C, minute: i64) -> Point
     requires minute { IsMinute (C.meaning curve.old) minute }
     requires few { C.count curve.old < 2 ^ 63 }
@@ -28,7 +28,7 @@ pub fn point_at<C: Curve>(curve: &mut C, minute: i64) -> Point
     }
 }
 
-/// A point near that of a curve at a minute.
+/// Evaluates `curve` approximately at `minute`, and returns the point.
 pub fn near_point_at<C: Curve>(curve: &mut C, minute: i64) -> Point
     requires minute { IsMinute (C.meaning curve.old) minute }
     requires few { C.count curve.old < 2 ^ 63 }

@@ -1,4 +1,4 @@
-//! Which cell lies between two values.
+//! The cell between two values.
 
 ghost use Rattle.std.specs.Prelude.{◌≡◌, ◌*◌, ◌^◌, ◌<◌, ◌≤◌, pos, ◌+ℤ◌, ◌*ℤ◌, ◌≤ℤ◌, ◌<ℤ◌, unsigned_abs, Some};
 ghost use Rattle.curve_law.specs.Meaning.{IsMinute, IsSpan};
@@ -9,11 +9,11 @@ use crate::cell::Cell;
 use crate::curve::Curve;
 use crate::passing::kind_after;
 
-/// The most minutes of a quiet cell, and the minutes of a block.
+/// The most minutes of a quiet cell, and the number of minutes of a block.
 pub const MOST_MINUTES: u32 = 1024;
 
-/// Whether the `n` minutes from `a` on are a quiet cell, by the values at both ends. The rate is asked
-/// only where both are on one side.
+/// Returns true if the `n` minutes from `a` on are a quiet cell; `value` and `end_value` are the values
+/// at its ends. The rate is evaluated only if both are on one side of 0.
 pub fn is_quiet<C: Curve>(curve: &C, a: i64, n: u32, value: i128, end_value: i128) -> bool
     requires span { IsSpan (C.meaning curve.now) a n }
     requires value { value ≡ (C.meaning curve.now).track.value a }
@@ -41,7 +41,8 @@ fn is_quiet_by_rate<C: Curve>(curve: &C, a: i64, n: u32, value: i128, end_value:
     }
 }
 
-/// The cell of the single minute `a`, by the values at it and at the next minute.
+/// Returns the cell of the single minute `a`; `value` and `next_value` are the values at `a` and at the
+/// next minute.
 pub fn unit_cell<C: Curve>(curve: &C, a: i64, value: i128, next_value: i128) -> Cell
     requires minute { IsMinute (C.meaning curve.now) a }
     requires value { value ≡ (C.meaning curve.now).track.value a }
@@ -51,7 +52,8 @@ pub fn unit_cell<C: Curve>(curve: &C, a: i64, value: i128, next_value: i128) -> 
     cell_of_sides(curve, a, value > 0, next_value > 0)
 }
 
-/// The cell of the single minute `a`, by the sides at it and at the next minute.
+/// Returns the cell of the single minute `a`; `is_above` and `is_above_next` say whether the values at
+/// `a` and at the next minute are above 0.
 pub fn cell_of_sides<C: Curve>(curve: &C, a: i64, is_above: bool, is_above_next: bool) -> Cell
     requires minute { IsMinute (C.meaning curve.now) a }
     requires side { is_above ≡ side_at (C.meaning curve.now).track a }
@@ -67,8 +69,8 @@ pub fn cell_of_sides<C: Curve>(curve: &C, a: i64, is_above: bool, is_above_next:
     )
 }
 
-/// Whether the values at both ends of `n` minutes are too far on one side of 0 for the rate to lead to
-/// the other side between them.
+/// Returns true if `value` and `end_value`, `n` minutes apart, are both so far on one side of 0 that a
+/// value that changes by at most `rate` a minute can't cross 0 between them.
 fn keeps_side(rate: i128, n: u32, value: i128, end_value: i128) -> bool
     requires positive { pos 0 ≤ℤ rate }
     requires rate { (rate *ℤ pos MOST_MINUTES) <ℤ pos (5 * 10 ^ 37) }
@@ -86,8 +88,8 @@ fn keeps_side(rate: i128, n: u32, value: i128, end_value: i128) -> bool
     }
 }
 
-/// The most that a value changes by in `n` minutes, of at most [`MOST_MINUTES`], at a rate that a curve
-/// can have: not negative, and less than 5 * 10^37 over as many minutes.
+/// Returns `rate * n`, the most that a value changes in `n` minutes, at most [`MOST_MINUTES`]. `rate` is
+/// not negative, and below 5 * 10^37 / [`MOST_MINUTES`].
 pub fn most_change(rate: i128, n: u32) -> i128
     requires positive { pos 0 ≤ℤ rate }
     requires rate { (rate *ℤ pos MOST_MINUTES) <ℤ pos (5 * 10 ^ 37) }

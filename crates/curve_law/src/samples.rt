@@ -1,4 +1,4 @@
-//! Small curves, for tests of what stands on curves.
+//! Small curves for tests of crates that use curves.
 
 mod line;
 mod ripple;

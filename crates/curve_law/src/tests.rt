@@ -26,7 +26,8 @@ fn kinds_go_by_the_side(rt: HostRuntime) {
     assert_eq!(rt; kind_after(false, Kind::Low, Kind::High), Kind::Low);
 }
 
-// The sum of all values of a span, where few were asked before.
+// Returns the sum of all values from `begin` to `end`, or `None` if the curve was evaluated too often
+// before.
 fn sum<C: Curve>(curve: &mut C, begin: i64, end: i64) -> Option<i128> {
     let mut sum: i128 = 0;
     for m in begin..end {
@@ -56,7 +57,8 @@ fn small_curves_tell_their_values(rt: HostRuntime) {
     );
 }
 
-// Whether the eight minutes from 0 on are quiet, and the cell of the first one, by near values.
+// Returns whether the eight minutes from 0 on are quiet, and the cell of the first one, by approximate
+// values.
 fn told<C: Curve>(curve: &mut C) -> Option<(bool, Cell)> {
     if 0 < curve.first() || curve.last() < 8 || curve.evaluations() > 1000 {
         return None;
@@ -70,7 +72,7 @@ fn told<C: Curve>(curve: &mut C) -> Option<(bool, Cell)> {
     ))
 }
 
-// The value at minute 0 by a near one.
+// Returns the value at minute 0 by way of an approximate one.
 fn exact<C: Curve>(curve: &mut C) -> Option<i128> {
     if 0 < curve.first() || curve.last() < 0 || curve.evaluations() > 1000 {
         return None;

@@ -2,13 +2,13 @@
 
 use crate::cells::Cells;
 
-/// The cells of each track that is followed, over one span.
+/// The cells of each requested track of a station, over one span.
 #[derive(Clone, Debug, Drop)]
 pub struct Tracks {
-    /// High and low waters, or the greatest and least streams.
+    /// High and low waters, or greatest and least streams.
     pub turn: Cells,
-    /// A current's turns to flood and to ebb.
+    /// Slacks: a current's turns to flood and to ebb.
     pub slack: Option<Cells>,
-    /// Where the level passes a mark.
+    /// Crossings of the mark.
     pub mark: Option<Cells>,
 }

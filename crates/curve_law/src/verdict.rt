@@ -1,26 +1,26 @@
-//! What a check of a track's cells finds.
+//! The result of checking a track's cells.
 
-/// What a check of a track's cells finds: the first thing that is wrong, or nothing. Cells are
-/// counted from 1.
+/// The result of checking a track's cells: the first fault, or none. Cells are counted from 1.
 #[derive(Clone, Copy, Debug, PartialEq, Eq)]
 pub enum Verdict {
-    /// The cells lie over the span, and each says what is so.
+    /// The cells cover the span, and each one's claim is true.
     Accepted,
-    /// The cells have another number of minutes than the span. Where they have more than an `i64`
-    /// holds, `covered` is its greatest value.
+    /// The cells have another number of minutes than the span. If that number exceeds an `i64`, `covered`
+    /// is the greatest `i64`.
     WrongLength {
         covered: i64,
         wanted: i64,
     },
-    /// A cell is given as quiet and isn't, or its length isn't from 2 to 1,024.
+    /// A quiet cell that isn't quiet, or whose length isn't from 2 to 1,024.
     NotQuiet {
         cell: u32,
     },
-    /// A still minute whose side changes, an event where it doesn't, or one of another kind.
+    /// A still minute that has an event, or an event that the track doesn't have or has with another
+    /// kind.
     WrongStep {
         cell: u32,
     },
-    /// An event with another level than the track's.
+    /// An event whose level isn't the track's.
     WrongLevel {
         cell: u32,
         written: i64,

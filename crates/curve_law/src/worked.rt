@@ -1,13 +1,13 @@
-//! Plain lists that were worked out by hand.
+//! Plain lists that were computed by hand.
 
 ghost use Rattle.std.specs.Prelude.{◌≡◌, ℕ, ℤ, pos, negsuc, neg_ℤ, ◌*ℤ◌, ◌-ℤ◌, List, [], ◌∷◌};
 ghost use Rattle.curve_law.specs.declared.event.Event.{Event};
 ghost use Rattle.curve_law.specs.declared.kind.Kind.{Kind};
 ghost use Rattle.curve_law.specs.Track.{Track, plain_list};
 
-/// Four values over the minutes from -2 to 3, with the level 10 times the minute. Values that rise
-/// past 0 have the event after 0, where they are not yet above it. Values that touch 0 from below
-/// have none, and values that touch it from above have two.
+/// Proves the plain lists of four tracks over the minutes from -2 to 3, with the level 10 times the
+/// minute. A value that rises past 0 has its event after 0, at which it isn't above 0 yet. A value that
+/// touches 0 from below has no event, and one that touches 0 from above has two.
 #[tactic(auto, unfolding(crate::specs::Track::minutes, crate::specs::Track::plain_list))]
 pub fn worked_rows()
     ensures rises { let t : Track = record { value = λ m. m; note = λ m. pos 10 *ℤ m; rising = Kind.Low; falling = Kind.High } in

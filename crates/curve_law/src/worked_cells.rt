@@ -1,4 +1,4 @@
-//! Cells and verdicts that were worked out by hand.
+//! Cells and verdicts that were computed by hand.
 
 ghost use Rattle.std.specs.Prelude.{◌≡◌, pos, negsuc, true, false, Some, [], ◌∷◌};
 ghost use Rattle.curve_law.specs.declared.cell.Cell.{Cell};
@@ -9,8 +9,8 @@ ghost use Rattle.curve_law.specs.Cover.{is_quiet, cover};
 ghost use Rattle.curve_law.specs.Samples.{line, ripple};
 ghost use Rattle.curve_law.specs.Verdicts.{verdict};
 
-/// Quiet cells. End values that sum to exactly the rate times the minutes are enough below 0 and not
-/// above it. Values of 0 are quiet where they never change.
+/// Proves examples of quiet cells. End values whose sum is exactly the rate times the minutes suffice
+/// below 0 but not above it. Values of 0 are quiet if they never change.
 #[tactic(auto, unfolding(crate::specs::Cover::keeps_side, crate::specs::Cover::is_quiet))]
 pub fn worked_quiet_cells()
     ensures exactly_above { is_quiet (line (pos 1) false (pos 3)) (pos 1) 2 ≡ false }
@@ -26,8 +26,8 @@ pub fn worked_quiet_cells()
         is_quiet c (pos 0) 1025 ≡ false }
 {}
 
-/// The cells of spans: halved until they are quiet, the first half of an odd number of minutes the
-/// shorter one, down to single minutes where there is no rate, and in blocks of 1,024 minutes.
+/// Proves examples of the cells of spans: halved until they are quiet, with the shorter half of an odd
+/// number of minutes first, down to single minutes if there is no rate, and in blocks of 1,024 minutes.
 #[tactic(auto, unfolding(crate::specs::Cover::keeps_side, crate::specs::Cover::is_quiet, crate::specs::Cover::unit_cell, crate::specs::Cover::split_within, crate::specs::Cover::split, crate::specs::Cover::cover_within, crate::specs::Cover::cover))]
 pub fn worked_covers()
     ensures halved { cover (line (pos 1) false (pos 3)) (pos 0) 8 ≡ Cell.Still ∷ Cell.Still ∷ Cell.Quiet 2 ∷ Cell.Quiet 4 ∷ [] }
@@ -40,8 +40,8 @@ pub fn worked_covers()
         cover c (pos 0) 2049 ≡ Cell.Quiet 1024 ∷ Cell.Quiet 1024 ∷ Cell.Still ∷ [] }
 {}
 
-/// Verdicts on cells of a line over the minutes from 0 to 8: it rises past 0 after minute 2, where
-/// its level is 2.
+/// Proves examples of verdicts on the cells of a line over the minutes from 0 to 8. The line rises past 0
+/// after minute 2, where its level is 2.
 #[tactic(auto, unfolding(crate::specs::Cover::keeps_side, crate::specs::Cover::is_quiet, crate::specs::Cells::all_minutes, crate::specs::Verdicts::cell_verdict, crate::specs::Verdicts::cells_verdict, crate::specs::Verdicts::verdict))]
 pub fn worked_verdicts()
     ensures by_halves { verdict (line (negsuc 1) false (pos 1)) (pos 0) 8

@@ -10,6 +10,8 @@ mod calendars;
 #[cfg(test)]
 mod events;
 #[cfg(test)]
+mod examples;
+#[cfg(test)]
 mod highest;
 #[cfg(test)]
 mod hills;

@@ -78,7 +78,8 @@ fn sines_and_cosines_of_turns(rt: HostRuntime) {
     }
 }
 
-/// At whole degrees the table's sines, and half way the mean of two of them, rounded down.
+/// The chord sines are the table's sines at whole degrees, and half way the mean of two of them, rounded
+/// down.
 #[test]
 fn sines_and_cosines_by_chords(rt: HostRuntime) {
     let rows = [

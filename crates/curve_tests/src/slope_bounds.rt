@@ -4,15 +4,15 @@ use station_curve::StationCurve;
 use std::alloc::Global;
 use std::test::Fail;
 
-/// A constituent whose node factor is larger in the second of two years.
+/// A file with one constituent whose node factor is greater in the second of two years.
 const GROWING: &[u8] = b"1\nS2 30\n1999\n2\nS2\n0 0\n*END*\n2\nS2\n1 1.2\n*END*\n\
     Pier\n0:00 :UTC\n0 feet\nS2 1 0\n";
 
-/// The same constituent where it has no amplitude.
+/// The same file with an amplitude of 0.
 const FLAT: &[u8] = b"1\nS2 30\n1999\n2\nS2\n0 0\n*END*\n2\nS2\n1 1.2\n*END*\n\
     Pier\n0:00 :UTC\n5 feet\nS2 0 0\n";
 
-/// The bound of a book's only station.
+/// Returns the bound of the only station of the book `bytes`.
 fn bound(alloc: Global, bytes: &[u8]) -> Result<i128, Fail> {
     if bytes.len() > 1000 {
         return Err(Fail::from("a small book"));

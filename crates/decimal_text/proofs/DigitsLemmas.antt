@@ -1,4 +1,4 @@
--- Digits read one by one.
+-- The number that digits write, read digit by digit.
 use Rattle.std.proofs.Common.{◌≡◌, ℕ, ◌+◌, ◌*◌, ◌-◌, ◌<◌, ◌≤◌, ◌^◌, true, List, [], ◌∷◌, ◌++◌, length, get_or, take, drop, refl, sym, ap, ◌∙◌, add-one, take-append-drop, lit<, arith, rules}
 use Rattle.std.specs.Char.{digit_value, is_ascii_digit}
 use Rattle.std.specs.Str.Parse.{digits_value, digits_value_after}
@@ -9,7 +9,7 @@ use Rattle.std.proofs.lemmas.Str.Parse.{IsNumeralModel, numerals_by_value, digit
 use Rattle.std.proofs.Math.Nat.{pow-le-pow_right}
 use Rattle.std.proofs.lemmas.Bool.Decides.{nat_tests}
 
--- as a fold, of which std has the lemmas
+-- reading as a fold, for which std has the lemmas
 pub after_is_fold : (n : ℕ) (ds : List ℕ) → digits_value_after 10 n ds ≡ fold (λ m c. m * 10 + digit_value c) n ds
 after_is_fold n [] = refl
 after_is_fold n (c ∷ cs) = after_is_fold (n * 10 + digit_value c) cs
@@ -22,7 +22,7 @@ after_more n ds i h =
 pub digit_value_is : (c : ℕ) → is_ascii_digit c ≡ true → digit_value c ≡ c - 48
 digit_value_is c h = grind (arith, nat_tests)
 
--- ---- digits alone
+-- ---- texts of digits alone
 
 digit_is : (b : ℕ) → is_ascii_digit b ≡ true → (48 ≤ b) × (b ≤ 57)
 digit_is b h = grind (arith, nat_tests)

@@ -1,4 +1,4 @@
--- What a decimal's parts read as.
+-- The number that a decimal's parts write.
 use Rattle.std.proofs.Common.{◌≡◌, ℕ, zero, suc, ◌+◌, ◌*◌, ◌-◌, ◌/◌, ◌%◌, ◌^◌, ◌<◌, ◌≤◌, Bool, true, false, cond, nat_lt, nat_eq, List, [], ◌∷◌, ◌++◌, length, length-take, min, get_or, take, drop, Option, Some, None, option_and_then, Ok, Err, ℤ, pos, negsuc, neg_ℤ, unsigned_abs, ◌*ℤ◌, zero-mul, inl, inr, refl, sym, ap, ◌∙◌, arith, lit<}
 use Rattle.std.specs.Prelude.{IsSomeAnd}
 use Rattle.std.specs.List.{list_all, take_while}
@@ -74,7 +74,7 @@ exact_total places count n s h e =
 not_between : (n value one : ℕ) → one ≡ 1 → value * one < n → n + 1 ≤ (value + 1) * one → ⊥
 not_between n value one e above below = omega (arith, rw e at above, rw e at below)
 
--- a number strictly between two multiples is none
+-- no multiple lies strictly between two neighbouring multiples
 no_multiple : (m value unit : ℕ) → value * unit < m → m < value * unit + unit → 0 < m % unit
 no_multiple m value unit above below =
     let e : m ≡ value * unit + (m - value * unit) = omega arith in
@@ -94,7 +94,7 @@ fine_total places count n s h e =
     let some = ten_up places in
     no_multiple (n * 10 ^ places) s.value (10 ^ count) (omega (arith, value_up, low, some)) (omega (arith, value_up, up, high, some))
 
--- each way to read the parts
+-- each result of `read_parts`
 pub reads_bad : (places : ℕ) (negative : Bool) (whole fraction : List ℕ) → list_all is_ascii_digit fraction ≡ false → Err BadForm ≡ scaled_or_bad places (made_of negative whole fraction)
 unfolding made_of scaled_or_bad
 reads_bad places negative whole fraction h = simp h
@@ -144,7 +144,7 @@ pub reads_text : (text body rest : List ℕ) (count places : ℕ) (found : Optio
 unfolding read_of decimal_of
 reads_text text body rest count places found is_body is_count is_rest is_found = simp (is_found, is_rest, is_count, is_body)
 
--- the fraction read is the fraction written
+-- the number read is the fraction written
 signed-mul : (negative : Bool) (q unit : ℕ) → signed negative q *ℤ pos unit ≡ signed negative (q * unit)
 signed-mul false q unit = refl
 signed-mul true zero unit = rw (zero-mul unit) refl
@@ -176,7 +176,7 @@ pub reads_fraction : ReadsItsFraction
 unfolding read_of
 reads_fraction text places n h = reads_option (decimal_of text) places n h
 
--- what is too fine is no fraction of whole steps
+-- a text that is too fine is no whole number of steps
 abs-neg : (m : ℕ) → unsigned_abs (neg_ℤ (pos m)) ≡ m
 abs-neg zero = refl
 abs-neg (suc m) = refl

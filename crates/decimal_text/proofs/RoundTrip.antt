@@ -1,4 +1,4 @@
--- What was written reads back.
+-- A decimal that was written is read back as the same number.
 use Rattle.std.proofs.Common.{◌≡◌, ℕ, zero, suc, ◌+◌, ◌*◌, ◌-◌, ◌/◌, ◌%◌, ◌^◌, ◌<◌, ◌≤◌, Bool, true, false, ◌&&◌, List, [], ◌∷◌, ◌++◌, length, take, Some, Ok, ℤ, pos, negsuc, refl, sym, ap, ◌∙◌, add-zero, arith, rules, lit<}
 use Rattle.std.specs.Prelude.{decimal, unsigned_abs, ◌==◌}
 use Rattle.std.specs.List.{list_all, take_while, prefix_len}
@@ -66,7 +66,7 @@ unsigned_front (c ∷ w) rest some h =
     let no_plus : (c == 43) ≡ false = grind (arith, nat_tests) in
     (no_minus, simp (no_minus, no_plus))
 
--- the digits round the point
+-- the digits before and after the point
 pub after_whole : (places n : ℕ) → Some (last_digits places n) ≡ after_point (fraction_of places n)
 unfolding after_point last_digits
 after_whole zero n = refl

@@ -14,7 +14,7 @@ small_value value left h =
     let m : (value + 1) * 1 ≤ (value + 1) * 10 ^ left = mul-le (value + 1) 1 (value + 1) (10 ^ left) (omega arith) (ten_up left) in
     omega (arith, m, h)
 
--- past the last place
+-- a digit after the last place
 pub more_past : (places count n digit : ℕ) (s : Steps) (now : Bool) → s.left ≡ 0 → digit ≤ 9 → (now ≡ true → (s.exact ≡ true) × (digit ≡ 0)) → (now ≡ false → (s.exact ≡ false) ⊎ (0 < digit)) → Stands places count n s → Stands places (count + 1) (n * 10 + digit) (record { value = s.value; left = s.left; exact = now })
 more_past places count n digit s now none nine at_true at_false h = record {
   extra = h.extra + 1;
@@ -48,7 +48,7 @@ within places count n digit value left extra exact some none nine counted above 
       small = omega (arith, small', room);
     }
 
--- at a place that is still to come
+-- a digit at a place that is kept
 pub more_within : (places count n digit : ℕ) (s : Steps) → 0 < s.left → digit ≤ 9 → Stands places count n s → Stands places (count + 1) (n * 10 + digit) (record { value = s.value * 10 + digit; left = s.left - 1; exact = s.exact })
 more_within places count n digit s some nine h =
     let none : h.extra ≡ 0 = elim h.one_side [ inl e ↦ e | inr z ↦ absurd (omega arith) ] in

@@ -1,4 +1,5 @@
--- What a decimal is and which number it is: a sign, digits, and a point with digits (this project).
+-- The grammar of decimals and the numbers that they write: a sign, digits, and a point with digits (this
+-- project).
 use Rattle.std.specs.Prelude.{◌≡◌, ℕ, ◌+◌, ◌*◌, ◌/◌, ◌%◌, ◌^◌, ◌==◌, nat_lt, Bool, ◌&&◌, if◌then◌else◌, List, [], ◌∷◌, ◌++◌, length, drop, Option, Some, None, option_and_then, Result, Ok, Err, ℤ, pos, neg_ℤ, ◌*ℤ◌, IsSomeAnd}
 use Rattle.std.specs.List.{take_while, list_all}
 use Rattle.std.specs.Char.{is_ascii_digit}
@@ -6,43 +7,44 @@ use Rattle.std.specs.Str.Parse.{digits_value, starts_with_minus, without_leading
 use Rattle.decimal_text.specs.declared.fault.DecimalFault.{DecimalFault}
 use Rattle.decimal_text.specs.declared.fault.DecimalFault.TheVariants.{BadForm, TooLong, TooFine}
 
--- the digits on both sides of the point, as the bytes that write them
+-- a decimal: its sign, and the bytes of its digits before and after the point
 pub record Decimal : Type 0 where
   pub negative : Bool
   pub whole : List ℕ
   pub fraction : List ℕ
 
--- what stands after the whole digits: nothing, or a point (46) and the fraction's digits
+-- the fraction's digits of what follows the whole digits: nothing, or a point (46) and digits
 unfoldable pub after_point : List ℕ → Option (List ℕ)
 after_point [] = Some []
 after_point (c ∷ rest) = if c == 46 then Some rest else None
 
--- only digits after the point, and one digit at least in all
+-- the decimal of a sign and digits, if only digits follow the point and there is one digit at least
 unfoldable pub made_of : Bool → List ℕ → List ℕ → Option Decimal
 made_of negative whole fraction =
     if list_all is_ascii_digit fraction && nat_lt 0 (length whole + length fraction)
     then Some (record { negative = negative; whole = whole; fraction = fraction })
     else None
 
--- the decimal that a text is, if it is one
+-- the decimal that a text writes, or none
 unfoldable pub decimal_of : List ℕ → Option Decimal
 decimal_of text =
     let body = without_leading_sign text in
     let whole = take_while is_ascii_digit body in
     option_and_then (made_of (starts_with_minus text) whole) (after_point (drop (length whole) body))
 
--- all its digits as one number, which the decimal is over 10 to the number of its fraction's digits
+-- all the digits of a decimal as one number: its value times 10 ^ (digits after the point)
 abbrev pub numerator_of : Decimal → ℕ
 numerator_of d = digits_value 10 (d.whole ++ d.fraction)
 
+-- n with a sign: -n if `negative`
 abbrev pub signed : Bool → ℕ → ℤ
 signed negative n = if negative then neg_ℤ (pos n) else pos n
 
--- n over 10 ^ places is the same fraction
+-- n / 10 ^ places is the value of the decimal
 abbrev pub IsScaled : Decimal → ℕ → ℤ → Type 0
 IsScaled d places n = n *ℤ pos (10 ^ length d.fraction) ≡ signed d.negative (numerator_of d) *ℤ pos (10 ^ places)
 
--- the whole number of steps of 1 over 10 ^ places that a decimal is, where it has at most 18 digits before its point
+-- the decimal in steps of 1 / 10 ^ places; TooLong with more than 18 digits before the point
 unfoldable pub scaled : ℕ → Decimal → Result ℤ DecimalFault
 scaled places d =
     let steps = numerator_of d * 10 ^ places in let unit = 10 ^ length d.fraction in
@@ -50,18 +52,19 @@ scaled places d =
     else if steps % unit == 0 then Ok (signed d.negative (steps / unit))
     else Err TooFine
 
+-- the steps of a decimal that was found, or BadForm
 unfoldable pub scaled_or_bad : ℕ → Option Decimal → Result ℤ DecimalFault
 scaled_or_bad places None = Err BadForm
 scaled_or_bad places (Some d) = scaled places d
 
--- what a text reads as, in steps of 1 over 10 ^ places
+-- the value of a text in steps of 1 / 10 ^ places, or its error
 unfoldable pub read_of : List ℕ → ℕ → Result ℤ DecimalFault
 read_of text places = scaled_or_bad places (decimal_of text)
 
--- what a text reads as is the fraction that its digits write
+-- a number read from a text is the fraction that the text's digits write
 abbrev pub ReadsItsFraction : Type 0
 ReadsItsFraction = (text : List ℕ) (places : ℕ) (n : ℤ) → read_of text places ≡ Ok n → IsSomeAnd (decimal_of text) (λ d. IsScaled d places n)
 
--- what is too fine is the fraction of no whole number of steps
+-- a text that is TooFine is no whole number of steps
 abbrev pub TooFineIsNoFraction : Type 0
 TooFineIsNoFraction = (text : List ℕ) (places : ℕ) (n : ℤ) → read_of text places ≡ Err TooFine → IsSomeAnd (decimal_of text) (λ d. ¬ (IsScaled d places n))

@@ -1,10 +1,10 @@
--- Numbers that digits alone write (this project).
+-- Whole numbers written in digits alone (this project).
 use Rattle.std.specs.Prelude.{ℕ, nat_le, ◌&&◌, if◌then◌else◌, List, length, Option, Some, None}
 use Rattle.std.specs.List.{list_all}
 use Rattle.std.specs.Char.{is_ascii_digit}
 use Rattle.std.specs.Str.Parse.{digits_value}
 
--- the number of one digit or more, at most so many
+-- the number that a text writes in 1 to `most` digits
 unfoldable pub digits_of : ℕ → List ℕ → Option ℕ
 digits_of most text =
     if nat_le 1 (length text) && nat_le (length text) most && list_all is_ascii_digit text

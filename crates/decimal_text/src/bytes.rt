@@ -5,7 +5,7 @@ ghost use Rattle.std.specs.Prelude.{◌≡◌, List, ℕ, IfOk};
 use std::alloc::AllocError;
 use std::marker::Model;
 
-/// A list of bytes. Contracts see it as the list of their values, each below 256.
+/// A list of bytes. In contracts its value is the list of their numbers, each below 256.
 #[derive(Clone, Debug, Drop)]
 pub struct Bytes {
     items: Vec<u8>,
@@ -18,21 +18,24 @@ impl Model for Bytes {
 }
 
 impl Bytes {
-    /// The list of a vector's items. It takes no memory.
+    /// Returns the list of the bytes in `items`. It doesn't allocate.
     pub fn from_vec(items: Vec<u8>) -> Bytes
         ensures { result ≡ items.items }
     {
         Bytes { items }
     }
 
-    /// The items, lent.
+    /// Borrows the bytes as a slice.
     pub fn as_slice(&self) -> &[u8]
         ensures { result.now ≡ self.now }
     {
         self.items.as_slice()
     }
 
-    /// A second list with the same items.
+    /// Returns a second list of the same bytes.
+    ///
+    /// # Errors
+    /// [`AllocError`] if memory runs out.
     pub fn copy(&self) -> Result<Bytes, AllocError>
         ensures { IfOk result (λ l. l ≡ self.now) }
     {

@@ -1,11 +1,11 @@
-//! A digit written.
+//! Writing one digit.
 
 ghost use Rattle.std.specs.Prelude.{◌≡◌, ◌+◌, ◌<◌, ◌≤◌, [], ◌∷◌, ◌++◌};
 ghost use Rattle.arrayvec.specs.ArrayString.{array_string_len};
 
 use arrayvec::ArrayString;
 
-/// Appends a digit from 0 to 9. It takes no memory.
+/// Appends `digit`, a number from 0 to 9, to `out` as one ASCII byte. It doesn't allocate.
 pub fn push_digit<const N: usize>(digit: u32, out: &mut ArrayString<N>)
     requires digit { digit < 10 }
     requires room { array_string_len out.old + 1 ≤ N }

@@ -1,12 +1,12 @@
-//! Why a text has no number.
+//! The reasons why a text isn't a decimal.
 
-/// Why a text has no whole number of steps.
+/// The reason why a text can't be read as a whole number of steps.
 #[derive(Clone, Copy, Debug, PartialEq, Eq)]
 pub enum DecimalFault {
-    /// It isn't a sign, digits and a point with digits.
+    /// The text isn't an optional sign, digits, and an optional point with digits.
     BadForm,
-    /// More than 18 digits stand before the point.
+    /// The text has more than 18 digits before its point.
     TooLong,
-    /// A digit after the given places isn't 0.
+    /// The text has a digit other than 0 after its last decimal place.
     TooFine,
 }

@@ -1,4 +1,4 @@
-//! Facts about reading and writing, and rows that show what they mean.
+//! Theorems about reading and writing decimals, and examples that are proved.
 
 ghost use Rattle.std.specs.Prelude.{◌≡◌, Some, None, Ok, Err, pos, negsuc, [], codes};
 ghost use Rattle.decimal_text.specs.Decimal.{read_of, ReadsItsFraction, TooFineIsNoFraction};
@@ -7,14 +7,14 @@ ghost use Rattle.decimal_text.specs.Rounding.{rounded_of};
 ghost use Rattle.decimal_text.specs.Writing.{write_of};
 ghost use Rattle.decimal_text.specs.declared.fault.DecimalFault.TheVariants.{BadForm, TooLong, TooFine};
 
-/// The number read, over `10^places`, is the fraction that the text's digits write, and no number
-/// is the fraction of a text that is too fine.
+/// Proves that a number read by [`crate::read`], over `10^places`, is the fraction that the text's digits
+/// write, and that a text that is too fine is no whole number of steps.
 pub fn reads_its_fraction()
     ensures read { ReadsItsFraction }
     ensures too_fine { TooFineIsNoFraction }
 {}
 
-/// Some texts, and what they read as.
+/// Proves examples of texts with the numbers or errors that they read as.
 #[tactic(auto, unfolding(crate::specs::Decimal::read_of, crate::specs::Decimal::decimal_of, crate::specs::Decimal::after_point, crate::specs::Decimal::made_of, crate::specs::Decimal::scaled_or_bad, crate::specs::Decimal::scaled))]
 pub fn worked_readings()
     ensures negative { read_of (codes "-1.50") 2 ≡ Ok (negsuc 149) }
@@ -33,7 +33,7 @@ pub fn worked_readings()
     ensures greatest { read_of (codes "999999999999999999.9") 9 ≡ Ok (pos 999999999999999999900000000) }
 {}
 
-/// Some texts, and the whole numbers that their digits write.
+/// Proves examples of texts with the whole numbers that their digits write.
 #[tactic(auto, unfolding(crate::specs::Digits::digits_of))]
 pub fn worked_digits()
     ensures zeros_first { digits_of 4 (codes "0019") ≡ Some 19 }
@@ -44,7 +44,7 @@ pub fn worked_digits()
     ensures past_64_bits { digits_of 20 (codes "18446744073709551616") ≡ Some 18446744073709551616 }
 {}
 
-/// Some numbers, and what they are written as.
+/// Proves examples of numbers with the decimals that they are written as.
 pub fn worked_writings()
     ensures below_one { write_of (negsuc 4) 2 ≡ codes "-0.05" }
     ensures zero { write_of (pos 0) 2 ≡ codes "0.00" }
@@ -53,7 +53,7 @@ pub fn worked_writings()
     ensures zeros_behind { write_of (negsuc 99) 2 ≡ codes "-1.00" }
 {}
 
-/// Some fractions, and the whole numbers nearest to them.
+/// Proves examples of fractions with the whole numbers nearest to them.
 #[tactic(auto, unfolding(crate::specs::Rounding::rounded_of))]
 pub fn worked_roundings()
     ensures half { rounded_of (pos 15) 10 ≡ pos 2 }

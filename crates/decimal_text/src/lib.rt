@@ -1,10 +1,9 @@
-//! The plain types of the workspace, decimals as texts, and rounding.
+//! Owned texts and lists, decimals as texts, and rounding.
 //!
-//! Contracts see [`Text`], [`Bytes`], [`Numbers`] and [`Words`] as lists: a [`Text`] as the list of
-//! its UTF-8 bytes, the others as the list of their items. Only `copy` and [`Text::from_str`] take
-//! memory. [`read`] and [`write`] turn decimals into whole numbers and back, [`digits`] reads whole
-//! numbers of digits alone, and [`wide_digits`] those that need 128 bits. [`are_name_bytes`] tells
-//! what may stand in a name.
+//! In contracts a [`Text`] is the list of its UTF-8 bytes; [`Bytes`], [`Numbers`] and [`Words`] are the
+//! lists of their items. Only `copy` and [`Text::from_str`] allocate. [`read`] and [`write`] convert
+//! between decimals and whole numbers; [`digits`] reads a whole number written in digits alone, and
+//! [`wide_digits`] one that needs up to 128 bits. [`are_name_bytes`] checks the bytes of a name.
 #![tactic(auto)]
 
 mod bytes;

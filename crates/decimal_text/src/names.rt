@@ -10,7 +10,8 @@ fn is_name_byte(b: u8) -> bool
     b >= 32 && b != 127
 }
 
-/// Whether each byte may stand in a name in UTF-8: all but the control bytes of ASCII.
+/// Returns true if each byte may be in a name in UTF-8: if none is a control byte of ASCII (below 32, or
+/// 127).
 pub fn are_name_bytes(name: &[u8]) -> bool
     ensures { result ≡ list_all is_name_byte name.now }
 {

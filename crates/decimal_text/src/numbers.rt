@@ -5,7 +5,7 @@ ghost use Rattle.std.specs.Prelude.{◌≡◌, List, ℤ, IfOk};
 use std::alloc::AllocError;
 use std::marker::Model;
 
-/// A list of whole numbers of 64 bits. Contracts see it as the list of them.
+/// A list of whole numbers of 64 bits. In contracts its value is the list of these numbers.
 #[derive(Clone, Debug, Drop)]
 pub struct Numbers {
     items: Vec<i64>,
@@ -18,21 +18,24 @@ impl Model for Numbers {
 }
 
 impl Numbers {
-    /// The list of a vector's items. It takes no memory.
+    /// Returns the list of the numbers in `items`. It doesn't allocate.
     pub fn from_vec(items: Vec<i64>) -> Numbers
         ensures { result ≡ items.items }
     {
         Numbers { items }
     }
 
-    /// The items, lent.
+    /// Borrows the numbers as a slice.
     pub fn as_slice(&self) -> &[i64]
         ensures { result.now ≡ self.now }
     {
         self.items.as_slice()
     }
 
-    /// A second list with the same items.
+    /// Returns a second list of the same numbers.
+    ///
+    /// # Errors
+    /// [`AllocError`] if memory runs out.
     pub fn copy(&self) -> Result<Numbers, AllocError>
         ensures { IfOk result (λ l. l ≡ self.now) }
     {

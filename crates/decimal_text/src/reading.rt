@@ -1,4 +1,4 @@
-//! Decimals read digit by digit.
+//! Reading decimals digit by digit.
 
 ghost use Rattle.std.specs.Prelude.{◌≡◌, ℕ, ◌+◌, ◌*◌, ◌/◌, ◌^◌, ◌<◌, ◌≤◌, List, take, drop, length, nat_lt, IfOk, unsigned_abs, option_copied};
 ghost use Rattle.std.specs.List.{take_while, list_all};
@@ -10,17 +10,24 @@ use crate::fault::DecimalFault;
 use crate::sign::split_sign;
 use crate::steps::Steps;
 
-/// The most digits that may stand before the point.
+/// The most digits before the point.
 const MOST_WHOLE_DIGITS: usize = 18;
 
-/// The number of steps of `1 / 10^places` that a decimal is.
+/// Returns the decimal `text` as a whole number of steps of `1 / 10^places`; `places` is at most 9.
 ///
 /// A decimal is an optional `+` or `-`, digits, and an optional point with digits, with one digit
-/// at least in all. The text is gone over once, whatever its length. It takes no memory.
+/// at least in all. The text is read once from left to right, whatever its length. It doesn't allocate.
 ///
 /// # Errors
-/// [`DecimalFault::BadForm`] where the text is no decimal, then [`DecimalFault::TooLong`] and then
-/// [`DecimalFault::TooFine`].
+/// The first of these that applies: [`DecimalFault::BadForm`] if `text` isn't a decimal;
+/// [`DecimalFault::TooLong`] if it has more than 18 digits before the point; [`DecimalFault::TooFine`]
+/// if a digit after the last of its `places` isn't 0.
+///
+/// # Examples
+/// ```
+/// assert_eq!(rt; read(b"-1.50", 2), Ok(-150));
+/// assert_eq!(rt; read(b"1.234", 2), Err(DecimalFault::TooFine));
+/// ```
 pub fn read(text: &[u8], places: u32) -> Result<i128, DecimalFault>
     requires { places ≤ 9 }
     ensures exact { result ≡ read_of text.now places }
@@ -35,7 +42,8 @@ pub fn read(text: &[u8], places: u32) -> Result<i128, DecimalFault>
     }
 }
 
-/// The number of the digits that a text begins with, where they are at most 18, and how many they are.
+/// Returns the number written by the digits that `body` begins with, and their count.
+/// The number is meaningless if the count exceeds 18.
 fn whole_digits(body: &[u8]) -> (u64, usize)
     ensures count { result.1 ≡ length (take_while is_ascii_digit body.now) }
     ensures value { result.1 ≤ 18 → result.0 ≡ digits_value 10 (take_while is_ascii_digit body.now) }
@@ -53,7 +61,7 @@ fn whole_digits(body: &[u8]) -> (u64, usize)
     (value, body.len())
 }
 
-/// What stands after the point, if a point stands first or nothing does.
+/// Returns the bytes after the point if `rest` begins with one, and no bytes if `rest` is empty.
 fn after_point(rest: &[u8]) -> Option<&[u8]>
     ensures { option_copied result ≡ after_point rest.now }
 {
@@ -68,14 +76,14 @@ fn after_point(rest: &[u8]) -> Option<&[u8]>
     }
 }
 
-/// Whether a digit stands on one side of the point at least.
+/// Returns true if there is a digit before or after the point.
 fn have_digit(whole: &[u8], fraction: &[u8]) -> bool
     ensures { result ≡ nat_lt 0 (length whole.now + length fraction.now) }
 {
     !whole.is_empty() || !fraction.is_empty()
 }
 
-/// The number of steps, from the digits on both sides of the point.
+/// Returns the number of steps of `1 / 10^places`, where `value` is the number that the digits `whole` write.
 fn read_parts(
     negative: bool,
     whole: &[u8],

@@ -3,7 +3,7 @@
 ghost use Rattle.std.specs.Prelude.{◌≡◌, ◌+◌, ◌*◌, ◌/◌, ◌^◌, ◌<◌, ◌≤◌, unsigned_abs};
 ghost use Rattle.decimal_text.specs.Rounding.{rounded_of, half_up};
 
-/// `value / unit` as the nearest whole number, a half as the one further from 0.
+/// Returns `value / unit` rounded to the nearest whole number, a half away from 0.
 pub fn rounded(value: i128, unit: u64) -> i128
     requires some { 0 < unit }
     requires room { unsigned_abs value < 2 ^ 126 }
@@ -14,7 +14,7 @@ pub fn rounded(value: i128, unit: u64) -> i128
     if value < 0 { -size } else { size }
 }
 
-/// `size / unit` as the nearest whole number, a half upwards.
+/// Returns `size / unit` rounded to the nearest whole number, a half upwards.
 fn rounded_size(size: u128, unit: u64) -> u128
     requires some { 0 < unit }
     requires room { size < 2 ^ 126 }
@@ -25,7 +25,7 @@ fn rounded_size(size: u128, unit: u64) -> u128
     (2 * size + unit) / (2 * unit)
 }
 
-/// The same of shorter numbers.
+/// Returns `value / unit` rounded as by [`rounded`], in arithmetic of 64 bits.
 pub fn rounded_short(value: i64, unit: u32) -> i64
     requires some { 0 < unit }
     requires room { unsigned_abs value < 2 ^ 61 }

@@ -1,9 +1,9 @@
-//! The sign before a number.
+//! The sign of a number.
 
 ghost use Rattle.std.specs.Prelude.{◌≡◌};
 ghost use Rattle.std.specs.Str.Parse.{starts_with_minus, without_leading_sign};
 
-/// Whether a minus stands first, and the text without the one `+` or `-` that it may begin with.
+/// Returns true if `text` begins with `-`, and `text` without the one `+` or `-` that it may begin with.
 pub fn split_sign(text: &[u8]) -> (bool, &[u8])
     ensures minus { result.0 ≡ starts_with_minus text.now }
     ensures rest { result.1.now ≡ without_leading_sign text.now }

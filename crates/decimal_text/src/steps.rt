@@ -1,24 +1,24 @@
-//! The digits of a fraction, gone through one by one.
+//! The digits of a fraction, read one by one.
 
 ghost use Rattle.std.specs.Prelude.{◌≡◌, ℕ, ◌+◌, ◌*◌, ◌-◌, ◌^◌, ◌<◌, ◌≤◌, true, false, length, MatchOption};
 ghost use Rattle.std.specs.List.{list_all};
 ghost use Rattle.std.specs.Char.{is_ascii_digit};
 ghost use Rattle.std.specs.Str.Parse.{digits_value_after};
 
-/// A decimal's digits so far, as one number.
+/// The digits of a decimal read so far, as one number.
 #[derive(Clone, Copy)]
 pub struct Steps {
     pub value: u128,
-    /// How many places are still to come.
+    /// The number of decimal places still to be read.
     pub left: u32,
-    /// No digit but 0 stands past the last place.
+    /// True if no digit other than 0 came after the last place.
     pub exact: bool,
 }
 
 impl Steps {
     ghost use Rattle.decimal_text.specs.Workings.Steps.{Stands};
 
-    /// One digit more.
+    /// Returns the steps after one more digit of the fraction.
     fn after(self, digit: u8) -> Steps
         requires one { digit ≤ 9 }
         requires room { (self.value + 1) * 10 ^ self.left ≤ 10 ^ 27 }
@@ -37,7 +37,7 @@ impl Steps {
         }
     }
 
-    /// The number of steps in all, once the fraction has ended.
+    /// Returns the number of steps, if the fraction ends here: places not read count as 0.
     pub fn total(self) -> u128
         requires { (self.value + 1) * 10 ^ self.left ≤ 10 ^ 27 }
         ensures value { result ≡ self.value * 10 ^ self.left }
@@ -46,7 +46,8 @@ impl Steps {
         self.value * 10u128.pow(self.left)
     }
 
-    /// All digits of a fraction after a whole number, if they are digits.
+    /// Returns the steps of the whole number `whole` and all digits of `fraction`, or `None` if
+    /// `fraction` has a byte that isn't a digit.
     pub fn over(whole: u64, fraction: &[u8], places: u32) -> Option<Steps>
         requires few { places ≤ 9 }
         requires short { whole < 10 ^ 18 }

@@ -5,7 +5,7 @@ ghost use Rattle.std.specs.Prelude.{◌≡◌, List, ℕ, [], IfOk, string_bytes
 use std::alloc::{AllocError, Global};
 use std::marker::Model;
 
-/// UTF-8 text. Contracts see it as the list of its bytes.
+/// An owned text in UTF-8. In contracts its value is the list of its bytes.
 #[derive(Clone, Debug, Drop)]
 pub struct Text {
     text: String,
@@ -18,7 +18,7 @@ impl Model for Text {
 }
 
 impl Text {
-    /// The empty text. It takes no memory.
+    /// Returns the empty text. It doesn't allocate.
     pub fn empty(alloc: Global) -> Text
         ensures { result ≡ [] }
     {
@@ -27,7 +27,10 @@ impl Text {
         }
     }
 
-    /// A text of its own with the same bytes.
+    /// Returns an owned text with the bytes of `text`.
+    ///
+    /// # Errors
+    /// [`AllocError`] if memory runs out.
     pub fn from_str(alloc: Global, text: &str) -> Result<Text, AllocError>
         ensures { IfOk result (λ t. t ≡ text.now) }
     {
@@ -36,14 +39,17 @@ impl Text {
         })
     }
 
-    /// The text, lent.
+    /// Borrows the text.
     pub fn as_str(&self) -> &str
         ensures { result.now ≡ self.now }
     {
         self.text.as_str()
     }
 
-    /// A second text with the same bytes.
+    /// Returns a second text with the same bytes.
+    ///
+    /// # Errors
+    /// [`AllocError`] if memory runs out.
     pub fn copy(&self) -> Result<Text, AllocError>
         ensures { IfOk result (λ t. t ≡ self.now) }
     {

@@ -1,4 +1,4 @@
-//! Whole numbers of digits alone.
+//! Whole numbers written in digits alone.
 
 ghost use Rattle.std.specs.Prelude.{◌≡◌, ◌<◌, ◌≤◌, ◌^◌, true, length};
 ghost use Rattle.std.specs.Option.{ForSome};
@@ -7,19 +7,19 @@ ghost use Rattle.std.specs.Char.{is_ascii_digit};
 ghost use Rattle.std.specs.Str.Parse.{digits_value};
 ghost use Rattle.decimal_text.specs.Digits.{digits_of};
 
-/// How many digits always fit 64 bits, and the number after the greatest of so many.
+/// The number of digits that always fit 64 bits; [`HALF`] is the first number that needs one digit more.
 const HALF_DIGITS: usize = 19;
 
 const HALF: u128 = 10_000_000_000_000_000_000;
 
-/// Whether each byte is a digit, as in a text of no byte.
+/// Returns true if each byte of `text` is an ASCII digit; true for an empty text.
 pub fn are_digits(text: &[u8]) -> bool
     ensures { result ≡ list_all is_ascii_digit text.now }
 {
     text.iter().all(|byte| byte.is_ascii_digit())
 }
 
-/// The number that at most nineteen digits write, which is 0 where there is none.
+/// Returns the number that the digits of `text`, at most 19, write: 0 if there is no digit.
 pub fn digits_value(text: &[u8]) -> u64
     requires few { length text.now ≤ 19 }
     requires digits { list_all is_ascii_digit text.now ≡ true }
@@ -33,7 +33,7 @@ pub fn digits_value(text: &[u8]) -> u64
     value
 }
 
-/// The number that at most thirty-eight digits write, which is 0 where there is none.
+/// Returns the number that the digits of `text`, at most 38, write: 0 if there is no digit.
 pub fn wide_digits_value(text: &[u8]) -> u128
     requires few { length text.now ≤ 38 }
     requires digits { list_all is_ascii_digit text.now ≡ true }
@@ -47,7 +47,8 @@ pub fn wide_digits_value(text: &[u8]) -> u128
     u128::from(digits_value(front)) * HALF + u128::from(digits_value(back))
 }
 
-/// The number of one digit or more, at most so many, which are up to thirty-eight.
+/// Returns the number that `text` writes in 1 to `most` digits, or `None` for any other text.
+/// `most` is at most 38.
 #[tactic(auto, unfolding(crate::specs::Digits::digits_of))]
 pub fn wide_digits(text: &[u8], most: usize) -> Option<u128>
     requires { most ≤ 38 }
@@ -60,7 +61,14 @@ pub fn wide_digits(text: &[u8], most: usize) -> Option<u128>
     Some(wide_digits_value(text))
 }
 
-/// The number of one digit or more, at most so many, which are up to eighteen.
+/// Returns the number that `text` writes in 1 to `most` digits, or `None` for any other text.
+/// `most` is at most 18.
+///
+/// # Examples
+/// ```
+/// assert_eq!(rt; digits(b"0019", 4), Some(19));
+/// assert_eq!(rt; digits(b"+19", 4), None);
+/// ```
 pub fn digits(text: &[u8], most: usize) -> Option<u64>
     requires { most ≤ 18 }
     ensures value { result ≡ digits_of most text.now }

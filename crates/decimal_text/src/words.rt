@@ -1,4 +1,4 @@
-//! A list of texts, as the words of a command line.
+//! A list of texts, such as the arguments of a command line.
 
 ghost use Rattle.std.specs.Prelude.{◌≡◌, List, ℕ, IfOk};
 
@@ -6,7 +6,7 @@ use crate::text::Text;
 use std::alloc::AllocError;
 use std::marker::Model;
 
-/// A list of texts. Contracts see it as the list of the texts' bytes.
+/// A list of texts. In contracts its value is the list of the texts' bytes.
 #[derive(Clone, Debug, Drop)]
 pub struct Words {
     items: Vec<Text>,
@@ -19,21 +19,24 @@ impl Model for Words {
 }
 
 impl Words {
-    /// The list of a vector's texts. It takes no memory.
+    /// Returns the list of the texts in `items`. It doesn't allocate.
     pub fn from_vec(items: Vec<Text>) -> Words
         ensures { result ≡ items.items }
     {
         Words { items }
     }
 
-    /// The texts, lent.
+    /// Borrows the texts as a slice.
     pub fn as_slice(&self) -> &[Text]
         ensures { result.now ≡ self.now }
     {
         self.items.as_slice()
     }
 
-    /// A second list of the same texts.
+    /// Returns a second list of the same texts.
+    ///
+    /// # Errors
+    /// [`AllocError`] if memory runs out.
     pub fn copy(&self) -> Result<Words, AllocError>
         ensures { IfOk result (λ w. w ≡ self.now) }
     {

@@ -1,4 +1,4 @@
-//! Numbers written as decimals.
+//! Writing numbers as decimals.
 
 ghost use Rattle.std.specs.Prelude.{◌≡◌, ℕ, ◌+◌, ◌^◌, ◌<◌, ◌≤◌, [], ◌∷◌, ◌++◌, length, unsigned_abs};
 ghost use Rattle.arrayvec.specs.ArrayString.{array_string_len};
@@ -9,10 +9,17 @@ use crate::digit::push_digit;
 use arrayvec::ArrayString;
 use itoa::Buffer;
 
-/// Writes `value / 10^places` with exactly that many decimals.
+/// Writes `value / 10^places` to the empty `out` with exactly `places` decimals, at most 6.
 ///
-/// One digit at least stands before the point, `-` only before a negative value, and there is no
-/// point where `places` is 0. It takes no memory.
+/// At least one digit comes before the point, `-` comes only before a negative value, and there is no
+/// point if `places` is 0. It doesn't allocate.
+///
+/// # Examples
+/// ```
+/// let mut out = ArrayString::new();
+/// write(-5, 2, &mut out);
+/// assert_eq!(rt; out.as_str(), "-0.05");
+/// ```
 pub fn write(value: i64, places: u32, out: &mut ArrayString<24>)
     requires empty { out.old.bytes ≡ [] }
     requires few { places ≤ 6 }
@@ -26,7 +33,7 @@ pub fn write(value: i64, places: u32, out: &mut ArrayString<24>)
     push_fraction(size, places, out);
 }
 
-/// Appends the sign of a negative number.
+/// Appends `-` if `value` is negative.
 fn push_minus(value: i64, out: &mut ArrayString<24>)
     requires { length out.old.bytes < 24 }
     ensures { out.new.bytes ≡ out.old.bytes ++ minus_of value }
@@ -36,7 +43,7 @@ fn push_minus(value: i64, out: &mut ArrayString<24>)
     }
 }
 
-/// Appends the point and the last digits of a number, where it has decimals.
+/// Appends the point and the last `places` digits of `size`, or nothing if `places` is 0.
 fn push_fraction(size: u64, places: u32, out: &mut ArrayString<24>)
     requires few { places ≤ 6 }
     requires room { length out.old.bytes + 1 + places ≤ 24 }
@@ -48,7 +55,7 @@ fn push_fraction(size: u64, places: u32, out: &mut ArrayString<24>)
     }
 }
 
-/// Appends the last digits of a number, the highest first.
+/// Appends the last `places` digits of `size`, the highest first.
 fn push_last_digits(size: u64, places: u32, out: &mut ArrayString<24>)
     requires few { places ≤ 6 }
     requires room { length out.old.bytes + places ≤ 24 }

@@ -1,4 +1,4 @@
--- The events that are to come from a search.
+-- The events still to come from a search.
 use Rattle.std.proofs.Common.{◌≡◌, ℕ, ◌+◌, ℤ, ◌++◌, length, ◌≤◌, refl, sym, ap, ◌∙◌, arith}
 use Rattle.std.specs.Prelude.{Option, Some, None, flat_map, option_to_list}
 use Rattle.std.specs.Option.{ForSome}
@@ -46,7 +46,7 @@ ahead-turns : {C : Type 0} (a : ℤ) (search : Option (Looking C)) → ForSome s
 ahead-turns a None at = refl
 ahead-turns a (Some search) at = append-nil (turns a search.left) ∙ ap (λ b. turns b search.left) (sym (at search refl))
 
--- the events ahead of three searches that stand at one minute
+-- the events left in three searches that have reached the same minute
 pub merged-ahead : {A B : Type 0} (turn : Looking A) (slack mark : Option (Looking B)) → ForSome slack (λ s. s.at ≡ turn.at) → ForSome mark (λ s. s.at ≡ turn.at) → ordered (events_ahead (Some turn) ++ (events_ahead slack ++ events_ahead mark)) ≡ merged_of turn.at (tracks_left turn slack mark)
 merged-ahead turn slack mark slack_at mark_at =
     rw (merged-parts turn.at (tracks_left turn slack mark), ahead-turns turn.at slack slack_at, ahead-turns turn.at mark mark_at)
@@ -58,6 +58,6 @@ cells-ahead turn None (Some mark) = omega arith
 cells-ahead turn (Some slack) None = omega arith
 cells-ahead turn (Some slack) (Some mark) = omega arith
 
--- a search that has given nothing has at most one cell a minute
+-- a search that has returned nothing has at most one cell a minute
 pub cover-left : {C : Type 0} (search : Looking C) (c : Meaning) (a : ℤ) (n : ℕ) → search.left ≡ cover c a n → length search.left ≤ n
 cover-left search c a n left = rw left (cover-few c a n)

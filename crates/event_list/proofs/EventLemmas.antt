@@ -23,7 +23,7 @@ use Rattle.event_list.proofs.ShiftLemmas.{shifted-ordered}
 abbrev pub turns_of : ℤ → Tracks → List Event
 turns_of a t = turns a t.turn ++ (flat_map (turns a) (option_to_list t.slack) ++ flat_map (turns a) (option_to_list t.mark))
 
--- those of the followed curves
+-- the events of the requested curves
 abbrev pub events_of : Span → Followed → List Event
 events_of s f = events_over s f.turn ++ (flat_map (events_over s) (option_to_list f.slack) ++ flat_map (events_over s) (option_to_list f.mark))
 
@@ -56,7 +56,7 @@ shifted-events f b begin end t known ok =
     let s = widened_of b begin end in
     rw (merged-parts s.begin t, shifted-ordered b begin end (turns_of s.begin t), accepted-events f s t known ok, events-parts f b begin end)
 
--- ---- cells by the rule
+-- ---- cells by the halving rule
 
 cover-is : (s : Span) (o : Option Meaning) → IsAccepted s o (option_map (cover_over s) o)
 cover-is s None = tt
@@ -85,7 +85,7 @@ pub count-few : (f : Followed) (s : Span) → cell_count f s ≤ 3 * minutes_in 
 unfolding cell_count
 count-few f s = omega (arith, cells-parts (covers_of f s), cover-few f.turn s.begin (minutes_in s), cover-short s f.slack, cover-short s f.mark)
 
--- ---- curves that say the same
+-- ---- curves that agree
 
 agree-events : (s : Span) (o p : Option Meaning) → AgreeIfFollowed s o p → flat_map (events_over s) (option_to_list o) ≡ flat_map (events_over s) (option_to_list p)
 agree-events s None None agree = refl

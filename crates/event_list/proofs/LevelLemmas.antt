@@ -1,4 +1,4 @@
--- The events of followed curves can be moved.
+-- The events of requested curves can be moved.
 use Rattle.std.proofs.Common.{ℕ, zero, suc, ◌^◌, ◌≤◌, ℤ, pos, ◌+ℤ◌, ◌≤ℤ◌, [], ◌++◌, get_or, refl, arith}
 use Rattle.std.specs.Prelude.{All, Option, Some, None, flat_map, option_to_list, unsigned_abs}
 use Rattle.std.specs.Option.{ForSome}

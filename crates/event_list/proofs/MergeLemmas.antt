@@ -1,4 +1,4 @@
--- The first of what is left of three lists in order is the earliest of their first events.
+-- The first event left in three sorted lists is the earliest of their first events.
 use Rattle.std.proofs.Common.{◌≡◌, ℕ, ◌+◌, ℤ, true, false, List, [], ◌∷◌, ◌++◌, drop, length, refl, sym, ap, ◌∙◌, arith}
 use Rattle.std.specs.Prelude.{pos, ◌+ℤ◌, All, IfSome, sum_by, Option, Some, None}
 use Rattle.std.proofs.lemmas.List.Elements.{All-nil, All-cons, All-weaker, All-append}
@@ -13,7 +13,7 @@ use Rattle.event_list.specs.Order.{comes_before, ordered}
 use Rattle.event_list.specs.Workings.Coming.{first_of, IsLeading, IsAscending, Strand, Stands, merging_of}
 use Rattle.event_list.proofs.OrderLemmas.{comes_before-asym, comes_before-trans, All-ordered, sum-ordered, ordered-ascending, ordered-is, ordered-same}
 
--- an event that may be there stands before another in no case
+-- an optional event that doesn't come before another
 abbrev NotBefore : Event → Event → Type 0
 NotBefore e d = comes_before d e ≡ false
 
@@ -59,7 +59,7 @@ unfolding IsAscending
 drop-ascending [] up = up
 drop-ascending (e ∷ es) up = up.1
 
--- an event before which no other stands is the first
+-- an event that no other comes before is the first
 least-first : (e : Event) (es ws : List Event) → All (NotBefore e) ws → ((f : Event → ℕ) → sum_by f es ≡ f e + sum_by f ws) → ordered es ≡ e ∷ ordered ws
 unfolding IsAscending
 least-first e es ws least same =
@@ -68,7 +68,7 @@ least-first e es ws least same =
 sum-three : (f : Event → ℕ) (xs ys zs : List Event) → sum_by f (xs ++ (ys ++ zs)) ≡ sum_by f xs + (sum_by f ys + sum_by f zs)
 sum-three f xs ys zs = omega (arith, sum_by-append f xs (ys ++ zs), sum_by-append f ys zs)
 
--- an event is given of three lists in order: the first of all of them, or none where none has one
+-- the event returned of three sorted lists: the first of all of them, or none if none has one
 abbrev pub TakesFirst : List Event → List Event → List Event → Option Event → List Event → List Event → List Event → Type 0
 TakesFirst xs ys zs None us vs ws = (xs ≡ []) × (ys ≡ []) × (zs ≡ []) × (ordered (us ++ (vs ++ ws)) ≡ [])
 TakesFirst xs ys zs (Some e) us vs ws = ordered (xs ++ (ys ++ zs)) ≡ e ∷ ordered (us ++ (vs ++ ws))
@@ -98,7 +98,7 @@ takes-third : (xs ys zs : List Event) (o : Option Event) → TakesFirst zs xs ys
 takes-third xs ys zs None takes = (takes.1, takes.2, takes.0, sym (third-first xs ys (drop 1 zs)) ∙ takes.3)
 takes-third xs ys zs (Some e) takes = sym (third-first xs ys zs) ∙ takes ∙ ap (λ es. e ∷ es) (third-first xs ys (drop 1 zs))
 
--- what is known of a track before and after it was looked at, or its first event was taken
+-- the invariant of a track after its search has run, or its first event was returned
 pub record Looks (old new : Strand) (rest : List Event) : Type 0 where
   pub left : new.left ≡ rest
   pub all : new.all ≡ old.all
@@ -134,7 +134,7 @@ gives-mark t s m t' s' m' stands lead turn slack mark =
     gives t s m t' s' m' (first_of m.left) t.left s.left (drop 1 m.left)
     (takes-third t.left s.left m.left (first_of m.left) (takes-first m.left t.left s.left stands.mark stands.turn stands.slack lead.0 lead.1)) turn slack mark
 
--- what is known of the tracks afterwards
+-- the invariant of the tracks afterwards
 pub stands-after : (t s m t' s' m' : Strand) (us vs ws : List Event) → Stands t s m → IsAscending us → IsAscending vs → IsAscending ws → Looks t t' us → Looks s s' vs → Looks m m' ws → Stands t' s' m'
 stands-after t s m t' s' m' us vs ws stands up-us up-vs up-ws turn slack mark =
     let few = stands.few in
@@ -148,7 +148,7 @@ stands-after t s m t' s' m' us vs ws stands up-us up-vs up-ws turn slack mark =
       few = rw (turn.all, slack.all, mark.all) few;
     }
 
--- ---- how far the searches were asked
+-- ---- how far the searches have run
 
 searched-again : (a : ℤ) (cells : List Cell) → looked (searched a cells) ≡ searched a cells
 unfolding searched
@@ -157,7 +157,7 @@ searched-again a (cells.Quiet n ∷ cells) = searched-again (a +ℤ pos n) cells
 searched-again a (cells.Still ∷ cells) = searched-again (a +ℤ pos 1) cells
 searched-again a (cells.Turn kind level ∷ cells) = refl
 
--- a search that was looked at isn't asked again
+-- a search with a pending event doesn't run again
 again : (found : Option Event) (w : Waiting) → found ≡ w.found → looked (looked_event found w) ≡ looked_event found w
 again None w is = searched-again w.at w.cells
 again (Some e) w is = ap (λ o. looked_event o w) (sym is)

@@ -1,4 +1,4 @@
--- What holds of each event of a station.
+-- Properties of each event of a station.
 use Rattle.std.proofs.Common.{◌≡◌, ℕ, zero, suc, ◌≤◌, ℤ, pos, ◌+ℤ◌, List, [], ◌++◌, map, refl, true, arith}
 use Rattle.std.specs.Prelude.{All, IsTrue, Option, Some, None, filter, flat_map, option_to_list, unsigned_abs}
 use Rattle.std.specs.Option.{ForSome}

@@ -1,4 +1,4 @@
--- The order of events is total, and a list has one order.
+-- The order of events is total, and a list has one sorted form.
 use Rattle.std.proofs.Common.{◌≡◌, ℕ, suc, ◌+◌, ◌<◌, ◌≤◌, ◌==◌, ℤ, nat_lt, int_lt, Bool, true, false, ◌&&◌, ◌||◌, cond, List, [], ◌∷◌, refl, sym, ap, ◌∙◌, arith}
 use Rattle.std.specs.Prelude.{sum_by, All, get_or, length, IsPermutation, IsSortedBy}
 use Rattle.std.specs.Cmp.{IsStrictWeakOrder}
@@ -85,9 +85,9 @@ unfolding ordered
 All-ordered P [] all = all
 All-ordered P (e ∷ es) all = All-with P e (ordered es) (All-head P e es all) (All-ordered P es (All-tail P e es all))
 
--- ---- two lists in order with the same events are one list
+-- ---- two sorted lists with the same events are equal
 
--- how many events stand before one
+-- the number of events that come before one
 abbrev counted : Event → Event → ℕ
 counted e d = cond (comes_before d e) 1 0
 
@@ -97,7 +97,7 @@ none-before e (d ∷ ds) all =
     let here : counted e d ≡ 0 = rw (All-head (λ x. comes_before x e ≡ false) d ds all) refl in
     omega (arith, sum_by-cons (counted e) d ds, none-before e ds (All-tail (λ x. comes_before x e ≡ false) d ds all))
 
--- the first event of one list stands before no event of the other
+-- the first event of one list comes before no event of the other
 not_before : (d e : Event) (ds es : List Event) → All (λ x. comes_before x e ≡ false) es → sum_by (counted e) (d ∷ ds) ≡ sum_by (counted e) (e ∷ es) → comes_before d e ≡ false
 not_before d e ds es up same = by_test (comes_before d e)
     (λ before. absurd (
@@ -118,14 +118,14 @@ one-order (x ∷ xs) (y ∷ ys) up up' same =
     omega (arith, same f, sum_by-cons f x xs, sum_by-cons f y ys)) in
     rw (head, tail) refl
 
--- a list in order with the events of another is its order
+-- a sorted list with the events of another is its sorted form
 pub ordered-is : (xs ys : List Event) → IsAscending ys → ((f : Event → ℕ) → sum_by f xs ≡ sum_by f ys) → ys ≡ ordered xs
 ordered-is xs ys up same = one-order ys (ordered xs) up (ordered-ascending xs) (λ f. sym (same f) ∙ sym (sum-ordered f xs))
 
 pub ordered-same : (xs ys : List Event) → ((f : Event → ℕ) → sum_by f xs ≡ sum_by f ys) → ordered xs ≡ ordered ys
 ordered-same xs ys same = one-order (ordered xs) (ordered ys) (ordered-ascending xs) (ordered-ascending ys) (λ f. sum-ordered f xs ∙ (same f ∙ sym (sum-ordered f ys)))
 
--- ---- what a sort gives
+-- ---- the result of a sort
 
 weak : IsStrictWeakOrder comes_before
 weak = record { one_way = comes_before-asym; chain = comes_before-trans }
@@ -143,7 +143,7 @@ ranked m p l n q k = grind (arith, ints, nat_tests)
 abbrev pub ranks_before : Event → Event → Bool
 ranks_before d e = is_lt (ordering_then (ordering_then (int_cmp d.minute e.minute) (nat_cmp (place_of d.kind) (place_of e.kind))) (int_cmp d.level e.level))
 
--- events that are sorted by their ranks are in order
+-- events sorted by their ranks are in order
 pub sorted-is : (xs ys : List Event) → IsPermutation xs ys → IsSortedBy ranks_before ys → ys ≡ ordered xs
 sorted-is xs ys moves sorted =
     let up : IsSortedBy comes_before ys = λ k d low high.

@@ -1,4 +1,4 @@
--- A plain basis moves nothing, and its span's events are all kept.
+-- A basis without offsets moves nothing, and all events of its span are kept.
 use Rattle.std.proofs.Common.{◌≡◌, ℕ, zero, suc, ℤ, pos, ◌+ℤ◌, ◌-ℤ◌, ◌≤ℤ◌, ◌<ℤ◌, int_lt, int_le, Bool, true, false, ◌&&◌, List, [], ◌∷◌, ◌++◌, map, refl, sym, ap, ◌∙◌, arith}
 use Rattle.std.specs.Prelude.{All, IsTrue, Option, Some, None, filter, flat_map, option_to_list, is_none}
 use Rattle.std.proofs.lemmas.Bool.Decides.{Decides-int_eq}
@@ -43,7 +43,7 @@ no-slack : (o : Option Slack) → is_none o ≡ true → o ≡ None
 no-slack None is = refl
 no-slack (Some slack) is = cc
 
--- what a plain basis is
+-- the offsets of such a basis
 pub record Plain (b : Basis) : Type 0 where
   pub high : b.high ≡ usual
   pub low : b.low ≡ usual
@@ -88,7 +88,7 @@ filter-all test [] all = refl
 filter-all test (e ∷ es) all =
     rw (All-head (λ d. test d ≡ true) e es all) (ap (λ ds. e ∷ ds) (filter-all test es (All-tail (λ d. test d ≡ true) e es all)))
 
--- ---- a plain list lies in its span
+-- ---- the events of a plain list are in its span
 
 abbrev pub LiesIn : ℤ → ℤ → Event → Type 0
 LiesIn begin end e = (begin ≤ℤ e.minute) × (e.minute <ℤ end)

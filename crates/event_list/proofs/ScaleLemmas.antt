@@ -1,4 +1,4 @@
--- A level that is scaled: how large it may be, and that the usual offset leaves it as it is.
+-- A scaled level: a bound on it, and the offset that leaves it unchanged.
 use Rattle.std.proofs.Common.{◌≡◌, ℕ, suc, ◌+◌, ◌*◌, ◌≤◌, ℤ, pos, negsuc, ◌*ℤ◌, neg_ℤ, refl, sym, ap, ◌∙◌, mul-le-mul, arith}
 use Rattle.std.specs.Prelude.{unsigned_abs}
 use Rattle.std.proofs.lemmas.Int.{ints, unsigned_abs-mul}

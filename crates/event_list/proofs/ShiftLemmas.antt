@@ -21,7 +21,7 @@ moved-dropped b begin end es k d e within is kept =
 pub moved-done : (b : Basis) (begin end : ℤ) (es : List Event) (k : ℕ) → length es ≤ k → moved_within b begin end (drop k es) ≡ []
 moved-done b begin end es k past = at_drop_all (moved_within b begin end) es k past
 
--- what an event counts for once it is moved
+-- an event moved, or dropped if it is outside the span
 abbrev moved_part : Basis → ℤ → ℤ → (Event → ℕ) → Event → ℕ
 moved_part b begin end f e = cond (is_within begin end (moved b e)) (f (moved b e)) 0
 
@@ -42,7 +42,7 @@ sum-moved b begin end f (e ∷ es) =
     let sum : sum_by f (moved_within b begin end es) ≡ sum_by (moved_part b begin end f) (e ∷ es) = omega arith in
     ap (sum_by f) list ∙ sum)
 
--- the order that events come in makes no difference to the order that they have once they are moved
+-- the order of the events doesn't matter for the order of the moved ones
 pub shifted-ordered : (b : Basis) (begin end : ℤ) (es : List Event) → shifted_of b begin end (ordered es) ≡ ordered (moved_within b begin end es)
 unfolding shifted_of
 shifted-ordered b begin end es =

@@ -25,7 +25,7 @@ pub turns-done : (a : ℤ) (cells : List Cell) (k : ℕ) → length cells ≤ k 
 unfolding turns
 turns-done a cells k past = at_drop_all (turns a) cells k past
 
--- the events of cells come no earlier than the cells begin
+-- the events of cells aren't before the begin of the cells
 turns-late : (a : ℤ) (cells : List Cell) → All (λ (e : Event). a ≤ℤ e.minute) (turns a cells)
 unfolding turns
 turns-late a [] = All-nil (λ (e : Event). a ≤ℤ e.minute)
@@ -35,7 +35,7 @@ turns-late a (Turn kind level ∷ cells) =
     All-cons (λ (e : Event). a ≤ℤ e.minute) (record { minute = a; kind = kind; level = level }) (turns (a +ℤ pos 1) cells) (omega (arith, ints))
     (All-weaker (λ (e : Event). (a +ℤ pos 1) ≤ℤ e.minute) (λ (e : Event). a ≤ℤ e.minute) (λ e h. omega (arith, ints)) (turns (a +ℤ pos 1) cells) (turns-late (a +ℤ pos 1) cells))
 
--- an event of a later minute doesn't stand before
+-- an event of a later minute doesn't come before
 later-after : (a : ℤ) (kind : Kind) (level : ℤ) (e : Event) → (a +ℤ pos 1) ≤ℤ e.minute → comes_before e (record { minute = a; kind = kind; level = level }) ≡ false
 later-after a kind level e late = grind (arith, ints, nat_tests)
 

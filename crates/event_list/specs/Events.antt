@@ -17,17 +17,19 @@ use Rattle.event_list.specs.Order.{ordered}
 use Rattle.event_list.specs.Shifts.{widened_of, moved_within}
 use Rattle.event_text.specs.Words.{has_word}
 
+-- the number of minutes of a span
 abbrev pub minutes_in : Span → ℕ
 minutes_in s = unsigned_abs (s.end -ℤ s.begin)
 
--- ---- the events of the curves that are followed
+-- ---- the events of the requested curves
 
--- the curves that are followed at a station: its turns, its slack water and its passing of a mark
+-- the curves that are requested at a station: of high and low waters, of slack water, and of a mark
 pub record Followed : Type 0 where
   pub turn : Meaning
   pub slack : Option Meaning
   pub mark : Option Meaning
 
+-- the requested curves as a list
 abbrev pub curves_of : Followed → List Meaning
 curves_of f = f.turn ∷ (option_to_list f.slack ++ option_to_list f.mark)
 
@@ -35,17 +37,19 @@ curves_of f = f.turn ∷ (option_to_list f.slack ++ option_to_list f.mark)
 abbrev pub events_over : Span → Meaning → List Event
 events_over s c = plain_list c.track s.begin (minutes_in s)
 
--- the plain lists of the reference's curves over the widened span, each event moved and scaled, those within the span kept, in order
+-- The events of a station: the plain lists of the reference's curves over the widened span, each event
+-- moved and scaled, those within the span, in order.
 unfoldable pub station_events : Followed → Basis → ℤ → ℤ → List Event
 station_events f b begin end =
     ordered (moved_within b begin end (flat_map (events_over (widened_of b begin end)) (curves_of f)))
 
 -- ---- the events in cells
 
+-- the requested tracks as a list
 abbrev pub tracks_of : Tracks → List (List Cell)
 tracks_of t = t.turn ∷ (option_to_list t.slack ++ option_to_list t.mark)
 
--- the events in the cells of all tracks, which begin at one minute, in order
+-- the events in the cells of all tracks, which begin at the minute `begin`, in order
 unfoldable pub merged_of : ℤ → Tracks → List Event
 merged_of begin t = ordered (flat_map (turns begin) (tracks_of t))
 
@@ -53,10 +57,11 @@ merged_of begin t = ordered (flat_map (turns begin) (tracks_of t))
 unfoldable pub cells_in : Tracks → ℕ
 cells_in t = sum_by length (tracks_of t)
 
--- the cells of the followed curves by the rule
+-- the cells of a curve over a span by the halving rule
 abbrev pub cover_over : Span → Meaning → List Cell
 cover_over s c = cover c s.begin (minutes_in s)
 
+-- the cells of each requested curve over a span by the halving rule
 abbrev pub covers_of : Followed → Span → Tracks
 covers_of f s = record {
   turn = cover_over s f.turn;
@@ -64,10 +69,11 @@ covers_of f s = record {
   mark = option_map (cover_over s) f.mark;
 }
 
+-- the number of cells of the requested curves over a span
 unfoldable pub cell_count : Followed → Span → ℕ
 cell_count f s = cells_in (covers_of f s)
 
--- ---- what is asked of curves and cells
+-- ---- properties of curves and cells
 
 -- each track has at most 6,000,000 minutes
 pub record AreShort (t : Tracks) : Type 0 where
@@ -75,54 +81,59 @@ pub record AreShort (t : Tracks) : Type 0 where
   pub slack : ForSome t.slack (λ cells. all_minutes cells ≤ 6000000)
   pub mark : ForSome t.mark (λ cells. all_minutes cells ≤ 6000000)
 
--- a curve's law holds, and it tells the span
+-- a lawful curve whose minutes contain the span
 pub record IsKnown (s : Span) (c : Meaning) : Type 0 where
   pub lawful : IsLawful c
   pub span : IsSpan c s.begin (minutes_in s)
 
+-- all requested curves are lawful and contain the span
 pub record AreKnown (f : Followed) (s : Span) : Type 0 where
   pub turn : IsKnown s f.turn
   pub slack : ForSome f.slack (IsKnown s)
   pub mark : ForSome f.mark (IsKnown s)
 
--- the levels that a curve's events may carry are at most 11,000,000,000 millionths in size
+-- the levels of a curve's events are at most 11,000,000,000 millionths in size
 abbrev pub HasLevels : Meaning → Type 0
 HasLevels c = (m : ℤ) → IsMinute c m → unsigned_abs (c.track.note m) ≤ 11000000000
 
+-- the levels of all requested curves are within the limit
 pub record AllHaveLevels (f : Followed) : Type 0 where
   pub turn : HasLevels f.turn
   pub slack : ForSome f.slack HasLevels
   pub mark : ForSome f.mark HasLevels
 
--- a track is there exactly where its curve is followed, and is accepted over the span
+-- a track exists exactly if its curve is requested, and is accepted over the span
 abbrev pub IsAccepted : Span → Option Meaning → Option (List Cell) → Type 0
 IsAccepted s None None = Unit {0}
 IsAccepted s None (Some cells) = ⊥
 IsAccepted s (Some c) None = ⊥
 IsAccepted s (Some c) (Some cells) = verdict c s.begin (minutes_in s) cells ≡ Accepted
 
+-- the tracks are those of the requested curves, and are accepted over the span
 pub record AreAccepted (f : Followed) (s : Span) (t : Tracks) : Type 0 where
   pub turn : verdict f.turn s.begin (minutes_in s) t.turn ≡ Accepted
   pub slack : IsAccepted s f.slack t.slack
   pub mark : IsAccepted s f.mark t.mark
 
--- both are followed and say the same of the span, or neither is followed
+-- both are requested and agree over the span, or neither is requested
 abbrev pub AgreeIfFollowed : Span → Option Meaning → Option Meaning → Type 0
 AgreeIfFollowed s None None = Unit {0}
 AgreeIfFollowed s None (Some d) = ⊥
 AgreeIfFollowed s (Some c) None = ⊥
 AgreeIfFollowed s (Some c) (Some d) = AgreeOver c d s.begin (minutes_in s)
 
+-- the same curves are requested, and agree over the span
 pub record AllAgree (f g : Followed) (s : Span) : Type 0 where
   pub turn : AgreeOver f.turn g.turn s.begin (minutes_in s)
   pub slack : AgreeIfFollowed s f.slack g.slack
   pub mark : AgreeIfFollowed s f.mark g.mark
 
--- the events of a curve have words, whichever of its two kinds they have
+-- the events of a curve have names, for both of its kinds
 pub record IsNamed (units : Units) (c : Meaning) : Type 0 where
   pub rising : IsTrue (has_word units c.track.rising)
   pub falling : IsTrue (has_word units c.track.falling)
 
+-- the events of all requested curves have names
 pub record AreNamed (units : Units) (f : Followed) : Type 0 where
   pub turn : IsNamed units f.turn
   pub slack : ForSome f.slack (IsNamed units)

@@ -1,4 +1,4 @@
--- Events that come one at a time from the searches of a station's curves (this project).
+-- The events of the searches of a station's curves, one at a time (this project).
 use Rattle.std.specs.Prelude.{◌≡◌, ℕ, ◌+◌, ℤ, pos, ◌+ℤ◌, Bool, not, true, false, if◌then◌else◌, List, [], ◌∷◌, length, Option, Some, None}
 use Rattle.curve_law.specs.declared.cell.Cell.{Cell}
 use Rattle.curve_law.specs.declared.cell.Cell.TheVariants.{Quiet, Still, Turn}
@@ -9,39 +9,42 @@ use Rattle.event_list.specs.declared.leading.Leading.{Leading}
 use Rattle.event_list.specs.declared.leading.Leading.TheVariants as leadings
 use Rattle.event_list.specs.Order.{comes_before}
 
--- ---- what a merge has of its searches
+-- ---- the state of a merge's searches
 
--- of a search: the event that it has found and that isn't given yet, the minute that it has come to, and the cells that it has
--- left from there on
+-- a search: its pending event, which was found but not yet returned, the minute that it has reached, and
+-- the cells left from there on
 pub record Waiting : Type 0 where
   pub found : Option Event
   pub at : ℤ
   pub cells : List Cell
 
--- a track without a search has no cells
+-- the minute that a search has reached; 0 without a search
 abbrev pub minute_of : {C : Type 0} → Option (Looking C) → ℤ
 minute_of None = pos 0
 minute_of (Some search) = search.at
 
+-- the cells left in a search; none without a search
 abbrev pub cells_of : {C : Type 0} → Option (Looking C) → List Cell
 cells_of None = []
 cells_of (Some search) = search.left
 
+-- the state of a search with this pending event
 abbrev pub waiting : {C : Type 0} → Option Event → Option (Looking C) → Waiting
 waiting found search = record { found = found; at = minute_of search; cells = cells_of search }
 
+-- the states of the three searches
 pub record AllWaiting : Type 0 where
   pub turn : Waiting
   pub slack : Waiting
   pub mark : Waiting
 
--- how many cells the searches have left
+-- the number of cells left in all searches
 abbrev pub cells_to_come : AllWaiting → ℕ
 cells_to_come w = length w.turn.cells + length w.slack.cells + length w.mark.cells
 
--- ---- how far a step asks the searches
+-- ---- how far a step runs the searches
 
--- a search is asked for its cells up to the first one with an event, or up to its end
+-- a search after it has run up to the first cell with an event, or to its end
 unfoldable pub searched : ℤ → List Cell → Waiting
 searched a [] = record { found = None; at = a; cells = [] }
 searched a (Quiet n ∷ cells) = searched (a +ℤ pos n) cells
@@ -52,37 +55,39 @@ searched a (Turn kind level ∷ cells) = record {
   cells = cells;
 }
 
--- a search is asked only where none of its events waits
+-- a search runs only if it has no pending event
 abbrev pub looked_event : Option Event → Waiting → Waiting
 looked_event None w = searched w.at w.cells
 looked_event (Some event) w = w
 
+-- a search after it has run to its next event, if none is pending
 abbrev pub looked : Waiting → Waiting
 looked w = looked_event w.found w
 
--- its event is given, and no other is looked for yet
+-- the pending event is returned, and no other is searched for yet
 abbrev pub given : Waiting → Waiting
 given w = record { found = None; at = w.at; cells = w.cells }
 
--- the second event, if it is there, doesn't come before the first
+-- the second event, if there is one, doesn't come before the first
 abbrev pub leads : Option Event → Option Event → Bool
 leads a None = true
 leads None (Some e) = false
 leads (Some d) (Some e) = not (comes_before e d)
 
--- the track whose event comes first, if any has one; the earlier track where two events are alike
+-- the track whose event comes first, if any has one; the earlier track if two events are equal
 abbrev pub leading : Option Event → Option Event → Option Event → Leading
 leading turn slack mark =
     if leads turn slack
     then (if leads turn mark then leadings.Turn else leadings.Mark)
     else (if leads slack mark then leadings.Slack else leadings.Mark)
 
+-- the states after the event of one track is returned
 abbrev pub given_from : Leading → AllWaiting → AllWaiting
 given_from leadings.Turn w = record { turn = given w.turn; slack = w.slack; mark = w.mark }
 given_from leadings.Slack w = record { turn = w.turn; slack = given w.slack; mark = w.mark }
 given_from leadings.Mark w = record { turn = w.turn; slack = w.slack; mark = given w.mark }
 
--- a step asks each search of which no event waits for its next one, and gives the first of the three
+-- a step runs each search without a pending event to its next one, and returns the first of the three
 abbrev pub stepped : AllWaiting → AllWaiting
 stepped w =
     given_from (leading (looked w.turn).found (looked w.slack).found (looked w.mark).found)
@@ -90,23 +95,24 @@ stepped w =
 
 -- ---- a merge
 
--- a merge is seen as the events that are left, in order, what it has of its searches, the number of cells that these have given
--- so far, and the number of all their cells
+-- a merge: the events left, in order, the states of its searches, the number of cells that these have
+-- returned so far, and the number of all their cells
 pub record Merging : Type 0 where
   pub left : List Event
   pub waiting : AllWaiting
   pub cells : ℕ
   pub all : ℕ
 
--- the cells that searches have left
+-- the cells left in a search, if there is one
 abbrev pub cells_left : {C : Type 0} → Option (Looking C) → Option (List Cell)
 cells_left None = None
 cells_left (Some search) = Some search.left
 
+-- the cells left in the three searches, as tracks
 abbrev pub tracks_left : {A B : Type 0} → Looking A → Option (Looking B) → Option (Looking B) → Tracks
 tracks_left turn slack mark = record { turn = turn.left; slack = cells_left slack; mark = cells_left mark }
 
--- a step gives the first of the events that are left, and gives none where none is left: then all cells were given
+-- a step returns the first of the events left, or none if none is left; then all cells were returned
 abbrev pub GivesNext : Merging → Option Event → Merging → Type 0
 GivesNext old None new = (old.left ≡ []) × (new.left ≡ []) × (new.cells ≡ new.all)
 GivesNext old (Some event) new = old.left ≡ event ∷ new.left

@@ -4,7 +4,8 @@ use Rattle.std.specs.Ordering.{int_eq}
 use Rattle.curve_law.specs.declared.event.Event.{Event}
 use Rattle.curve_law.specs.Verdicts.{place_of}
 
--- the earlier minute comes first, and in one minute the kind of the lower place; the level decides only where both are the same
+-- the earlier minute comes first, then the kind of the lower rank; the level decides only if both are the
+-- same
 abbrev pub comes_before : Event → Event → Bool
 comes_before d e =
     int_lt d.minute e.minute
@@ -12,11 +13,12 @@ comes_before d e =
     && (nat_lt (place_of d.kind) (place_of e.kind)
     || (place_of d.kind == place_of e.kind && int_lt d.level e.level)))
 
--- an event put into its place among events that are in order
+-- inserts an event into events that are in order
 unfoldable pub with_event : Event → List Event → List Event
 with_event e [] = e ∷ []
 with_event e (d ∷ ds) = if comes_before d e then d ∷ with_event e ds else e ∷ d ∷ ds
 
+-- the events in order
 unfoldable pub ordered : List Event → List Event
 ordered [] = []
 ordered (e ∷ es) = with_event e (ordered es)

@@ -1,4 +1,5 @@
--- How a basis widens a span, and how it moves and scales the events of its reference (this project).
+-- Offsets of a basis: how they widen a span, and how they move and scale the events of the reference
+-- (this project).
 use Rattle.std.specs.Prelude.{◌^◌, ◌≤◌, ℤ, ◌+ℤ◌, ◌-ℤ◌, ◌*ℤ◌, int_lt, int_le, unsigned_abs, Bool, ◌&&◌, List, [], ◌∷◌, map, filter, fold, Option, Some, None}
 use Rattle.std.specs.Int.{int_max, int_min}
 use Rattle.std.specs.Option.{ForSome}
@@ -14,7 +15,7 @@ use Rattle.station_table.specs.Offsets.{IsOffset, IsSlack}
 use Rattle.event_list.specs.declared.span.Span.{Span}
 use Rattle.event_list.specs.Order.{ordered}
 
--- the offsets of a basis lie in the ranges of a table
+-- the offsets of a basis are in the ranges of a table
 pub record HasOffsets (b : Basis) : Type 0 where
   pub high : IsOffset b.high
   pub low : IsOffset b.low
@@ -22,36 +23,41 @@ pub record HasOffsets (b : Basis) : Type 0 where
 
 -- ---- the widened span
 
+-- the minutes added to the times of slack water, if the basis has them
 abbrev pub slack_adds : Option Slack → List ℤ
 slack_adds None = []
 slack_adds (Some slack) = slack.flood_add ∷ slack.ebb_add ∷ []
 
--- the most and the least minutes by which an event is moved: the high add, the low add, and those of slack water's own times
+-- the most minutes by which an event is moved: the greatest of the offsets' minutes
 abbrev pub greatest_add : Basis → ℤ
 greatest_add b = fold int_max b.high.add (b.low.add ∷ slack_adds b.slack)
 
+-- the least minutes by which an event is moved
 abbrev pub least_add : Basis → ℤ
 least_add b = fold int_min b.high.add (b.low.add ∷ slack_adds b.slack)
 
--- the reference's span, from which every event of the station's comes
+-- the reference's span from which all events of the station's span come
 abbrev pub widened_of : Basis → ℤ → ℤ → Span
 widened_of b begin end = record { begin = begin -ℤ greatest_add b; end = end -ℤ least_add b }
 
 -- ---- an event of the reference, moved and scaled
 
--- slack water's own time changes no level
+-- the offset that adds minutes and leaves the level unchanged
 abbrev pub later_by : ℤ → Offset
 later_by add = record usual { add = add }
 
+-- the offset of a slack before flood
 abbrev pub flood_offset : Option Slack → Offset → Offset
 flood_offset None high = high
 flood_offset (Some slack) high = later_by slack.flood_add
 
+-- the offset of a slack before ebb
 abbrev pub ebb_offset : Option Slack → Offset → Offset
 ebb_offset None high = high
 ebb_offset (Some slack) high = later_by slack.ebb_add
 
--- the offset of each kind: lows have their own, and so has slack water where it has times of its own; all else goes with the highs
+-- the offset of each kind: lows have their own, and so has slack water if the basis has its times; all
+-- others have that of highs
 abbrev pub offset_of : Basis → Kind → Offset
 offset_of b High = b.high
 offset_of b Low = b.low
@@ -60,30 +66,33 @@ offset_of b EbbBegins = ebb_offset b.slack b.high
 offset_of b MarkRising = b.high
 offset_of b MarkFalling = b.high
 
--- a level in millionths, times the factor, rounded to whole millionths, and then the plus
+-- a level in millionths, times the factor, rounded to whole millionths, plus the added level
 abbrev pub scaled : Offset → ℤ → ℤ
 scaled offset level = rounded_of (level *ℤ offset.times) 1000000 +ℤ offset.plus
 
+-- an event moved and scaled by an offset
 abbrev pub moved_by : Offset → Event → Event
 moved_by offset e = record { minute = e.minute +ℤ offset.add; kind = e.kind; level = scaled offset e.level }
 
+-- an event moved and scaled by the offset of its kind
 abbrev pub moved : Basis → Event → Event
 moved b e = moved_by (offset_of b e.kind) e
 
 -- ---- the events that are kept
 
--- an event after a minute from the begin on and before the end
+-- the minute of an event is from `begin` on and before `end`
 abbrev pub is_within : ℤ → ℤ → Event → Bool
 is_within begin end e = int_le begin e.minute && int_lt e.minute end
 
--- events moved and scaled, of which those within the span are kept
+-- the events moved and scaled, those within the span
 abbrev pub moved_within : Basis → ℤ → ℤ → List Event → List Event
 moved_within b begin end events = filter (is_within begin end) (map (moved b) events)
 
+-- the events of a station from those of its reference, in order
 unfoldable pub shifted_of : Basis → ℤ → ℤ → List Event → List Event
 shifted_of b begin end events = ordered (moved_within b begin end events)
 
--- an event that can be moved
+-- an event whose minute and level are small enough to be moved
 pub record IsMovable (e : Event) : Type 0 where
   pub minute : unsigned_abs e.minute ≤ 10 ^ 12
   pub level : unsigned_abs e.level ≤ 11000000000

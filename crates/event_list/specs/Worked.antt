@@ -1,4 +1,5 @@
--- The waters of a pier and the bases of three stations beside it, for tests; minutes are counted from a midnight (this project).
+-- The events of a pier and the bases of three stations beside it, for tests; minutes are counted from a
+-- midnight (this project).
 use Rattle.std.specs.Prelude.{ℤ, pos, negsuc, false, true, List, [], ◌∷◌, Some, None}
 use Rattle.curve_law.specs.declared.cell.Cell.TheVariants.{Quiet, Still, Turn}
 use Rattle.curve_law.specs.declared.event.Event.{Event}
@@ -15,7 +16,7 @@ event minute kind level = record { minute = minute; kind = kind; level = level }
 
 -- ---- the pier
 
--- its high and low waters from the minute before midnight on, for a day
+-- the pier's high and low waters from the minute before midnight on, for a day
 abbrev pub waters : List Event
 waters =
     event (negsuc 0) High (pos 999962)
@@ -25,7 +26,7 @@ waters =
     ∷ event (pos 1439) High (pos 999962)
     ∷ []
 
--- its slack waters on that day, were it a current
+-- the slack waters of that day, if the pier's tide is taken as a current
 abbrev pub slacks : List Event
 slacks =
     event (pos 179) EbbBegins (pos 8727)
@@ -34,26 +35,28 @@ slacks =
     ∷ event (pos 1260) FloodBegins (pos 0)
     ∷ []
 
--- where its level passes half a foot before noon
+-- the crossings of half a foot before noon
 abbrev pub marks : List Event
 marks = event (pos 119) MarkFalling (pos 507538) ∷ event (pos 600) MarkRising (pos 500000) ∷ []
 
 -- ---- the stations beside it
 
--- a dock whose highs come 30 minutes later at 1.1 times the level and 0.1 more, and its lows 10 minutes earlier at 0.9 times
+-- a dock whose highs are 30 minutes later at 1.1 times the level plus 0.1, and its lows 10 minutes
+-- earlier at 0.9 times
 abbrev pub dock : Basis
 dock = record { station = 0; row = Some 0; high = dock_high; low = dock_low; slack = None }
 
--- a gate that is the same with slack waters 5 minutes later before a flood and 5 minutes earlier before an ebb
+-- a gate: the dock, with slack waters 5 minutes later before a flood and 5 minutes earlier before an ebb
 abbrev pub gate : Basis
 gate = record dock { slack = Some (record { flood_add = pos 5; ebb_add = negsuc 4 }) }
 
--- an outer harbour where all comes 30 minutes later at twice the level and 0.5 more
+-- an outer harbour where each event is 30 minutes later at twice the level plus 0.5
 abbrev pub harbour : Basis
 harbour = record { station = 0; row = Some 1; high = outer; low = outer; slack = None }
 
 -- ---- small tracks and curves
 
+-- the cells of three tracks
 abbrev pub tracks : Tracks
 tracks = record {
   turn = Quiet 2 ∷ Turn High (pos 7) ∷ Turn Low (pos 6) ∷ Quiet 4 ∷ [];
@@ -61,6 +64,7 @@ tracks = record {
   mark = Some (Turn MarkRising (pos 5) ∷ Still ∷ Turn MarkFalling (pos 5) ∷ Quiet 5 ∷ []);
 }
 
--- a line that rises past 0 after minute 2, and one that falls to 0 after minute 1, each with the minute as its level
+-- a line that rises past 0 after minute 2, and one that falls to 0 after minute 1, each with the minute
+-- as its level
 abbrev pub lines : Followed
 lines = record { turn = line (negsuc 1) false (pos 1); slack = None; mark = Some (line (pos 2) true (pos 1)) }

@@ -9,11 +9,11 @@ use curve_law::{Cell, Curve, Event};
 use interval_search::{Found, Search};
 use std::marker::Model;
 
-/// The events that a search has still to give, where there is a search. It is asked for the next one
-/// once that is wanted.
+/// The events of an optional search, one at a time. The search runs on only when its next event is
+/// requested.
 ///
-/// Contracts see the events that are left, what there is of the search, the number of cells that it
-/// has given so far, and the number of all its cells.
+/// In contracts its value is the events left, the state of the search, the number of cells that it has
+/// returned so far, and the number of all its cells.
 #[derive(Drop)]
 pub struct Coming<C: Curve> {
     search: Option<Search<C>>,
@@ -41,7 +41,7 @@ impl<C: Curve> Model for Coming<C> {
 impl<C: Curve> Coming<C> {
     ghost use Rattle.event_list.specs.Workings.Coming.{events_ahead, cells_ahead, first_of};
 
-    /// The events of a search that has given no cell yet.
+    /// Returns the events of `search`, which has returned no cell yet.
     pub fn new(search: Option<Search<C>>) -> Coming<C>
         requires { cells_ahead search < 2 ^ 64 }
         ensures left { result.left ≡ events_ahead search }
@@ -56,7 +56,8 @@ impl<C: Curve> Coming<C> {
         }
     }
 
-    /// The first event that is left. Where there is none, all cells were given.
+    /// Returns the first event left without removing it. If there is none, the search has returned all
+    /// its cells.
     pub fn peek(&mut self) -> Option<Event>
         ensures first { result ≡ first_of self.old.left }
         ensures found { result ≡ (looked self.old.waiting).found }
@@ -75,7 +76,7 @@ impl<C: Curve> Coming<C> {
         }
     }
 
-    /// The first event that is left, which is then given.
+    /// Removes and returns the first event left.
     pub fn next(&mut self) -> Option<Event>
         ensures first { result ≡ first_of self.old.left }
         ensures rest { self.new.left ≡ drop 1 self.old.left }
@@ -90,7 +91,7 @@ impl<C: Curve> Coming<C> {
         }
     }
 
-    /// The number of cells that the search has given so far.
+    /// Returns the number of cells that the search has returned so far.
     pub fn cells(&self) -> u64
         ensures { result ≡ self.now.cells }
     {
@@ -98,7 +99,7 @@ impl<C: Curve> Coming<C> {
     }
 }
 
-/// The next event of a search. The cells that it gives are counted.
+/// Returns the next event of `search`, and counts the cells up to it.
 fn next_event<C: Curve>(search: &mut Option<Search<C>>, given: &mut u64) -> Option<Event>
     requires { given.old + cells_ahead search.old < 2 ^ 64 }
     ensures event { GivesEvent search.old result search.new }
@@ -123,7 +124,7 @@ fn next_found<C: Curve>(search: &mut Option<Search<C>>) -> Option<Found>
     }
 }
 
-/// The event in a cell that was found.
+/// Returns the event in a cell that was found, if it has one.
 fn event_in(found: Found) -> Option<Event>
     ensures { option_to_list result ≡ event_in found.at found.cell }
 {

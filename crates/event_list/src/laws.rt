@@ -1,4 +1,4 @@
-//! What follows of the events of a station.
+//! Theorems about the events of a station.
 
 ghost use Rattle.std.specs.Prelude.{◌≡◌, ℕ, ◌+◌, ◌*◌, ◌^◌, ◌≤◌, ℤ, ◌≤ℤ◌, ◌<ℤ◌, unsigned_abs, List, All, IsTrue};
 ghost use Rattle.curve_law.specs.declared.event.Event.{Event};
@@ -11,8 +11,8 @@ ghost use Rattle.event_text.specs.Words.{has_word};
 ghost use Rattle.event_list.specs.Shifts.{HasOffsets, IsMovable, widened_of, shifted_of};
 ghost use Rattle.event_list.specs.Events.{minutes_in, Followed, station_events, merged_of, cells_in, covers_of, cell_count, AllHaveLevels, AreKnown, AreAccepted, AllAgree, AreNamed};
 
-/// The events of accepted cells over the widened span, merged and shifted, are the station's. So are
-/// those of the cells by the rule, which are at most three a minute.
+/// Proves that the events of accepted cells over the widened span, merged and shifted, are the station's,
+/// and that the cells by the halving rule are accepted and number at most three a minute.
 pub fn cells_give_the_events()
     ensures accepted { (f : Followed) (b : Basis) (begin end : ℤ) (t : Tracks) →
         AreKnown f (widened_of b begin end) → AreAccepted f (widened_of b begin end) t →
@@ -24,8 +24,8 @@ pub fn cells_give_the_events()
     ensures few { (f : Followed) (s : Span) → cell_count f s ≤ 3 * minutes_in s }
 {}
 
-/// Over a plain basis the widened span is the span, and the merged events are the station's as they
-/// are.
+/// Proves that without offsets the widened span is the span, and the merged events are the station's
+/// unchanged.
 pub fn plain_bases_move_nothing()
     ensures span { (b : Basis) (begin end : ℤ) → IsTrue (is_plain b) →
         widened_of b begin end ≡ record { begin = begin; end = end } }
@@ -37,16 +37,16 @@ pub fn plain_bases_move_nothing()
         merged_of begin (covers_of f (record { begin = begin; end = end })) ≡ station_events f b begin end }
 {}
 
-/// The events of accepted cells can be moved, where both ends of the span are from -10^12 to 10^12 and
-/// the levels of each followed curve are at most 11,000,000,000 millionths in size.
+/// Proves that the events of accepted cells can be moved, if both ends of the span are from -10^12 to
+/// 10^12 and the levels of each requested curve are at most 11,000,000,000 millionths in size.
 pub fn accepted_events_can_be_moved()
     ensures { (f : Followed) (s : Span) (t : Tracks) → s.begin ≤ℤ s.end →
         unsigned_abs s.begin ≤ 10 ^ 12 → unsigned_abs s.end ≤ 10 ^ 12 →
         AreKnown f s → AllHaveLevels f → AreAccepted f s t → All IsMovable (merged_of s.begin t) }
 {}
 
-/// Each event of a station lies in its span, and has a word where each followed curve's kinds have
-/// one.
+/// Proves that each event of a station is in its span, and has a name if both kinds of each requested
+/// curve have one.
 pub fn events_are_named()
     ensures within { (f : Followed) (b : Basis) (begin end : ℤ) →
         All (λ e. (begin ≤ℤ e.minute) × (e.minute <ℤ end)) (station_events f b begin end) }
@@ -56,8 +56,8 @@ pub fn events_are_named()
         All (λ e. unsigned_abs e.level ≤ 1110000000000) (shifted_of b begin end events) }
 {}
 
-/// Curves that say the same of the widened span have the same events there, and the same number of
-/// cells, whatever they say elsewhere.
+/// Proves that curves that agree over the widened span have the same events and the same number of cells
+/// there, whatever they are elsewhere.
 pub fn agreeing_curves_have_one_list()
     ensures events { (f g : Followed) (b : Basis) (begin end : ℤ) → AllAgree f g (widened_of b begin end) →
         station_events f b begin end ≡ station_events g b begin end }

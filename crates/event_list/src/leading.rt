@@ -1,4 +1,4 @@
-//! Which track's event comes first.
+//! The track with the first event.
 
 ghost use Rattle.std.specs.Prelude.{◌≡◌};
 ghost use Rattle.event_list.specs.Merging.{leading, leads};
@@ -15,7 +15,7 @@ pub enum Leading {
     Mark,
 }
 
-/// The track whose event comes first, if any has one.
+/// Returns the track whose event comes first, if any has one.
 pub fn leading_of(turn: Option<Event>, slack: Option<Event>, mark: Option<Event>) -> Leading
     ensures first { IsLeading result turn slack mark }
     ensures which { result ≡ leading turn slack mark }
@@ -33,7 +33,7 @@ pub fn leading_of(turn: Option<Event>, slack: Option<Event>, mark: Option<Event>
     }
 }
 
-/// Whether the second event, if it is there, doesn't come before the first.
+/// Returns true if `second`, if it is an event, doesn't come before `first`.
 fn leads(first: Option<Event>, second: Option<Event>) -> bool
     ensures { result ≡ leads first second }
 {

@@ -1,9 +1,9 @@
 //! The events of a station.
 //!
-//! The events in the cells of a station's tracks come at once by [`track_events`] and [`merged`], or
-//! one at a time and without memory by a [`Merge`] of the searches. [`widened`] gives the span of the
-//! reference from which a subordinate station's events come, [`shifted`] these events, and [`scaled`]
-//! its level. `specs/Events.antt` says which they are. [`word`] names an event as tide tables do.
+//! [`track_events`] and [`merged`] return the events in the cells of a station's tracks at once, and a
+//! [`Merge`] of searches returns them one at a time without allocating. [`widened`] returns the span of
+//! the reference from which a subordinate station's events come, [`shifted`] these events, and [`scaled`]
+//! its level. `specs/Events.antt` defines the events of a station. [`word`] returns the name of an event.
 #![tactic(auto)]
 
 mod coming;

@@ -11,12 +11,11 @@ use curve_law::{Curve, Event};
 use interval_search::Search;
 use std::marker::Model;
 
-/// The events of a station's searches in order, one at a time. It takes no memory, and asks a search
-/// for its next event once that is wanted.
+/// The events of a station's searches in order, one at a time. It doesn't allocate, and a search runs on
+/// only when its next event is requested.
 ///
-/// Contracts see the events that are left, of each search the event that waits to be given and the
-/// cells that are left, the number of cells that the searches have given so far, and the number of all
-/// their cells.
+/// In contracts its value is the events left, for each search its pending event and the cells left, the
+/// number of cells that the searches have returned so far, and the number of all their cells.
 #[derive(Drop)]
 pub struct Merge<A: Curve, B: Curve> {
     turn: Coming<A>,
@@ -36,8 +35,8 @@ impl<A: Curve, B: Curve> Model for Merge<A, B> {
 }
 
 impl<A: Curve, B: Curve> Merge<A, B> {
-    /// A merge of searches that stand at one minute, have given no cell yet, and have fewer than 2^64
-    /// cells together. A track without a search isn't followed.
+    /// Returns a merge of searches that begin at the same minute, have returned no cell yet, and have
+    /// fewer than 2^64 cells together. A track without a search has no events.
     pub fn new(turn: Search<A>, slack: Option<Search<B>>, mark: Option<Search<B>>) -> Merge<A, B>
         requires slack_at { ForSome slack (λ search. search.at ≡ turn.at) }
         requires mark_at { ForSome mark (λ search. search.at ≡ turn.at) }
@@ -54,8 +53,8 @@ impl<A: Curve, B: Curve> Merge<A, B> {
         }
     }
 
-    /// The next event; none where no event is left, and then the searches have given all their cells.
-    /// A search is asked for its next event only where none of its events waits.
+    /// Returns the next event, or `None` if no event is left; then the searches have returned all their
+    /// cells. A search runs on only if it has no pending event.
     pub fn next(&mut self) -> Option<Event>
         ensures next { GivesNext self.old result self.new }
         ensures asked { self.new.waiting ≡ stepped self.old.waiting }
@@ -71,7 +70,7 @@ impl<A: Curve, B: Curve> Merge<A, B> {
         }
     }
 
-    /// How many cells the searches have given so far.
+    /// Returns the number of cells that the searches have returned so far.
     pub fn cells(&self) -> u64
         ensures value { result ≡ self.now.cells }
         ensures given { result + cells_to_come self.now.waiting ≡ self.now.all }

@@ -8,8 +8,11 @@ use crate::turning::{add_followed_events, add_track_events};
 use curve_law::{Events, Tracks};
 use std::alloc::{AllocError, Global};
 
-/// The events in the cells of all tracks, in order. The cells of each track begin at the same minute,
-/// from -10^12 to 10^12, and have at most 6,000,000 minutes together.
+/// Returns the events in the cells of all tracks, in order. The cells of each track begin at the minute
+/// `begin`, from -10^12 to 10^12, and have at most 6,000,000 minutes together.
+///
+/// # Errors
+/// [`AllocError`] if memory runs out.
 pub fn merged(alloc: Global, tracks: &Tracks, begin: i64) -> Result<Events, AllocError>
     requires few { AreShort tracks.now }
     requires begin { unsigned_abs begin ≤ 10 ^ 12 }

@@ -8,8 +8,8 @@ use crate::scaling::scaled;
 use curve_law::{Event, Kind};
 use station_table::{Basis, Offset};
 
-/// The station's event of which an event of the reference tells: later by the add of its kind's
-/// offset, and its level times the factor, rounded to millionths of the unit, and then the plus.
+/// Returns the station's event for an event of its reference: the minutes of its kind's offset later, and
+/// the level times the factor, rounded to millionths of the unit, plus the added level.
 pub fn moved(basis: &Basis, event: &Event) -> Event
     requires offsets { HasOffsets basis.now }
     requires event { IsMovable event.now }
@@ -36,7 +36,7 @@ fn offset_of(basis: &Basis, kind: Kind) -> Offset
     }
 }
 
-/// What moves an event and leaves its level as it is.
+/// Returns the offset that adds `add` minutes and leaves the level unchanged.
 fn later_by(add: i32) -> Offset
     requires { IsAdd add }
     ensures exact { result ≡ later_by add }

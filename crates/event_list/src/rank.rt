@@ -6,14 +6,14 @@ ghost use Rattle.event_list.specs.Order.{comes_before, ordered};
 
 use curve_law::{Event, Kind};
 
-/// What events are sorted by: the minute, the place of the kind, and the level.
+/// Returns the key by which events are sorted: the minute, the rank of the kind, and the level.
 fn rank(event: &Event) -> (i64, u8, i64)
     ensures { result ≡ record { 0 = event.now.minute; 1 = place_of event.now.kind; 2 = event.now.level } }
 {
     (event.minute, place(event.kind), event.level)
 }
 
-/// The place of a kind among those of one minute.
+/// Returns the rank of a kind among the events of one minute.
 fn place(kind: Kind) -> u8
     ensures { result ≡ place_of kind }
 {
@@ -27,14 +27,14 @@ fn place(kind: Kind) -> u8
     }
 }
 
-/// Whether the first event stands before the second one.
+/// Returns true if `first` is listed before `second`.
 pub fn comes_before(first: &Event, second: &Event) -> bool
     ensures { result ≡ comes_before first.now second.now }
 {
     rank(first) < rank(second)
 }
 
-/// The events in their order.
+/// Sorts `events` into the order in which they are listed.
 pub fn in_order(events: Vec<Event>) -> Vec<Event>
     ensures { result.items ≡ ordered events.items }
 {

@@ -1,4 +1,4 @@
-//! A level of the reference, scaled.
+//! Scaling a level of the reference.
 
 ghost use Rattle.std.specs.Prelude.{◌≡◌, ◌*◌, ◌≤◌, ◌+ℤ◌, ◌*ℤ◌, unsigned_abs};
 ghost use Rattle.station_table.specs.Offsets.{IsOffset};
@@ -7,8 +7,8 @@ ghost use Rattle.event_list.specs.Shifts.{scaled};
 use decimal_text::rounded;
 use station_table::Offset;
 
-/// The station's level where its reference has a level of up to 11,000,000,000 millionths of the unit:
-/// that level times the factor, rounded to millionths, and then the plus.
+/// Returns the station's level for a `level` of its reference of up to 11,000,000,000 millionths of the
+/// unit in size: times the factor, rounded to millionths, plus the added level.
 pub fn scaled(offset: &Offset, level: i64) -> i64
     requires range { IsOffset offset.now }
     requires level { unsigned_abs level ≤ 11000000000 }

@@ -1,6 +1,6 @@
-//! A stretch of time.
+//! A span of time.
 
-/// The minutes from one on and before another, counted from 1970-01-01T00:00Z.
+/// The minutes from `begin` on and before `end`, counted from 1970-01-01T00:00Z.
 #[derive(Clone, Copy, Debug, PartialEq, Eq)]
 pub struct Span {
     pub begin: i64,

@@ -7,8 +7,11 @@ ghost use Rattle.curve_law.specs.Cells.{minutes_of, event_in, all_minutes, turns
 use curve_law::{Cell, Cells, Event, Events};
 use std::alloc::{AllocError, Global};
 
-/// The events in cells of which the first begins at a minute from -10^12 to 10^12, and which have at
-/// most 6,000,000 minutes together.
+/// Returns the events in `cells`, of which the first begins at the minute `begin`, from -10^12 to 10^12,
+/// and which have at most 6,000,000 minutes together.
+///
+/// # Errors
+/// [`AllocError`] if memory runs out.
 pub fn track_events(alloc: Global, cells: &Cells, begin: i64) -> Result<Events, AllocError>
     requires few { all_minutes cells.now ≤ 6000000 }
     requires begin { unsigned_abs begin ≤ 10 ^ 12 }
@@ -19,7 +22,7 @@ pub fn track_events(alloc: Global, cells: &Cells, begin: i64) -> Result<Events, 
     Ok(Events::from_vec(events))
 }
 
-/// Appends the events of a track.
+/// Appends the events of a track's `cells`, which begin at the minute `begin`.
 pub fn add_track_events(
     events: &mut Vec<Event>,
     cells: &Cells,
@@ -37,7 +40,7 @@ pub fn add_track_events(
     Ok(())
 }
 
-/// Appends the event in a cell, if there is one.
+/// Appends the event in `cell`, if there is one.
 fn add_event(events: &mut Vec<Event>, minute: i64, cell: Cell) -> Result<(), AllocError>
     ensures { OnOk result (events.new.items ≡ events.old.items ++ event_in minute cell) }
 {
@@ -51,7 +54,7 @@ fn add_event(events: &mut Vec<Event>, minute: i64, cell: Cell) -> Result<(), All
     Ok(())
 }
 
-/// Appends the events of a track that is followed, and else none.
+/// Appends the events of a track, if it is requested.
 pub fn add_followed_events(
     events: &mut Vec<Event>,
     cells: &Option<Cells>,

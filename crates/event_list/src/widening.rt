@@ -7,9 +7,9 @@ ghost use Rattle.event_list.specs.Events.{minutes_in};
 use crate::span::Span;
 use station_table::Basis;
 
-/// The span of the reference from which every event of the station's span comes: `begin` less the
+/// Returns the span of the reference from which all events of the station's span come: `begin` less the
 /// most and `end` less the least minutes by which the basis moves an event. Both are from -10^12 to
-/// 10^12, and `begin` isn't later. It takes no memory.
+/// 10^12, and `begin` isn't later. It doesn't allocate.
 pub fn widened(basis: &Basis, begin: i64, end: i64) -> Span
     requires forward { begin ≤ℤ end }
     requires begin { unsigned_abs begin ≤ 10 ^ 12 }

@@ -1,4 +1,4 @@
-//! Events of stations that were worked out by hand.
+//! Events of stations that were computed by hand.
 
 ghost use Rattle.std.specs.Prelude.{◌≡◌, pos, negsuc, [], ◌∷◌, ◌++◌};
 ghost use Rattle.curve_law.specs.declared.kind.Kind.{Kind};
@@ -7,8 +7,9 @@ ghost use Rattle.event_list.specs.Shifts.{moved, shifted_of, widened_of};
 ghost use Rattle.event_list.specs.Events.{cell_count, cells_in, merged_of, station_events};
 ghost use Rattle.event_list.specs.Worked.{dock, event, gate, harbour, lines, marks, slacks, tracks, waters};
 
-/// The span of the dock's and the gate's reference, and the pier's events as the dock, the gate and
-/// the harbour have them: the dock's first high comes from the day before, and its last falls out.
+/// Proves the spans of the dock's and the gate's reference, and the pier's events as the dock, the gate
+/// and the harbour have them: the dock's first high comes from the day before, and its last is outside
+/// the span.
 #[tactic(auto, unfolding(decimal_text::specs::Rounding::rounded_of, crate::specs::Order::with_event, crate::specs::Order::ordered, crate::specs::Shifts::shifted_of))]
 pub fn worked_shifts()
     ensures dock_span { widened_of dock (pos 0) (pos 1440) ≡ record { begin = negsuc 29; end = pos 1450 } }
@@ -29,7 +30,7 @@ pub fn worked_shifts()
     ensures ends_before_it { shifted_of dock (pos 29) (pos 350) waters ≡ event (pos 29) Kind.High (pos 1199958) ∷ [] }
 {}
 
-/// Events in order, and those of three tracks with their cells.
+/// Proves the order of some events, and the events of three tracks from their cells.
 #[tactic(auto, unfolding(curve_law::specs::Cells::turns, crate::specs::Order::with_event, crate::specs::Order::ordered, crate::specs::Events::merged_of, crate::specs::Events::cells_in))]
 pub fn worked_orders()
     ensures one_minute { ordered (event (pos 5) Kind.MarkFalling (pos 0) ∷ event (pos 5) Kind.Low (pos 9)
@@ -43,7 +44,7 @@ pub fn worked_orders()
     ensures cells { cells_in tracks ≡ 14 }
 {}
 
-/// The events of two lines, at the dock and without offsets, and their cells.
+/// Proves the events of two lines, at the dock and without offsets, and the number of their cells.
 #[tactic(auto, unfolding(decimal_text::specs::Rounding::rounded_of, curve_law::specs::Track::minutes, curve_law::specs::Track::plain_list, curve_law::specs::Cover::keeps_side, curve_law::specs::Cover::is_quiet, curve_law::specs::Cover::unit_cell, curve_law::specs::Cover::split_within, curve_law::specs::Cover::split, curve_law::specs::Cover::cover_within, curve_law::specs::Cover::cover, crate::specs::Order::with_event, crate::specs::Order::ordered, crate::specs::Events::station_events, crate::specs::Events::cells_in, crate::specs::Events::cell_count))]
 pub fn worked_stations()
     ensures dock { station_events lines dock (negsuc 9) (pos 32)

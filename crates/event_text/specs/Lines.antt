@@ -11,26 +11,28 @@ use Rattle.zone_time.specs.Zones.{InZoneYears, local_in}
 use Rattle.decimal_text.specs.Rounding.{rounded_of}
 use Rattle.decimal_text.specs.Writing.{write_of}
 
+-- the printed text of a unit
 unfoldable pub text_of_unit : Units → List ℕ
 text_of_unit Feet = codes "feet"
 text_of_unit Meters = codes "meters"
 text_of_unit Knots = codes "knots"
 text_of_unit KnotsSquared = codes "knots^2"
 
--- a level, given in millionths, in hundredths of its unit: it is rounded first, so what rounds to 0 has no sign
+-- a level, in millionths, as text in hundredths of its unit: it is rounded first, so a level that rounds
+-- to 0 has no sign
 abbrev pub level_text : ℤ → List ℕ
 level_text level = write_of (rounded_of level 10000) 2
 
--- a text right in that many places, or whole where it is longer
+-- a text right-aligned in `places` columns; a longer one is unchanged
 unfoldable pub padded : ℕ → List ℕ → List ℕ
 padded places text = replicate (places - length text) 32 ++ text
 
--- a local time, the level there and its unit
+-- a line of a local time, the level and its unit
 unfoldable pub height_line_of : Local → ℤ → Units → List ℕ
 height_line_of local level units =
     local_text local ++ codes "  " ++ padded 9 (level_text level) ++ codes " " ++ text_of_unit units
 
--- the same of an event, and its name
+-- the line of an event: local time, level, unit and name
 unfoldable pub event_line_of : Local → Event → Units → List ℕ
 event_line_of local event units =
     height_line_of local event.level units ++ codes "  "

@@ -1,4 +1,4 @@
--- How events are named (the tide and current tables of the National Ocean Service; XTide's event names).
+-- The names of events (the tide and current tables of the National Ocean Service; XTide's event names).
 use Rattle.std.specs.Prelude.{ℕ, ℤ, pos, Bool, true, false, not, int_lt, if◌then◌else◌, List, codes}
 use Rattle.harmonics_text.specs.declared.book.Units.{Units}
 use Rattle.harmonics_text.specs.declared.book.Units.TheVariants.{Feet, Meters, Knots, KnotsSquared}
@@ -7,24 +7,26 @@ use Rattle.curve_law.specs.declared.kind.Kind.TheVariants.{High, Low, FloodBegin
 use Rattle.event_text.specs.declared.event_word.EventWord.{EventWord}
 use Rattle.event_text.specs.declared.event_word.EventWord.TheVariants.{HighTide, LowTide, MaxFlood, MinFlood, MaxEbb, MinEbb, SlackFloodBegins, SlackEbbBegins, MarkRising, MarkFalling}
 
+-- a kind is slack water
 abbrev pub is_slack : Kind → Bool
 is_slack FloodBegins = true
 is_slack EbbBegins = true
 is_slack _ = false
 
--- the events that can be named: any of a current, and of a tide all but slack water
+-- the events that have a name: all of a current, and all of a tide but slack water
 abbrev pub has_word : Units → Kind → Bool
 has_word Feet kind = not (is_slack kind)
 has_word Meters kind = not (is_slack kind)
 has_word Knots kind = true
 has_word KnotsSquared kind = false
 
--- the greatest flood, or the least ebb, by the stream's direction then: a flood is above 0
+-- the name of a high: for a current the greatest flood or the least ebb, by its direction; a flood is
+-- above 0
 abbrev pub high_word_of : Units → ℤ → EventWord
 high_word_of Knots level = if int_lt (pos 0) level then MaxFlood else MinEbb
 high_word_of _ level = HighTide
 
--- the least flood, or the greatest ebb
+-- the name of a low: for a current the least flood or the greatest ebb
 abbrev pub low_word_of : Units → ℤ → EventWord
 low_word_of Knots level = if int_lt (pos 0) level then MinFlood else MaxEbb
 low_word_of _ level = LowTide
@@ -38,7 +40,7 @@ word_of units EbbBegins level = SlackEbbBegins
 word_of units RisesPastMark level = MarkRising
 word_of units FallsToMark level = MarkFalling
 
--- a name as it is printed
+-- the printed text of a name
 abbrev pub word_text : EventWord → List ℕ
 word_text HighTide = codes "High Tide"
 word_text LowTide = codes "Low Tide"

@@ -1,6 +1,6 @@
 //! The names of events.
 
-/// The name of an event in tide tables.
+/// The name of an event in tide and current tables.
 #[derive(Clone, Copy, Debug, PartialEq, Eq)]
 pub enum EventWord {
     HighTide,
@@ -19,7 +19,7 @@ impl EventWord {
     ghost use Rattle.std.specs.Prelude.{◌≡◌, ◌≤◌, length};
     ghost use Rattle.event_text.specs.Words.{word_text};
 
-    /// The name as it is printed, in ASCII and at most 18 bytes.
+    /// Returns the name as it is printed, in ASCII and at most 18 bytes.
     pub fn text(self) -> &'static str
         ensures text { result.now ≡ word_text self }
         ensures short { length result.now ≤ 18 }

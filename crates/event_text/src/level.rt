@@ -8,7 +8,7 @@ ghost use Rattle.event_text.specs.Lines.{level_text, padded};
 use arrayvec::ArrayString;
 use decimal_text::{rounded, write};
 
-/// Writes a level, given in millionths, in hundredths, as `-1.00`. It takes no memory.
+/// Writes `level`, in millionths, to the empty `out` in hundredths, as `-1.00`. It doesn't allocate.
 pub fn write_level(level: i64, out: &mut ArrayString<24>)
     requires { out.old.bytes ≡ [] }
     ensures { out.new.bytes ≡ level_text level }
@@ -16,7 +16,7 @@ pub fn write_level(level: i64, out: &mut ArrayString<24>)
     write(hundredths(level), 2, out);
 }
 
-/// Appends the same right in 9 places.
+/// Appends `level`, in millionths, in hundredths, right-aligned in 9 columns.
 pub(crate) fn push_level(level: i64, out: &mut ArrayString<96>)
     requires { array_string_len out.old + 24 ≤ 96 }
     ensures bytes { out.new.bytes ≡ out.old.bytes ++ padded 9 (level_text level) }
@@ -48,7 +48,7 @@ fn push_spaces(count: usize, out: &mut ArrayString<96>)
     }
 }
 
-// The hundredths nearest to a number of millionths, where a half goes away from 0.
+// Returns `level`, in millionths, rounded to hundredths, a half away from 0.
 fn hundredths(level: i64) -> i64
     ensures { result ≡ rounded_of level 10000 }
 {

@@ -1,8 +1,9 @@
-//! What is printed of an event: its name, its level and its line.
+//! The printed text of an event: its name, its level and its line.
 //!
-//! [`word`] names an event as tide tables do, [`unit_text`] a unit, and [`write_level`] writes a level
-//! in hundredths. [`event_line`] puts the local time before them and makes a line of it, and
-//! [`height_line`] one of a level alone. None takes memory. `specs/` has the words and the layout.
+//! [`word`] returns the name of an event in tide tables, [`unit_text`] that of a unit, and
+//! [`write_level`] writes a level in hundredths. [`event_line`] writes a line with the local time before
+//! them, and [`height_line`] one of a level without an event. None allocates. `specs/` has the names and
+//! the layout.
 #![tactic(auto)]
 
 mod event_word;

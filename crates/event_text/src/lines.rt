@@ -1,4 +1,4 @@
-//! A line of a listing, of an event or of a level.
+//! The lines of a listing: of an event, or of a level.
 
 ghost use Rattle.std.specs.Prelude.{◌≡◌, ◌≤◌, [], IsTrue};
 ghost use Rattle.arrayvec.specs.ArrayString.{array_string_len};
@@ -14,9 +14,9 @@ use curve_law::Event;
 use harmonics_text::Units;
 use zone_time::{Local, write_local};
 
-/// Writes the line of an event, as `2000-01-10 06:00 UTC      -1.00 feet  Low Tide` with LF. The
-/// event's level is in millionths of the unit, and its name is [`word`]'s. The local year is from 0
-/// to 9999, and a label at most 1560 minutes. It takes no memory.
+/// Writes the line of `event` to the empty `out`, as `2000-01-10 06:00 UTC      -1.00 feet  Low Tide`
+/// with LF. The event's level is in millionths of the unit, and its name is that of [`word`]. The local
+/// year is from 0 to 9999, and an offset at most 1560 minutes. It doesn't allocate.
 #[tactic(auto, unfolding(crate::specs::Lines::event_line_of))]
 pub fn event_line(local: &Local, event: &Event, units: Units, out: &mut ArrayString<96>)
     requires local { IsLocal local.now }
@@ -30,9 +30,9 @@ pub fn event_line(local: &Local, event: &Event, units: Units, out: &mut ArrayStr
     out.push('\n');
 }
 
-/// Writes a level, in millionths of the unit, at a local time, as
-/// `2000-01-10 06:00 UTC      -1.00 feet` without LF. The local time is as for [`event_line`]. It
-/// takes no memory.
+/// Writes `level`, in millionths of the unit, at the time `local` to the empty `out`, as `2000-01-10
+/// 06:00 UTC      -1.00 feet` without LF. The local year is from 0 to 9999, and an offset at most 1560
+/// minutes. It doesn't allocate.
 #[tactic(auto, unfolding(crate::specs::Lines::height_line_of))]
 pub fn height_line(local: &Local, level: i64, units: Units, out: &mut ArrayString<96>)
     requires local { IsLocal local.now }

@@ -1,4 +1,4 @@
-//! Which name an event has.
+//! The name of an event.
 
 ghost use Rattle.std.specs.Prelude.{◌≡◌, IsTrue};
 ghost use Rattle.event_text.specs.Words.{has_word, word_of};
@@ -7,8 +7,8 @@ use crate::event_word::EventWord;
 use curve_law::Kind;
 use harmonics_text::Units;
 
-/// The name of an event of that kind, whose level is in millionths of the unit. A current above 0
-/// is a flood. A hydraulic current has no names, and only a current has slack water.
+/// Returns the name of an event of this kind; `level` is in millionths of the unit. A current above 0 is
+/// a flood. The events of a hydraulic current have no names, and only a current has slack water.
 pub fn word(units: Units, kind: Kind, level: i64) -> EventWord
     requires { IsTrue (has_word units kind) }
     ensures { result ≡ word_of units kind level }

@@ -1,4 +1,4 @@
-//! Lines and levels that were worked out by hand.
+//! Lines and levels that were computed by hand.
 
 ghost use Rattle.std.specs.Prelude.{◌≡◌, pos, negsuc, codes};
 ghost use Rattle.harmonics_text.specs.declared.book.Units.{Units};
@@ -6,7 +6,7 @@ ghost use Rattle.curve_law.specs.declared.kind.Kind.{Kind};
 ghost use Rattle.zone_time.specs.declared.local.Label.{Label};
 ghost use Rattle.event_text.specs.Lines.{level_text, padded, event_line_of, height_line_of};
 
-/// Lines of a tide and of a current, in universal time and by a clock that is behind it.
+/// Proves the lines of a tide and of a current, in universal time and by a clock that is behind it.
 pub fn worked_lines()
     ensures low_tide { event_line_of (record { minute = pos 15791400; label = Label.Utc }) (record { minute = pos 15791400; kind = Kind.Low; level = negsuc 999999 }) Units.Feet
         ≡ codes "2000-01-10 06:00 UTC      -1.00 feet  Low Tide\n" }
@@ -20,8 +20,7 @@ pub fn worked_lines()
         ≡ codes "2000-01-10 00:00 UTC       1.00 meters" }
 {}
 
-/// Levels in hundredths: from a half on they go to the next one away from 0, and what rounds to 0
-/// has no sign.
+/// Proves levels in hundredths: a half is rounded away from 0, and a level that rounds to 0 has no sign.
 pub fn worked_levels()
     ensures half { level_text (pos 5000) ≡ codes "0.01" }
     ensures below_half { level_text (pos 4999) ≡ codes "0.00" }

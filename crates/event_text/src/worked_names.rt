@@ -1,4 +1,4 @@
-//! Names of events that were worked out by hand.
+//! Names of events that were computed by hand.
 
 ghost use Rattle.std.specs.Prelude.{◌≡◌, pos, negsuc, false, true, codes};
 ghost use Rattle.harmonics_text.specs.declared.book.Units.{Units};
@@ -6,7 +6,7 @@ ghost use Rattle.curve_law.specs.declared.kind.Kind.{Kind};
 ghost use Rattle.event_text.specs.declared.event_word.EventWord.{EventWord};
 ghost use Rattle.event_text.specs.Words.{has_word, word_of, word_text};
 
-/// Names at levels on each side of 0 and at 0 itself, where a current counts as ebb.
+/// Proves the names at levels above, below and at 0, where a current counts as ebb.
 pub fn worked_words()
     ensures flood { word_text (word_of Units.Knots Kind.High (pos 1)) ≡ codes "Max Flood" }
     ensures still { word_text (word_of Units.Knots Kind.High (pos 0)) ≡ codes "Min Ebb" }

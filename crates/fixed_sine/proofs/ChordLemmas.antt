@@ -1,4 +1,4 @@
--- The sine by a chord: the table's rows, and how far the chord is from the sine over its degree.
+-- The sine by a chord: the table's rows, and a bound on its error over a degree.
 use Rattle.std.proofs.Common.{◌≡◌, ℕ, suc, ◌+◌, ◌-◌, ◌*◌, ◌/◌, ◌%◌, ◌<◌, ◌≤◌, Bool, true, ◌&&◌, nat_lt, nat_le, min, inl, inr, refl, sym, ap, ◌∙◌, arith, ℤ, pos, negsuc, neg_ℤ, ◌+ℤ◌, ◌-ℤ◌, ◌*ℤ◌, unsigned_abs, get_or, to_z, of_z, w32, w64}
 use Rattle.std.specs.Int.{int_shr}
 use Rattle.std.specs.Ordering.{int_eq}
@@ -35,7 +35,7 @@ chord-row k h =
     let all = and_parts _ _ (agree_below_at is_row (λ _. true) 360 k refl h) in
     ((Decides-int_eq _ _).0 all.0, (Decides-int_eq _ _).0 all.1)
 
--- they fit their types
+-- the rows fit their types
 pub record Fits (s u : ℤ) : Type 0 where
   pub sine : unsigned_abs s ≤ 1000000000
   pub sine_kept : to_z w32 (of_z w32 s) ≡ s
@@ -57,7 +57,7 @@ chord-fits k h =
     let all = and_parts _ _ (agree_below_at is_gentle (λ _. true) 360 k refl h) in
     fitting _ _ (leb-true _ _ all.0) (leb-true _ _ all.1)
 
--- ---- how far the sine bends away from a chord
+-- ---- the distance of the sine from its chord
 
 unfoldable bends_little : ℕ → Bool
 bends_little k = nat_le (unsigned_abs (correction k)) 609173
@@ -66,7 +66,7 @@ bend-small : (k : ℕ) → k < 180 → bend_at k ≤ 609173
 unfolding bends_little correction sine_at sines
 bend-small k h = leb-true _ _ (agree_below_at bends_little (λ _. true) 90 (min k (179 - k)) refl (omega arith))
 
--- a product is greatest where both factors are the same
+-- a product of two numbers with a fixed sum is greatest if they are equal
 below_middle : (a d : ℕ) → a + d ≡ 300000000 → a * (a + 2 * d) ≤ 90000000000000000
 below_middle a d sum =
     let square : (a + d) * (a + d) ≡ 300000000 * 300000000 = ap (λ n. n * n) sum in
@@ -84,7 +84,8 @@ bend_product r q sum =
           omega (arith, small, swapped))
     ]
 
--- ---- in numbers without a sign: w is the rise and 17452406, g the gain and 17452406, n the sine times 4 * 600000000 * 600000000
+-- ---- in unsigned numbers: w is the rise plus 17452406, g the gain plus 17452406, and n the sine times
+-- 4 * 600000000 * 600000000
 
 pub record IsPart (p r : ℕ) : Type 0 where
   pub least : 4294967296 * r ≤ 600000000 * p + 600000000
@@ -125,7 +126,7 @@ steep-counted u w r c is_w h =
     ap (λ n. n * c) (let sum : 600000000 ≡ r + (600000000 - r) = omega arith in sum) ∙ (omega arith) in
     omega (arith, ints, is_w, split)
 
--- a number cut to whole 2^32nds
+-- a number rounded down to whole 2^-32
 cut-rising : (z g : ℤ) (a b n : ℕ) → g ≡ int_shr z 32 → z +ℤ pos a ≡ pos b → g +ℤ pos 17452406 ≡ pos n
     → (n * 4294967296 + a ≤ b + 17452406 * 4294967296) × (b + 17452406 * 4294967296 < n * 4294967296 + 4294967296 + a)
 cut-rising (pos z) g a b n is_g is_z is_n =
@@ -137,7 +138,7 @@ cut-rising (negsuc z) g a b n is_g is_z is_n =
     let gain : n + suc (z / 4294967296) ≡ 17452406 = omega (arith, ints, is_g, is_n) in
     (omega (arith, sum, gain), omega (arith, sum, gain))
 
--- what the chords gain
+-- the rises of the chords
 degree_rise-first : (k : ℕ) → k < 180 → degree_rise k ≡ rise k
 unfolding degree_rise
 degree_rise-first k h = cond-true (nat_lt k 180) _ _ (lt-ltb k 180 h)
@@ -216,7 +217,7 @@ near-falling s n g sine gain half is_sine is_gain is_half both =
     let under = both.1 in
     omega (arith, ints, is_sine, is_gain, is_half, over, under)
 
--- on the first half of the circle
+-- the error on the first half of the circle
 near-first : (k p r : ℕ) → k < 180 → r < 600000000 → IsPart p r → p < 4294967296
     → unsigned_abs ((degree_sine k +ℤ int_shr (pos p *ℤ degree_rise k) 32) -ℤ isin_of (600000000 * k + r)) ≤ 38100
 near-first k p r h small part in_degree =
@@ -231,7 +232,7 @@ near-first k p r h small part in_degree =
     let half = isin_of-first (600000000 * k + r) (omega arith) ∙ half_of-num (600000000 * k + r) (omega arith) in
     near-rising _ _ g (degree_sine k) gain (isin_of (600000000 * k + r)) (degree_sine-first k h ∙ sym (sine_at-size k)) is_g half near
 
--- and on the second
+-- the error on the second half
 near-second : (k p r : ℕ) → k < 180 → r < 600000000 → IsPart p r → p < 4294967296
     → unsigned_abs ((degree_sine (k + 180) +ℤ int_shr (pos p *ℤ degree_rise (k + 180)) 32) -ℤ isin_of (600000000 * (k + 180) + r)) ≤ 38100
 near-second k p r h small part in_degree =
@@ -255,7 +256,7 @@ near-second k p r h small part in_degree =
     let half = isin_of-second (600000000 * (k + 180) + r) (omega arith) ∙ ap (λ i. neg_ℤ (half_of i)) place ∙ ap neg_ℤ (half_of-num (600000000 * k + r) (omega arith)) in
     near-falling _ _ g (degree_sine (k + 180)) gain (isin_of (600000000 * (k + 180) + r)) (degree_sine-second k ∙ ap neg_ℤ (sym (sine_at-size k))) is_g half near
 
--- at a part of a turn
+-- the error at a fraction of a turn
 pub chord-near : (turn : ℕ) → turn < 18446744073709551616 → unsigned_abs (chord_sine_of turn -ℤ isin_of (units_of turn)) ≤ 38100
 unfolding chord_sine_of
 chord-near turn in_turn =

@@ -1,4 +1,4 @@
--- Places on the circle: folded onto its first quarter, and how large the sine is there.
+-- Angles folded onto the first quarter of the circle, and the size of the sine there.
 use Rattle.std.proofs.Common.{◌≡◌, ℕ, zero, suc, ◌+◌, ◌-◌, ◌/◌, ◌%◌, ◌<◌, ◌≤◌, inl, inr, nat_lt, refl, sym, ap, ◌∙◌, arith, lit≤, ℤ, pos, negsuc, neg_ℤ, ◌-ℤ◌, unsigned_abs, get_or, to_z, of_z, w64}
 use Rattle.std.proofs.lemmas.Bool.{cases_lt, cond-true, cond-false, lt-ltb, le-ltb}
 use Rattle.std.proofs.lemmas.Int.{ints, to_z-of_z, fits_signed_from_abs}

@@ -1,4 +1,5 @@
--- The sine by a degree made ready: what is gained is too great by so little that only just past a whole billionth it may be of the one before.
+-- The sine by a prepared degree: its gain is too great by so little that only just above a whole
+-- billionth the right one may be one less.
 use Rattle.std.proofs.Common.{◌≡◌, ℕ, zero, suc, ◌+◌, ◌-◌, ◌*◌, ◌/◌, ◌<◌, ◌≤◌, refl, ap, ◌∙◌, arith, ℤ, pos, negsuc, neg_ℤ, ◌+ℤ◌, ◌-ℤ◌, ◌*ℤ◌, ◌<ℤ◌, min, unsigned_abs}
 use Rattle.std.specs.Int.{int_shr}
 use Rattle.std.proofs.lemmas.Int.{ints}
@@ -11,7 +12,7 @@ use Rattle.fixed_sine.proofs.QuarterLemmas.{minus_times}
 use Rattle.fixed_sine.proofs.RowLemmas.{half_of-row}
 use Rattle.fixed_sine.proofs.TableLemmas.{correction-size, IsRow}
 
--- ---- signed numbers, counted from one below all of their kind
+-- ---- signed numbers as offsets from one below their least value
 
 pub raised : (z : ℤ) (b : ℕ) → unsigned_abs z ≤ b → z +ℤ pos b ≡ pos (unsigned_abs (z +ℤ pos b))
 raised z b h = omega (arith, ints)
@@ -30,7 +31,7 @@ multiplied r b n (negsuc a) e =
     let product : r * (n + suc a) ≡ r * b = ap (λ k. r * k) sum in
     lifted (r * suc a) (r * b) (r * n) (omega (arith, product))
 
--- a degree in numbers without a sign
+-- a degree in unsigned numbers
 pub record IsCounted (r slope bend ready_slope ready_bend lost mean ready : ℕ) : Type 0 where
   pub under : mean * 18446744073709551616 + 1152921504606846976 * 1440000000000000000 ≤ ready * 1440000000000000000 + 43000000000000000 * 18446744073709551616
   pub near : 256 * (ready * 1440000000000000000 + 43000000000000000 * 18446744073709551616) ≤ 256 * (mean * 18446744073709551616 + 1152921504606846976 * 1440000000000000000) + (512 + r) * 1440000000000000000
@@ -53,18 +54,18 @@ shifted_8 : (z : ℤ) (k n : ℕ) → z +ℤ pos (256 * k) ≡ pos n → int_shr
 shifted_8 (pos a) k n e = let sum : a + 256 * k ≡ n = omega (arith, ints) in ap pos (omega arith)
 shifted_8 (negsuc a) k n e = let sum : n + suc a ≡ 256 * k = omega (arith, ints) in omega (arith, ints)
 
--- what is lost after r units, counted so
+-- the decrease of a slope after r units, as an offset
 lost-counted : (r b : ℕ) (bend : ℤ) → bend +ℤ pos 2147483648 ≡ pos b → int_shr (pos r *ℤ bend) 8 +ℤ pos (r * 8388608) ≡ pos (r * b / 256)
 lost-counted r b bend e =
     let product = multiplied r 2147483648 b bend e in
     shifted_8 (pos r *ℤ bend) (r * 8388608) (r * b) (omega (arith, ints, product))
 
--- a gain in whole billionths, and not one whole: the product lies between both
+-- a gain of whole billionths: the product is between it and one more
 pub record IsGain (whole product : ℤ) : Type 0 where
   pub under : (whole *ℤ pos 1440000000000000000) <ℤ product
   pub near : product <ℤ ((whole *ℤ pos 1440000000000000000) +ℤ pos 1440000000000000000)
 
--- a product of the ready slope tells that of the slope
+-- a product with the prepared slope bounds that with the slope
 told : (r mean ready : ℕ) (whole product exact : ℤ) (rest : ℕ) → r < 600000000
     → mean * 18446744073709551616 + 1152921504606846976 * 1440000000000000000 ≤ ready * 1440000000000000000 + 43000000000000000 * 18446744073709551616
     → 256 * (ready * 1440000000000000000 + 43000000000000000 * 18446744073709551616) ≤ 256 * (mean * 18446744073709551616 + 1152921504606846976 * 1440000000000000000) + (512 + r) * 1440000000000000000
@@ -79,7 +80,7 @@ told r mean ready whole product exact rest h under near is_product is_exact spli
     let square : r * r ≤ r * 600000000 = mul-le r r r 600000000 (omega arith) (omega arith) in
     record { under = omega (arith, ints, low, high, square); near = omega (arith, ints, low, high, square) }
 
--- what is gained over r units by a ready slope and bend
+-- the gain over r units by a prepared slope and bend
 pub gained : (r : ℕ) (slope bend ready_slope ready_bend whole : ℤ) (rest : ℕ) → r < 600000000 → unsigned_abs ready_slope ≤ 540000000000000000 → unsigned_abs ready_bend ≤ 2000000000 → IsReady slope bend ready_slope ready_bend
     → (whole *ℤ pos 18446744073709551616) +ℤ pos rest ≡ pos r *ℤ (ready_slope -ℤ int_shr (pos r *ℤ ready_bend) 8)
     → 2251799813685248 ≤ rest → rest < 18446744073709551616
@@ -132,7 +133,7 @@ row-at k h =
       bent = correction-size (min k (179 - k)) (omega arith);
     }
 
--- on the first half of the circle
+-- the sine on the first half of the circle
 pub first-sine : (k r : ℕ) (whole sine : ℤ) → k < 180 → r < 600000000 → sine ≡ sine_at (pos k) → IsGain whole (pos r *ℤ (slope_at k -ℤ (pos r *ℤ pos (bend_at k)))) → sine +ℤ whole ≡ isin_of (600000000 * k + r)
 first-sine k r whole sine h small here gain =
     let under = gain.under in
@@ -141,7 +142,8 @@ first-sine k r whole sine h small here gain =
     let half = isin_of-first (600000000 * k + r) (omega arith) in
     omega (arith, ints, sine_at-size k, here, value, half)
 
--- and on the second, where one more was added to the sine, since what is gained is cut to the other side
+-- the sine on the second half, where the stored sine is one more, since gains are rounded to the other
+-- side
 pub second-sine : (k r : ℕ) (whole sine : ℤ) → k < 180 → r < 600000000 → sine ≡ pos 1 -ℤ sine_at (pos k) → IsGain whole (pos r *ℤ (neg_ℤ (slope_at k) -ℤ (pos r *ℤ neg_ℤ (pos (bend_at k))))) → sine +ℤ whole ≡ isin_of (600000000 * (k + 180) + r)
 second-sine k r whole sine h small here gain =
     let under = rw (turned r (bend_at k) (slope_at k)) at gain.under in

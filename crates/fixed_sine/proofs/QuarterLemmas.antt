@@ -33,7 +33,7 @@ scaled_between-entries k r c h size =
     rw (rise-entries k h, sine_at-entry k (omega arith), size)
     (joined _ _ _ _ _ _)
 
--- the formula's quotient: the entry, and what is gained past it
+-- the quotient of the formula: the table's sine, and the gain after it
 pub scaled_quotient : (s u g : ℕ) → (1440000000000000000 * s + u + g) / 1440000000000000000 ≡ s + (u + g) / 1440000000000000000
 scaled_quotient s u g = omega arith
 
@@ -43,7 +43,7 @@ quarter_of-entries p c h size =
     rw (scaled_between-entries (p / degree) (p % degree) c (omega arith) size)
     (ap pos (scaled_quotient _ _ _))
 
--- the sine gains no more over a part of a degree than over the whole of it
+-- the sine gains at most as much over a part of a degree as over the whole degree
 pub gain_scaled : (r q u c : ℕ) → r + q ≡ 600000000 → c ≤ 4 * u → 2400000000 * r * u + r * q * c ≤ 1440000000000000000 * u
 gain_scaled r q u c sum small =
     let whole : 600000000 * u ≡ r * u + q * u = ap (λ n. n * u) (sym sum) ∙ (omega arith) in
@@ -61,7 +61,7 @@ pub quarter_of-ninety : quarter_of 54000000000 ≡ pos 1000000000
 unfolding quarter_of scaled_between correction sine_at sines
 quarter_of-ninety = refl
 
--- the same gain by the slope where the degree begins
+-- the same gain by the slope at the begin of the degree
 pub by_slope : (r u c : ℕ) → r ≤ degree → r * ((2400000000 * u + 600000000 * c) - r * c) ≡ 2400000000 * r * u + r * (600000000 - r) * c
 by_slope r u c h =
     let q = 600000000 - r in

@@ -1,4 +1,4 @@
--- The sine's rate: one unit at a time over the scaled formula, then many units, then the cut.
+-- The rate of the sine: over one unit of the scaled formula, then over many, then after rounding.
 use Rattle.std.proofs.Common.{◌≡◌, ℕ, zero, suc, ◌+◌, ◌-◌, ◌*◌, ◌/◌, ◌%◌, ◌<◌, ◌≤◌, inl, inr, if◌then◌else◌, nat_lt, refl, sym, ap, ◌∙◌, zero-le, arith, ℤ, pos, negsuc, neg_ℤ, ◌-ℤ◌, int_div, unsigned_abs, get_or}
 use Rattle.std.proofs.lemmas.Bool.{cases_lt, cond-true, cond-false, lt-ltb, le-ltb}
 use Rattle.std.proofs.lemmas.Int.{ints}
@@ -10,7 +10,7 @@ use Rattle.fixed_sine.proofs.TableLemmas.{correction-size, sines_rise}
 use Rattle.fixed_sine.proofs.QuarterLemmas.{scaled_between-entries, quarter_of-ninety}
 use Rattle.fixed_sine.proofs.CircleLemmas.{half_of-first, half_of-second, isin_of-first, isin_of-second}
 
--- two numbers at most that far apart
+-- two numbers at most `distance` apart
 pub record IsNear (far a b : ℕ) : Type 0 where
   pub above : a ≤ b + far
   pub below : b ≤ a + far
@@ -19,7 +19,7 @@ pub record IsNear (far a b : ℕ) : Type 0 where
 unfoldable pub formula : ℕ → ℕ → ℕ → ℕ → ℕ
 formula s u c r = 1440000000000000000 * s + 2400000000 * r * u + r * (600000000 - r) * c
 
--- one unit further it rises, and by at most 4 * degree * 17,454,000
+-- one unit further the formula rises, by at most 4 * degree * 17,454,000
 formula-step : (s u c r : ℕ) → r < 600000000 → c ≤ 4 * u → 4 * u + c ≤ 69816000 → IsNear 41889600000000000 (formula s u c (r + 1)) (formula s u c r)
 unfolding formula
 formula-step s u c r h small steep =
@@ -58,7 +58,7 @@ scaled-next k h =
     let up = (sines_rise k h).up in
     formula-end _ _ _ ∙ ap (λ n. 1440000000000000000 * n) (omega arith) ∙ sym (formula-begin _ _ _)
 
--- at a place
+-- the formula at an angle
 pub num : ℕ → ℕ
 num p = scaled (p / 600000000) (p % 600000000)
 
@@ -82,7 +82,7 @@ num-step p h =
     in
     rw (here, there) (scaled-step k r (omega arith) (omega arith))
 
--- the sine there is the number, divided and cut
+-- the sine is the scaled formula, divided and rounded
 quarter_of-below : (p : ℕ) → p < 54000000000 → quarter_of p ≡ pos (num p / 1440000000000000000)
 unfolding quarter_of num scaled formula
 quarter_of-below p h =
@@ -118,7 +118,7 @@ num-begin : num 0 ≡ 0
 unfolding num scaled formula sines correction sine_at
 num-begin = refl
 
--- the same on the first half of the circle, up to its end
+-- the bound on the first half of the circle, up to its end
 pub half_num : ℕ → ℕ
 half_num i = if nat_lt i 54000000000 then num i else num (108000000000 - i)
 
@@ -158,7 +158,7 @@ half_of-num i h =
           ∙ ap (λ n. pos (n / 1440000000000000000)) (sym (half_num-second i second))
     ]
 
--- and with its sign on the whole circle
+-- the bound with a sign on the whole circle
 pub signed_num : ℕ → ℤ
 signed_num p =
     if nat_lt p 108000000000 then pos (half_num p) else neg_ℤ (pos (half_num (p - 108000000000)))
@@ -224,7 +224,7 @@ same_place : (a : ℤ) → unsigned_abs (a -ℤ a) ≤ 0
 same_place (pos n) = omega (arith, ints)
 same_place (negsuc n) = omega (arith, ints)
 
--- w units further round
+-- w units further round the circle
 signed_num-steps : (w p : ℕ) → p < 216000000000 → unsigned_abs (signed_num ((p + w) % 216000000000) -ℤ signed_num p) ≤ 41889600000000000 * w
 signed_num-steps zero p h =
     let here : (p + 0) % 216000000000 ≡ p = omega arith in
@@ -255,7 +255,7 @@ divided : (n a b : ℕ) → IsNear n a b → IsNear (n / 1440000000000000000 + 1
 divided n a b near = let up = near.above in let down = near.below in
     record { above = omega arith; below = omega arith }
 
--- numbers that far apart are as far apart once divided and cut, and by one more at most
+-- a distance after division and rounding is at most one more
 cut_gap : (a b : ℤ) (n : ℕ) → unsigned_abs (a -ℤ b) ≤ n → unsigned_abs (int_div a (pos 1440000000000000000) -ℤ int_div b (pos 1440000000000000000)) ≤ n / 1440000000000000000 + 1
 cut_gap (pos a) (pos b) n h = gap _ _ _ (divided n a b (near_from n a b h))
 cut_gap (pos a) (negsuc b) n h =

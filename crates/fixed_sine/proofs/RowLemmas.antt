@@ -1,4 +1,5 @@
--- The sine on the first half of the circle by a degree's row: its sine, its correction and its slope, which is negative past 90.
+-- The sine on the first half of the circle by a degree's row: its sine, its correction and its slope,
+-- which is negative after 90.
 use Rattle.std.proofs.Common.{◌≡◌, ℕ, ◌+◌, ◌-◌, ◌*◌, ◌/◌, ◌<◌, ◌≤◌, min, inl, inr, sym, ap, ◌∙◌, arith, ℤ, pos, neg_ℤ, ◌+ℤ◌, ◌-ℤ◌, ◌*ℤ◌, ◌≤ℤ◌, ◌<ℤ◌, unsigned_abs, get_or, nat_le, to_z, of_z, w64}
 use Rattle.std.proofs.lemmas.Bool.{cases_lt, cond-false, lt-leb}
 use Rattle.std.proofs.lemmas.Int.{ints}
@@ -64,7 +65,7 @@ fallen k j sine size slope h e row =
       bent = bent-at j (min k (179 - k)) size (omega arith) least row.bent;
     }
 
--- the formula past 90 degrees, from the degree's other end
+-- the formula after 90 degrees, from the degree's other end
 turned : (r q s u c m : ℕ) → r + q ≡ 600000000 → m + q * c ≡ 2400000000 * u → formula s u c q + r * m ≡ 1440000000000000000 * (s + u)
 unfolding formula
 turned r q s u c m sum slope =
@@ -119,7 +120,7 @@ half_num-row k r sine size slope h small row =
 rounded : (n s : ℕ) (gain product : ℤ) → pos n ≡ pos (1440000000000000000 * s) +ℤ product → (gain *ℤ pos 1440000000000000000) ≤ℤ product → product <ℤ ((gain *ℤ pos 1440000000000000000) +ℤ pos 1440000000000000000) → pos (n / 1440000000000000000) ≡ pos s +ℤ gain
 rounded n s gain product e least most = omega (arith, ints, e, least, most)
 
--- the sine r units past k degrees: the row's, and what is gained since
+-- the sine r units after k degrees: that of the row, and the gain since
 pub half_of-row : (k r sine size : ℕ) (slope gain : ℤ) → k < 180 → r < 600000000 → IsRow k slope sine size → (gain *ℤ pos 1440000000000000000) ≤ℤ (pos r *ℤ (slope -ℤ pos (r * size))) → (pos r *ℤ (slope -ℤ pos (r * size))) <ℤ ((gain *ℤ pos 1440000000000000000) +ℤ pos 1440000000000000000) → pos sine +ℤ gain ≡ half_of (600000000 * k + r)
 half_of-row k r sine size slope gain h small row least most =
     sym (half_of-num (600000000 * k + r) (omega arith)

@@ -1,4 +1,4 @@
--- Facts about every entry of the table, each by a test that computes over all of it.
+-- Facts about each entry of the table, each by a test that computes over all entries.
 use Rattle.std.proofs.Common.{◌≡◌, ℕ, ◌+◌, ◌-◌, ◌*◌, ◌^◌, ◌<◌, ◌≤◌, Bool, true, ◌&&◌, nat_le, nat_lt, min, refl, arith, ℤ, pos, neg_ℤ, ◌+ℤ◌, ◌-ℤ◌, ◌*ℤ◌, ◌≤ℤ◌, unsigned_abs, get_or, int_le, to_z, of_z, w32, w64}
 use Rattle.std.specs.Ordering.{int_eq}
 use Rattle.std.proofs.lemmas.Bool.{agree_below_at, leb-true, and_parts}
@@ -30,7 +30,7 @@ pub rise_bound : (k : ℕ) → k < 90 → ((pos 4 *ℤ rise k) +ℤ pos (unsigne
 unfolding gains_little correction sine_at sines
 rise_bound k h = le_from_test _ _ (agree_below_at gains_little (λ _. true) 90 k refl h)
 
--- how far the squares at k and 90 - k are from their sum at a right angle
+-- the squares at k and 90 - k degrees, less their sum at a right angle
 unfoldable pub square_gap : ℕ → ℕ
 square_gap k =
     unsigned_abs (((sine_at (pos k) *ℤ sine_at (pos k)) +ℤ (sine_at (pos (90 - k)) *ℤ sine_at (pos (90 - k)))) -ℤ pos (10 ^ 18))
@@ -42,7 +42,8 @@ pub square_gap_bound : (k : ℕ) → k ≤ 90 → square_gap k ≤ 2 * 10 ^ 9
 unfolding has_small_gap square_gap sine_at sines
 square_gap_bound k h = leb-true _ _ (agree_below_at has_small_gap (λ _. true) 91 k refl (omega arith))
 
--- the table rises by at least a quarter of the correction and by less than 2^25, stays at or below 10^9, and is nowhere too steep
+-- the table rises by at least a quarter of the correction and by less than 2^25, stays at or below 10^9,
+-- and is nowhere too steep
 unfoldable rises : ℕ → Bool
 rises k =
     let here = get_or sines k 0 in
@@ -148,7 +149,7 @@ degree-second k h =
     let all = and_parts _ _ (agree_below_at is_second (λ _. true) 180 k refl h) in
     (ready-parts _ _ _ _ all.0, (Decides-int_eq _ _).0 all.1)
 
--- they fit their types, with room
+-- the degrees fit their types, with room
 pub record Fits (s b n : ℤ) : Type 0 where
   pub slope : unsigned_abs s ≤ 540000000000000000
   pub slope_kept : to_z w64 (of_z w64 s) ≡ s

@@ -3,19 +3,20 @@ use Rattle.std.specs.Prelude.{ℕ, ◌-◌, ◌*◌, ◌/◌, ◌%◌, ◌^◌, 
 use Rattle.std.specs.Int.{int_shr}
 use Rattle.fixed_sine.specs.Table.{sine_at, rise}
 
--- how far the sine by a chord may be from the sine, in billionths
+-- the most that the chord sine differs from the sine, in billionths
 abbrev pub chord_error : ℕ
 chord_error = 38100
 
--- the sine of whole degrees all round the circle: the second half is the first one with the other sign
+-- the sine of k degrees, from 0 to 359: the second half of the circle is the first with the other sign
 unfoldable pub degree_sine : ℕ → ℤ
 degree_sine k = if nat_lt k 180 then sine_at (pos k) else neg_ℤ (sine_at (pos (k - 180)))
 
--- how much it gains over the degree that begins at k
+-- the change of the sine over the degree that begins at k
 unfoldable pub degree_rise : ℕ → ℤ
 degree_rise k = if nat_lt k 180 then rise k else neg_ℤ (rise (k - 180))
 
--- the sine by the chord over the degree that a part of a turn lies in, at whole 2^32nds of that degree
+-- the sine on the chord of the degree that contains `turn` (in 2^-64 of a turn), at whole 2^-32 of that
+-- degree
 unfoldable pub chord_sine_of : ℕ → ℤ
 chord_sine_of turn =
     degree_sine (turn * 360 / 2 ^ 64)

@@ -1,19 +1,20 @@
--- The unit of angles: 600,000,000 to a degree, so that ten-millionths of a degree per hour are units per minute (this project).
+-- The unit of angles: 600,000,000 to a degree, so that ten-millionths of a degree per hour are units per
+-- minute (this project).
 use Rattle.std.specs.Prelude.{ℕ, ℤ, pos, ◌≤ℤ◌, ◌<ℤ◌}
 
--- the units in a degree
+-- the number of units in a degree
 abbrev pub degree : ℕ
 degree = 600000000
 
--- the units in a whole turn
+-- the number of units in a whole turn
 abbrev pub circle : ℕ
 circle = 216000000000
 
--- the units in a radian, rounded
+-- the number of units in a radian, rounded
 abbrev pub radian : ℕ
 radian = 34377467708
 
--- a place on the circle: from 0, and below the whole turn
+-- an angle on the circle: from 0, and below the whole turn
 pub record IsOnCircle (p : ℤ) : Type 0 where
   pub least : pos 0 ≤ℤ p
   pub below : p <ℤ pos circle

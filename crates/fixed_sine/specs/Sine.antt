@@ -1,26 +1,27 @@
--- The sine in billionths at each place of the circle: between whole degrees by Bessel's interpolation formula to second differences, cut towards zero (this project).
+-- The sine in billionths at each angle on the circle: between whole degrees by Bessel's interpolation
+-- formula to second differences, rounded towards zero (this project).
 use Rattle.std.specs.Prelude.{ℕ, ◌+◌, ◌-◌, ◌*◌, ◌/◌, ◌%◌, ℤ, pos, neg_ℤ, ◌+ℤ◌, ◌-ℤ◌, ◌*ℤ◌, int_div, nat_lt, if◌then◌else◌}
 use Rattle.fixed_sine.specs.Circle.{degree, circle}
 use Rattle.fixed_sine.specs.Table.{sine_at, rise, correction}
 
--- 4 * degree * degree times the sine at r units past k whole degrees
+-- 4 * degree * degree times the sine r units after k degrees
 unfoldable pub scaled_between : ℕ → ℕ → ℤ
 scaled_between k r =
     ((pos (4 * degree * degree) *ℤ sine_at (pos k)) +ℤ (pos (4 * degree * r) *ℤ rise k))
     -ℤ (pos (r * (degree - r)) *ℤ correction k)
 
--- on the first quarter of the circle, both ends included
+-- the sine on the first quarter of the circle, both ends included
 unfoldable pub quarter_of : ℕ → ℤ
 quarter_of p = int_div (scaled_between (p / degree) (p % degree)) (pos (4 * degree * degree))
 
--- on the first half: the second quarter is the first one mirrored
+-- the sine on the first half: the second quarter mirrors the first
 unfoldable pub half_of : ℕ → ℤ
 half_of p = if nat_lt p (circle / 4) then quarter_of p else quarter_of (circle / 2 - p)
 
--- on the whole circle: the second half is the first one with the other sign
+-- the sine on the whole circle: the second half is the first with the other sign
 unfoldable pub isin_of : ℕ → ℤ
 isin_of p = if nat_lt p (circle / 2) then half_of p else neg_ℤ (half_of (p - circle / 2))
 
--- the cosine: the sine a quarter further on
+-- the cosine: the sine of the angle plus 90 degrees
 unfoldable pub icos_of : ℕ → ℤ
 icos_of p = isin_of ((p + circle / 4) % circle)

@@ -1,4 +1,5 @@
--- The sines of whole degrees in billionths (a table of natural sines), and the correction between them (Bessel's interpolation formula).
+-- The sines of whole degrees in billionths (a table of natural sines), and the correction between them
+-- (Bessel's interpolation formula).
 use Rattle.std.specs.Prelude.{ℕ, suc, ◌+◌, ◌-◌, ℤ, pos, negsuc, neg_ℤ, ◌+ℤ◌, ◌-ℤ◌, List, [], ◌∷◌, slice_index, nat_le, if◌then◌else◌}
 
 -- for each degree from 0 to 90: 1,000,000,000 times its sine, rounded
@@ -24,16 +25,16 @@ sines =
     996194698 ∷ 997564050 ∷ 998629535 ∷ 999390827 ∷ 999847695 ∷
     1000000000 ∷ []
 
--- the table carried over both ends: mirrored at 90 degrees, and negative below 0
+-- the table extended at both ends: mirrored at 90 degrees, and negative below 0
 unfoldable pub sine_at : ℤ → ℤ
 sine_at (pos k) = pos (slice_index sines (if nat_le k 90 then k else 180 - k))
 sine_at (negsuc k) = neg_ℤ (pos (slice_index sines (suc k)))
 
--- how much the sine gains over the degree that begins at k
+-- the change of the sine over the degree that begins at k
 abbrev pub rise : ℕ → ℤ
 rise k = sine_at (pos (k + 1)) -ℤ sine_at (pos k)
 
--- the sum of the second differences at both ends of that degree
+-- the sum of the second differences at both ends of the degree that begins at k
 unfoldable pub correction : ℕ → ℤ
 correction k =
     ((sine_at (pos (k + 2)) -ℤ sine_at (pos (k + 1))) -ℤ sine_at (pos k)) +ℤ sine_at (pos k -ℤ pos 1)

@@ -1,18 +1,18 @@
-//! The chords of the sine over whole degrees, all round the circle.
+//! The chords of the sine over each whole degree of the circle.
 
 ghost use Rattle.std.specs.Prelude.{◌≡◌, ◌<◌, ◌≤◌, unsigned_abs};
 ghost use Rattle.fixed_sine.specs.Chords.{degree_sine, degree_rise};
 
-/// A chord of the sine over a degree.
+/// A chord of the sine over one degree.
 #[derive(Clone, Copy)]
 pub struct Chord {
-    /// The sine where the degree begins, in billionths.
+    /// The sine at the begin of the degree, in billionths.
     pub sine: i32,
-    /// How much it gains over the degree, in billionths.
+    /// The change of the sine over the degree, in billionths.
     pub rise: i32,
 }
 
-/// Sines and rises of 0 to 359 degrees.
+/// The sines and changes of the degrees from 0 to 359.
 static CHORDS: [(i32, i32); 360] = [
     (0, 17_452_406),
     (17_452_406, 17_447_091),
@@ -376,7 +376,7 @@ static CHORDS: [(i32, i32); 360] = [
     (-17_452_406, 17_452_406),
 ];
 
-/// The chord over the degree that begins at so many degrees.
+/// Returns the chord over the degree that begins at `degrees`, from 0 to 359.
 pub fn chord_at(degrees: usize) -> Chord
     requires { degrees < 360 }
     ensures sine { result.sine ≡ degree_sine degrees }

@@ -4,16 +4,16 @@ ghost use Rattle.std.specs.Prelude.{◌≡◌, pos};
 ghost use Rattle.std.specs.Int.{int_rem_euclid};
 ghost use Rattle.fixed_sine.specs.Circle.{circle, IsOnCircle};
 
-/// The units in a degree.
+/// The number of units in a degree.
 pub const DEGREE: i64 = 600_000_000;
 
-/// The units in a whole turn.
+/// The number of units in a whole turn.
 pub const CIRCLE: i64 = 216_000_000_000;
 
-/// The units in a radian, rounded to a whole number.
+/// The number of units in a radian, rounded to a whole number.
 pub const RADIAN: i64 = 34_377_467_708;
 
-/// The place on the circle that an angle of any size comes to, from 0 to `CIRCLE - 1`.
+/// Returns the angle of `x` units reduced to the circle, from 0 to `CIRCLE - 1`.
 pub fn reduce(x: i128) -> i64
     ensures value { result ≡ int_rem_euclid x (pos circle) }
     ensures range { IsOnCircle result }

@@ -1,22 +1,21 @@
-//! The degrees of the whole circle, ready for a quick sum.
+//! The degrees of the whole circle, with slopes prepared for fast sums.
 
 ghost use Rattle.std.specs.Prelude.{◌≡◌, ◌<◌, ◌≤◌, ◌-◌, pos, neg_ℤ, ◌-ℤ◌, unsigned_abs};
 ghost use Rattle.fixed_sine.specs.Table.{sine_at};
 ghost use Rattle.fixed_sine.specs.Workings.Degrees.{slope_at, bend_at, IsReady};
 
-/// A whole number of degrees.
+/// The prepared row of one degree.
 #[derive(Clone, Copy)]
 pub struct Degree {
-    /// How much the sine gains a unit there, in 2^64ths of a billionth, rounded up.
+    /// The change of the sine per unit at the begin of the degree, in 2^-64 of a billionth, rounded up.
     pub slope: i64,
-    /// How much of that is lost with each unit over the degree that begins there, in 2^72nds,
-    /// rounded down.
+    /// The decrease of `slope` per unit over the degree, in 2^-72 of a billionth, rounded down.
     pub bend: i32,
-    /// The sine there, in billionths; from 180 degrees on one more.
+    /// The sine at the begin of the degree, in billionths; from 180 degrees on one more.
     pub sine: i32,
 }
 
-/// Slopes, bends and sines of 0 to 359 degrees.
+/// The slopes, bends and sines of the degrees from 0 to 359.
 static DEGREES: [(i64, i32, i32); 360] = [
     (536_607_630_106_101_605, 17_430_123, 0),
     (536_525_941_774_428_527, 52_296_929, 17_452_406),
@@ -380,7 +379,7 @@ static DEGREES: [(i64, i32, i32); 360] = [
     (536_525_926_402_141_799, -17_430_124, -17_452_405),
 ];
 
-/// A whole number of degrees on the circle.
+/// Returns the prepared row of `degrees`, from 0 to 359.
 pub fn degree_at(degrees: usize) -> Degree
     requires { degrees < 360 }
     ensures first { degrees < 180 → (result.sine ≡ sine_at (pos degrees))

@@ -1,4 +1,4 @@
-//! What is computed of the table, and what holds at every place.
+//! Theorems about the table and the sine, and examples.
 
 ghost use Rattle.std.specs.Prelude.{◌≡◌, ℕ, ◌+◌, ◌-◌, ◌*◌, ◌<◌, ◌≤◌, pos, negsuc, ◌+ℤ◌, ◌-ℤ◌, ◌*ℤ◌, ◌≤ℤ◌, unsigned_abs, ◌^◌};
 ghost use Rattle.std.specs.Int.{int_rem_euclid};
@@ -9,8 +9,8 @@ ghost use Rattle.fixed_sine.specs.Rate.{step_of, RateLaw};
 ghost use Rattle.fixed_sine.specs.Turn.{units_of};
 ghost use Rattle.fixed_sine.specs.Chords.{chord_error, chord_sine_of};
 
-/// Two checks of the whole table: no degree gains more than 17,454,000 with a quarter of its
-/// correction, and the squares of the sines of `k` and `90 - k` degrees sum to nearly 10^18.
+/// Proves two checks of the whole table: the rise of a degree plus a quarter of its correction is at most
+/// 17,454,000, and the squares of the sines of `k` and `90 - k` degrees sum to 10^18 within 2*10^9.
 pub fn table_checks()
     ensures gains { (k : ℕ) → k < 90
         → ((pos 4 *ℤ rise k) +ℤ pos (unsigned_abs (correction k))) ≤ℤ pos (4 * 17454000) }
@@ -18,25 +18,25 @@ pub fn table_checks()
         (((sine_at (pos k) *ℤ sine_at (pos k)) +ℤ (sine_at (pos (90 - k)) *ℤ sine_at (pos (90 - k)))) -ℤ pos (10 ^ 18)) ≤ 2 * 10 ^ 9 }
 {}
 
-/// Sine and cosine are at most 1,000,000,000 in size, and no step is over 104,724,001.
+/// Proves that sine and cosine are at most 1,000,000,000 in size, and that no step exceeds 104,724,001.
 pub fn sine_sizes()
     ensures sine { (p : ℕ) → p < circle → unsigned_abs (isin_of p) ≤ 1000000000 }
     ensures cosine { (p : ℕ) → p < circle → unsigned_abs (icos_of p) ≤ 1000000000 }
     ensures step { (w : ℕ) → w ≤ 3600000000 → step_of w ≤ 104724001 }
 {}
 
-/// From any place the sine changes by at most the step, whatever the speed.
+/// Proves that the sine changes by at most the step over `w` units, from each angle and for each `w`.
 pub fn sine_rates()
     ensures { (w : ℕ) → RateLaw w }
 {}
 
-/// The sine by a chord is at most 38,100 from the sine.
+/// Proves that [`crate::chord_sine`] is within 38,100 billionths of the sine.
 pub fn chords_are_near()
     ensures { (turn : ℕ) → turn < 2 ^ 64
         → unsigned_abs (chord_sine_of turn -ℤ isin_of (units_of turn)) ≤ chord_error }
 {}
 
-/// Values of the definitions at places of their own.
+/// Proves values of sine, cosine, step and fractions of a turn that were computed elsewhere.
 #[tactic(auto, unfolding(crate::specs::Table::sines, crate::specs::Table::sine_at, crate::specs::Table::correction, crate::specs::Sine::scaled_between, crate::specs::Sine::quarter_of, crate::specs::Sine::half_of, crate::specs::Sine::isin_of, crate::specs::Sine::icos_of, crate::specs::Rate::step_of))]
 pub fn worked_rows()
     ensures at_zero { isin_of 0 ≡ pos 0 }
@@ -66,7 +66,7 @@ pub fn worked_rows()
     ensures least_number { int_rem_euclid (negsuc (2 ^ 127 - 1)) (pos circle) ≡ pos 148115894272 }
 {}
 
-/// Sines by chords at parts of a turn, among them one that is nearly as far off as any may be.
+/// Proves sines by chords at some fractions of a turn, one of them with nearly the greatest error.
 #[tactic(auto, unfolding(crate::specs::Table::sines, crate::specs::Table::sine_at, crate::specs::Chords::degree_sine, crate::specs::Chords::degree_rise, crate::specs::Chords::chord_sine_of))]
 pub fn worked_chords()
     ensures at_zero { chord_sine_of 0 ≡ pos 0 }

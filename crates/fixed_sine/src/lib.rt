@@ -1,12 +1,12 @@
 //! Sine and cosine in whole numbers, the same on every machine.
 //!
-//! An angle is a place on a circle of [`CIRCLE`] units, [`DEGREE`] to a degree. [`reduce`] brings
-//! any number of units onto the circle. [`isin`] and [`icos`] are in billionths: a table of whole
-//! degrees, interpolated by second differences. [`step`] bounds how much they change. [`turn_sine`]
-//! tells the same sine sooner, at a part of a turn ([`turn_of`]), which is added to and multiplied
-//! with no thought of whole turns. The cosine there is the sine [`QUARTER_TURN`] further on.
-//! [`chord_sine`] is sooner still, and at most [`CHORD_ERROR`] from the sine: it lies on the chords
-//! between whole degrees.
+//! An angle is a number of units on a circle of [`CIRCLE`] units, [`DEGREE`] to a degree. [`reduce`]
+//! reduces any number of units to the circle. [`isin`] and [`icos`] are in billionths: a table of whole
+//! degrees, interpolated by second differences. [`step`] bounds how much they change. [`turn_sine`] is a
+//! faster way to the same sine: its angle is a fraction of a turn in 2^-64 ([`turn_of`]), so sums and
+//! products drop whole turns by themselves. The cosine is the sine of the angle plus [`QUARTER_TURN`].
+//! [`chord_sine`] is faster still but approximate, within [`CHORD_ERROR`] of the sine: it lies on the
+//! chords between whole degrees.
 #![tactic(auto)]
 
 mod chords;

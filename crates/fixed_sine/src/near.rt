@@ -1,4 +1,4 @@
-//! The sine by chords, sooner and not exactly.
+//! The approximate sine by chords.
 
 ghost use Rattle.std.specs.Prelude.{◌≡◌, ◌*◌, ◌/◌, ◌%◌, ◌^◌, ◌≤◌, pos, ◌-ℤ◌, ◌*ℤ◌, unsigned_abs};
 ghost use Rattle.std.specs.Int.{int_shr};
@@ -9,14 +9,14 @@ ghost use Rattle.fixed_sine.specs.Chords.{chord_error, chord_sine_of};
 use crate::chords::chord_at;
 use crate::turn::TURN;
 
-/// How far the sine by a chord may be from the sine, in billionths.
+/// The most that [`chord_sine`] differs from the sine, in billionths.
 pub const CHORD_ERROR: i64 = 38_100;
 
-/// The 2^64ths in a 2^32nd.
+/// The ratio of 2^-32 to 2^-64.
 const PART: u128 = 1 << 32;
 
-/// The sine by the chord of the degree in which a part of a turn lies, at most [`CHORD_ERROR`] from
-/// the sine there.
+/// Returns the approximate sine of `turn`, in 2^-64 of a turn, by the chord of its degree: in billionths,
+/// within [`CHORD_ERROR`] of [`crate::turn_sine`].
 #[inline]
 pub fn chord_sine(turn: u64) -> i64
     ensures value { result ≡ chord_sine_of turn }
@@ -28,14 +28,14 @@ pub fn chord_sine(turn: u64) -> i64
     i64::from(chord.sine) + gain_over_chord(spot.part, chord.rise)
 }
 
-/// A place on the circle: whole degrees, and 2^32nds of one past them.
+/// An angle as whole degrees and 2^-32 of a degree.
 #[derive(Clone, Copy)]
 struct ChordSpot {
     degrees: usize,
     part: u32,
 }
 
-/// The spot that a part of a turn lies in.
+/// Returns the whole degrees and the part of a degree in `turn`.
 fn chord_spot(turn: u64) -> ChordSpot
     ensures degrees { result.degrees ≡ turn * 360 / 2 ^ 64 }
     ensures part { result.part ≡ turn * 360 % 2 ^ 64 / 2 ^ 32 }
@@ -47,7 +47,7 @@ fn chord_spot(turn: u64) -> ChordSpot
     }
 }
 
-/// What is gained over a part of a degree, in 2^32nds of it, rounded down.
+/// Returns the change of the sine over `part` of a degree, in 2^-32 of it, rounded down.
 fn gain_over_chord(part: u32, rise: i32) -> i64
     requires { unsigned_abs rise ≤ 17452406 }
     ensures value { result ≡ int_shr (pos part *ℤ rise) 32 }

@@ -1,15 +1,15 @@
-//! How fast the sine changes.
+//! A bound on the change of the sine.
 
 ghost use Rattle.std.specs.Prelude.{◌≡◌, pos, ◌≤ℤ◌, unsigned_abs};
 ghost use Rattle.fixed_sine.specs.Rate.{step_of, IsSpeed, RateLaw};
 
 use crate::circle::DEGREE;
 
-/// The most that a degree gains, with a quarter of its correction.
+/// The greatest rise of a degree plus a quarter of its correction.
 const GREATEST_GAIN: u64 = 17_454_000;
 
-/// The most that the sine changes by over `w` units, for `w` from 0 to 3,600,000,000, in
-/// billionths.
+/// Returns a bound on the change of the sine over `w` units, in billionths; `w` is from 0 to
+/// 3,600,000,000.
 pub fn step(w: i64) -> i64
     requires { IsSpeed w }
     ensures value { result ≡ pos (step_of (unsigned_abs w)) }

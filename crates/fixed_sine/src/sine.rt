@@ -1,4 +1,4 @@
-//! Sine and cosine of a place on the circle.
+//! Sine and cosine of an angle on the circle.
 
 ghost use Rattle.std.specs.Prelude.{◌≡◌, ◌+◌, ◌*◌, ◌/◌, ◌≤◌, ◌<◌, pos, unsigned_abs, ◌+ℤ◌, ◌-ℤ◌, ◌*ℤ◌, ◌≤ℤ◌, ◌<ℤ◌};
 ghost use Rattle.fixed_sine.specs.Circle.{circle, degree, IsOnCircle};
@@ -7,16 +7,23 @@ ghost use Rattle.fixed_sine.specs.Sine.{half_of, isin_of, icos_of};
 use crate::circle::{CIRCLE, DEGREE};
 use crate::table::row_of;
 
-/// The units in a degree, without a sign.
+/// The number of units in a degree, unsigned.
 pub const UNITS: u64 = DEGREE as u64;
 
-/// The place of 180 degrees.
+/// The number of units in 180 degrees.
 const HALF: u64 = 180 * UNITS;
 
-/// What the formula between two degrees is divided by.
+/// The divisor of the interpolation formula between two degrees.
 const SQUARE: i128 = 4 * UNITS as i128 * UNITS as i128;
 
-/// The sine in billionths, from -1,000,000,000 to 1,000,000,000.
+/// Returns the sine of the angle `p`, in units from 0 to `CIRCLE - 1`: in billionths, from -1,000,000,000
+/// to 1,000,000,000.
+///
+/// # Examples
+/// ```
+/// assert_eq!(rt; isin(30 * DEGREE), 500_000_000);
+/// assert_eq!(rt; icos(reduce(-180 * i128::from(DEGREE))), -1_000_000_000);
+/// ```
 pub fn isin(p: i64) -> i64
     requires { IsOnCircle p }
     ensures value { result ≡ isin_of (unsigned_abs p) }
@@ -30,7 +37,8 @@ pub fn isin(p: i64) -> i64
     }
 }
 
-/// The cosine in billionths, from -1,000,000,000 to 1,000,000,000: the sine a quarter further on.
+/// Returns the cosine of the angle `p`, in units from 0 to `CIRCLE - 1`: in billionths, from
+/// -1,000,000,000 to 1,000,000,000. It is the sine of the angle plus 90 degrees.
 pub fn icos(p: i64) -> i64
     requires { IsOnCircle p }
     ensures value { result ≡ icos_of (unsigned_abs p) }
@@ -44,7 +52,7 @@ pub fn icos(p: i64) -> i64
     })
 }
 
-/// The sine on the first half of the circle.
+/// Returns the sine of `place` on the first half of the circle.
 fn half(place: u64) -> i64
     requires { place < circle / 2 }
     ensures value { result ≡ half_of place }
@@ -53,7 +61,7 @@ fn half(place: u64) -> i64
     between((place / UNITS) as usize, place % UNITS)
 }
 
-/// The sine `r` units past so many degrees of the first half of the circle.
+/// Returns the sine `r` units after `degrees`, from 0 to 179.
 fn between(degrees: usize, r: u64) -> i64
     requires degrees { degrees < 180 }
     requires part { r < degree }
@@ -64,7 +72,7 @@ fn between(degrees: usize, r: u64) -> i64
     i64::from(row.sine) + gain(r, mean_slope(row.slope, row.correction, r))
 }
 
-/// How much the sine gains a unit over the first `r` units of a degree, times `SQUARE`.
+/// Returns the mean change of the sine per unit over the first `r` units of a degree, times `SQUARE`.
 fn mean_slope(slope: i64, correction: u32, r: u64) -> i64
     requires slope { unsigned_abs slope ≤ 41943040000000000 }
     requires part { r < degree }
@@ -73,7 +81,7 @@ fn mean_slope(slope: i64, correction: u32, r: u64) -> i64
     slope - (r * u64::from(correction)) as i64
 }
 
-/// `r * slope`, divided by `SQUARE` and rounded down.
+/// Returns `r * slope / SQUARE`, rounded down.
 fn gain(r: u64, slope: i64) -> i64
     requires part { r < degree }
     requires slope { unsigned_abs slope ≤ 41943040000000000 }
@@ -84,7 +92,7 @@ fn gain(r: u64, slope: i64) -> i64
     product(r, slope).div_euclid(SQUARE) as i64
 }
 
-/// `r` times a slope.
+/// Returns `r * slope`.
 pub fn product(r: u64, slope: i64) -> i128
     requires part { r < degree }
     requires slope { unsigned_abs slope ≤ 550000000000000000 }

@@ -1,21 +1,22 @@
-//! The sines of whole degrees on the first half of the circle, and what is added between them.
+//! The sines of whole degrees on the first half of the circle, with slopes and corrections between them.
 
 ghost use Rattle.std.specs.Prelude.{◌≡◌, ◌-◌, ◌*◌, ◌<◌, pos, neg_ℤ, ◌+ℤ◌, ◌*ℤ◌, min};
 ghost use Rattle.fixed_sine.specs.Circle.{degree};
 ghost use Rattle.fixed_sine.specs.Table.{sine_at, rise, correction};
 
-/// A whole number of degrees.
+/// The row of one degree.
 #[derive(Clone, Copy)]
 pub struct Row {
-    /// How much the sine gains a unit there, in billionths, times 4 * degree * degree.
+    /// The change of the sine per unit at the begin of the degree, in billionths, times 4 * degree *
+    /// degree.
     pub slope: i64,
-    /// The sine there, in billionths.
+    /// The sine at the begin of the degree, in billionths.
     pub sine: u32,
-    /// The size of the correction over the degree that begins there, which is negative.
+    /// The size of the correction over the degree; the correction is negative.
     pub correction: u32,
 }
 
-/// Slopes, sines and corrections of 0 to 179 degrees.
+/// The slopes, sines and corrections of the degrees from 0 to 179.
 static ROWS: [(i64, u32, u32); 180] = [
     (41_888_963_400_000_000, 0, 5_315),
     (41_882_586_600_000_000, 17_452_406, 15_947),
@@ -199,7 +200,7 @@ static ROWS: [(i64, u32, u32); 180] = [
     (-41_882_585_400_000_000, 17_452_406, 5_315),
 ];
 
-/// The row of a whole number of degrees. The corrections past 89 are those before it, mirrored.
+/// Returns the row of `degrees`, from 0 to 179. The corrections after 89 mirror those before it.
 pub fn row_of(degrees: usize) -> Row
     requires { degrees < 180 }
     ensures slope { result.slope ≡ (pos (4 * degree) *ℤ rise degrees) +ℤ pos (degree * result.correction) }

@@ -1,7 +1,7 @@
-//! Sine and cosine at a part of a turn.
+//! Sine and cosine of a fraction of a turn.
 //!
-//! A part of a turn is counted in 2^64ths of it. So whole turns fall away where such parts are added
-//! or multiplied, and the degree and the units in it are the leading digits of products.
+//! A fraction of a turn is counted in 2^-64 of a turn. So sums and products drop whole turns by
+//! themselves, and the degree and the units in it are the leading digits of products.
 
 ghost use Rattle.std.specs.Prelude.{◌≡◌, ◌+◌, ◌*◌, ◌/◌, ◌%◌, ◌^◌, ◌≤◌, ◌<◌, pos, ◌+ℤ◌, ◌-ℤ◌, ◌*ℤ◌, unsigned_abs};
 ghost use Rattle.std.specs.Int.{int_shr};
@@ -13,22 +13,23 @@ use crate::circle::CIRCLE;
 use crate::degrees::degree_at;
 use crate::sine::{UNITS, isin, product};
 
-/// A whole turn.
+/// A whole turn, in 2^-64 of it.
 pub const TURN: u128 = 1 << 64;
 
-/// A quarter of a turn.
+/// A quarter of a turn, in 2^-64 of a turn.
 pub const QUARTER_TURN: u64 = 1 << 62;
 
-/// A unit of the circle has 2^52 / `SHARE` of the turn's 2^64ths.
+/// A unit of the circle is 2^52 / `SHARE` in 2^-64 of a turn.
 const SHARE: u64 = CIRCLE as u64 / 4096;
 
-/// A gain in 2^64ths is too great by less than this.
+/// The bound, in 2^-64 of a billionth, on how much a computed gain is too great.
 const UNSURE: u64 = 1 << 51;
 
-/// 2^52 is taken in two steps, so that products stay within 64 bits.
+/// A factor 2^52 is applied in two steps of 2^26, so that products fit 64 bits.
 const STEP: u64 = 1 << 26;
 
-/// The part of a turn that so many units are, rounded up. It lies within that unit.
+/// Returns `units`, from 0 to `CIRCLE - 1`, as a fraction of a turn in 2^-64, rounded up. It is within
+/// the same unit.
 pub fn turn_of(units: u64) -> u64
     requires { units < circle }
     ensures { result ≡ turn_of units }
@@ -38,7 +39,8 @@ pub fn turn_of(units: u64) -> u64
     scaled / SHARE * STEP + rest * STEP / SHARE + 1
 }
 
-/// The sine at the unit in which a part of a turn lies.
+/// Returns the sine of `turn`, in 2^-64 of a turn: in billionths, that of the whole unit in which the
+/// angle is.
 #[inline]
 pub fn turn_sine(turn: u64) -> i64
     ensures value { result ≡ isin_of (units_of turn) }
@@ -54,14 +56,14 @@ pub fn turn_sine(turn: u64) -> i64
     }
 }
 
-/// A place on the circle: whole degrees, and units past them.
+/// An angle as whole degrees, and the units after them.
 #[derive(Clone, Copy)]
 struct Spot {
     degrees: usize,
     r: u64,
 }
 
-/// The spot that a part of a turn lies in.
+/// Returns the whole degrees and units of `turn`.
 fn spot_of(turn: u64) -> Spot
     ensures degrees { result.degrees < 360 }
     ensures part { result.r < degree }
@@ -74,7 +76,7 @@ fn spot_of(turn: u64) -> Spot
     }
 }
 
-/// The sine at a spot, by its definition.
+/// Returns the sine of `spot` by its definition.
 #[cold]
 #[inline(never)]
 fn written_sine(spot: Spot) -> i64
@@ -86,7 +88,7 @@ fn written_sine(spot: Spot) -> i64
     isin(place_of(spot))
 }
 
-/// The units of a spot.
+/// Returns the units of `spot`.
 fn place_of(spot: Spot) -> i64
     requires degrees { spot.degrees < 360 }
     requires part { spot.r < degree }
@@ -95,7 +97,8 @@ fn place_of(spot: Spot) -> i64
     (spot.degrees as u64 * UNITS + spot.r) as i64
 }
 
-/// How much the sine gains a unit over the first `r` units of a degree, in 2^64ths.
+/// Returns the mean change of the sine per unit over the first `r` units of a degree, in 2^-64 of a
+/// billionth.
 fn mean_slope(slope: i64, bend: i32, r: u64) -> i64
     requires slope { unsigned_abs slope ≤ 540000000000000000 }
     requires bend { unsigned_abs bend ≤ 2000000000 }
@@ -106,7 +109,7 @@ fn mean_slope(slope: i64, bend: i32, r: u64) -> i64
     slope - lost(bend, r)
 }
 
-/// What a slope has lost after `r` units.
+/// Returns the decrease of a slope after `r` units.
 fn lost(bend: i32, r: u64) -> i64
     requires bend { unsigned_abs bend ≤ 2000000000 }
     requires part { r < degree }
@@ -116,14 +119,14 @@ fn lost(bend: i32, r: u64) -> i64
     (r as i64 * i64::from(bend)) >> 8
 }
 
-/// What is gained over some units: whole billionths, and 2^64ths of one.
+/// A change of the sine: whole billionths, and 2^-64 of a billionth.
 #[derive(Clone, Copy)]
 struct Gain {
     whole: i64,
     rest: u64,
 }
 
-/// What is gained over `r` units at a slope in 2^64ths.
+/// Returns the change of the sine over `r` units with `slope` in 2^-64 of a billionth per unit.
 fn gain_over(r: u64, slope: i64) -> Gain
     requires part { r < degree }
     requires slope { unsigned_abs slope ≤ 550000000000000000 }
@@ -138,7 +141,7 @@ fn gain_over(r: u64, slope: i64) -> Gain
     }
 }
 
-/// So many 2^64ths, rounded down.
+/// Returns `product / 2^64`, rounded down.
 fn whole_of(product: i128) -> i64
     requires { unsigned_abs product ≤ 330000000000000000000000000 }
     ensures value { result ≡ int_shr product 64 }
@@ -147,7 +150,7 @@ fn whole_of(product: i128) -> i64
     (product >> 64) as i64
 }
 
-/// What so many 2^64ths are past the whole.
+/// Returns `product - whole * 2^64`.
 fn rest_of(product: i128, whole: i64) -> u64
     requires size { unsigned_abs product ≤ 330000000000000000000000000 }
     requires whole { whole ≡ int_shr product 64 }
@@ -156,7 +159,7 @@ fn rest_of(product: i128, whole: i64) -> u64
     (product - scaled(whole)) as u64
 }
 
-/// So many wholes in 2^64ths.
+/// Returns `whole * 2^64`.
 fn scaled(whole: i64) -> i128
     requires { unsigned_abs whole ≤ 18000000 }
     ensures { result ≡ whole *ℤ pos (2 ^ 64) }

@@ -1,4 +1,4 @@
--- What a draft makes of the lines of a file from some line on, comments and lines of white space among them.
+-- The result of a parser state over the lines of a file from some line on, skipped lines included.
 use Rattle.std.proofs.Common.{◌≡◌, ℕ, zero, suc, ◌+◌, ◌<◌, ◌≤◌, Bool, true, false, cond, ltb, List, [], ◌∷◌, length, drop, Option, Some, None, Result, Ok, Err, refl, ap, ◌∙◌, add-zero, arith}
 use Rattle.std.specs.Prelude.{not, ◌&&◌, ◌||◌}
 use Rattle.std.specs.List.{list_all}
@@ -41,7 +41,7 @@ resume_line d n text texts h =
     [ true ↦ refl | false ↦ of_blank (is_too_long text) (list_all is_blank (without_cr text)) (step d n text ls h) ] in
     any (is_comment text)
 
--- ---- where no line is left
+-- ---- no line is left
 
 abbrev pub left_with : Option Book → Left
 left_with (Some b) = Ok b
@@ -84,7 +84,7 @@ finished_is : (n : ℕ) (o : Option Book) → cut_short n (left_with o) ≡ fini
 finished_is n (Some b) = refl
 finished_is n None = refl
 
--- ---- the answer over the lines from some line on
+-- ---- the result over the lines from some line on
 
 unfoldable pub answer : Draft → ℕ → List (List ℕ) → Result Book At
 answer d n texts = cut_short (n + length texts) (resume d (kept (numbered n texts)))

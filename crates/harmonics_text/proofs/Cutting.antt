@@ -1,4 +1,4 @@
--- Where the first token ends.
+-- The end of the first token.
 use Rattle.std.proofs.Common.{◌≡◌, ℕ, suc, ◌+◌, ◌-◌, ◌<◌, ◌≤◌, Bool, true, false, cond, ltb, List, [], ◌∷◌, length, take, drop, Option, Some, None, refl, sym, ap, ◌∙◌, arith}
 use Rattle.std.specs.Prelude.{not, filter, position, unwrap_or}
 use Rattle.std.specs.List.{onto_first, slice_split, position_or_len}
@@ -9,7 +9,7 @@ use Rattle.harmonics_text.specs.Rules.{is_colon, two_digits_of, minutes_of, cloc
 use Rattle.std.proofs.lemmas.List.Sums.{prefix_len-le-length}
 use Rattle.harmonics_text.specs.Lines.{is_blank, is_visible, is_filled, tokens, trimmed, without_blank_end}
 
--- ---- what `position` says
+-- ---- the results of `position`
 
 chosen : (b : Bool) (n k : ℕ) → cond b (Some n) None ≡ Some k → (b ≡ true) × (n ≡ k)
 chosen true n k e = (refl, cc)
@@ -99,7 +99,7 @@ starts_visible (b ∷ bs) lt =
     elim (is_blank b) as (λ t. is_blank b ≡ t → (cond (not (not t)) (1 + n) 0 < 1 + length bs) → 0 < position_or_len is_blank (drop (cond (not (not t)) (1 + n) 0) (b ∷ bs)))
     [ true ↦ λ h l. rw e (starts_visible bs (omega (arith, l))) | false ↦ λ h l. rw h (omega arith) ] refl (omega (arith, lt))
 
--- ---- as the code cuts
+-- ---- the cuts of the code
 
 pub token_none : (xs : List ℕ) → position is_visible xs ≡ None → tokens xs ≡ []
 token_none xs e = tokens_none xs (position_none is_visible xs e)

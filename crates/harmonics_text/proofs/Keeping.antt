@@ -1,4 +1,4 @@
--- What is kept between two pieces, and what more bytes make of it, however they are cut.
+-- The state between two pieces, and the effect of further bytes, wherever these are cut.
 use Rattle.std.proofs.Common.{◌≡◌, ℕ, suc, ◌+◌, ◌≤◌, true, false, cond, List, [], ◌∷◌, ◌++◌, length, length-append, ◌≢◌, Result, Ok, Err, refl, sym, ap, subst, ◌∙◌, append_assoc, add-zero, arith}
 use Rattle.std.specs.Prelude.{codes, MatchResult}
 use Rattle.std.specs.Result.{result_and}
@@ -24,7 +24,7 @@ use Rattle.harmonics_text.proofs.Ranges.{bind_ok}
 use Rattle.harmonics_text.proofs.Sound.{line_sound}
 use Rattle.harmonics_text.proofs.Pieces.{by_lines, ended_none, ended_first, pending_none, pending_first}
 
--- ---- what is kept of a line
+-- ---- the kept bytes of a line
 
 pub held_line : (d : Draft) (line : List ℕ) → (held line >>= after_line d) ≡ after_line d line
 unfolding after_line
@@ -49,7 +49,7 @@ kept_is j k e = cc
 long_more : (z l : List ℕ) → is_too_long z ≡ true → is_too_long (z ++ l) ≡ true
 long_more z l e = lt-ltb 4096 (length (z ++ l)) (omega (arith, ltb-true 4096 (length z) e, length-append z l))
 
--- bytes more of a line that is too long
+-- further bytes of a line that is too long
 held_long : (z l : List ℕ) (why : Why) → held z ≡ Err why → held (z ++ l) ≡ Err why
 held_long [] l why e = absurd cc
 held_long (b ∷ bs) l why e =
@@ -59,7 +59,7 @@ held_long (b ∷ bs) l why e =
           [ true ↦ λ o h. rw (long_more (b ∷ bs) l o) h | false ↦ λ o h. absurd cc ] refl
     ] e
 
--- bytes more of what is kept are as good
+-- further bytes of a line can be appended to its kept bytes
 held_more : (z l begun : List ℕ) → held z ≡ Ok begun → held (begun ++ l) ≡ held (z ++ l)
 held_more [] l begun e = rw (← kept_is [] begun e) refl
 held_more (b ∷ bs) l begun e =
@@ -106,7 +106,7 @@ with_last d n z none = rw (ended_none z none, pending_none z none, add-zero n) r
 abbrev pub then_bytes : List ℕ → Progress → Result Progress At
 then_bytes r p = with_bytes p.draft p.number r
 
--- with a line that has ended
+-- the state after a line that has ended
 unfoldable pub with_line : Draft → ℕ → List ℕ → Total
 with_line d n line = on_line n (after_line d line) >>= λ e. Ok (record { draft = e; number = n + 1; pending = [] })
 
@@ -120,7 +120,7 @@ with_first d n z r none =
     ≡ ((s >>= λ (e : Draft). Ok (record { draft = e; number = n + 1; pending = [] })) >>= then_bytes r)) [ Ok e ↦ refl | Err at ↦ refl ] in
     rw (ended_first z r none, pending_first z r, shift) (go (on_line n (after_line d z)))
 
--- of the begin of their first line only what is kept counts
+-- of the begin of the first line only the kept bytes matter
 with_held : (d : Draft) (n : ℕ) (z : List ℕ) → has_lf z ≡ false → (ys : List ℕ) → with_bytes d n (z ++ ys) ≡ (on_line n (held z) >>= λ begun. with_bytes d n (begun ++ ys))
 unfolding with_pending with_line
 with_held d n z none =
@@ -137,7 +137,7 @@ with_held d n z none =
       | Err why ↦ λ e. rw (after_long d z l why e) refl
     ] refl))
 
--- ---- however the bytes are cut
+-- ---- wherever the bytes are cut
 
 abbrev and_on : List ℕ → Progress → Result Progress At
 and_on ys p = with_bytes p.draft p.number (p.pending ++ ys)
@@ -153,7 +153,7 @@ in_pieces ys =
     (λ z none d n. with_held d n z none ys ∙ bind_assoc (on_line n (held z)) (begins d n) (and_on ys) _ (λ begun. refl) ∙ ap (λ (r : Result Progress At). r >>= and_on ys) (sym (with_last d n z none)))
     (λ z r none rest d n. rw (append_assoc z (10 ∷ r) ys) (with_first d n z (r ++ ys) none ∙ bind_assoc (with_line d n z) (then_bytes r) (and_on ys) (then_bytes (r ++ ys)) (λ p. rest p.draft p.number) ∙ ap (λ (s : Result Progress At). s >>= and_on ys) (sym (with_first d n z r none))))
 
--- ---- what holds between two pieces
+-- ---- the invariant between two pieces
 
 pub on_ok : {A : Type 0} (n : ℕ) (r : Result A Why) (x : A) → on_line n r ≡ Ok x → r ≡ Ok x
 on_ok n (Ok y) x e = cc
@@ -196,7 +196,7 @@ progress_pending xs d n p e =
     let k = bind_ok (on_line m (held (pending_line xs))) _ p b.2 in
     on_ok m (held (pending_line xs)) k.0 k.1 ∙ ap (λ (q : Progress). kept_as q.pending) (at_is _ p k.2)
 
--- ---- as the code goes
+-- ---- the steps of the code
 
 line_is : (d : Draft) (n : ℕ) (line rest : List ℕ) (r : Result Draft Why) → has_lf line ≡ false → after_line d line ≡ r → with_bytes d n (line ++ 10 ∷ rest) ≡ ((on_line n r >>= λ (e : Draft). at (record { draft = e; number = n + 1; pending = [] })) >>= then_bytes rest)
 unfolding with_line
@@ -217,7 +217,7 @@ piece_rest d n begun rest r none last gives =
     let no : has_lf (begun ++ rest) ≡ false = rw (list_any-append, none, last) refl in
     subst (GivesAt r) (sym (with_last d n (begun ++ rest) no)) gives
 
--- a line with its last bytes, kept with those before them or as it stands in the piece
+-- a line with its last bytes, after its kept bytes or as it is in the piece
 abbrev ended_as : List ℕ → List ℕ → Result (List ℕ) Why
 ended_as begun last = cond (is_filled begun) (held (begun ++ last)) (kept_as [])
 
@@ -255,7 +255,7 @@ end_fails d n (b ∷ bs) piece last rest (lines.Bad why) none cut_is fails =
     let bad : after_line d (b ∷ bs ++ last) ≡ Err why = sym (held_line d (b ∷ bs ++ last)) ∙ rw fails refl in
     rw (cut_is.0, ← append_assoc (b ∷ bs) last (10 ∷ rest)) (line_is d n (b ∷ bs ++ last) rest (Err why) both bad)
 
--- where the file ends in a line
+-- the file ends in a line
 
 abbrev complete : Progress → Result Book At
 complete q = finished q.number (book_in q.draft)

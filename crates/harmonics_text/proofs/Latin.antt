@@ -71,7 +71,7 @@ name_other latin name rest i lt byte e so_far =
     rw (drop_more latin i 0 lt, utf8_is (get_or latin i 0) byte) (without_lost (utf8_byte_or_two (get_or latin i 0)) rest (encode_utf8_all (drop (i + 1) latin)) e) in
     sym one ∙ so_far
 
--- where all characters are found, nothing may be left
+-- if all characters are found, no byte may be left
 pub name_all : (latin name rest : List ℕ) (i : ℕ) (r : Bool) → length latin ≤ i → r ≡ eqb (length rest) 0 → bytes_eq (encode_utf8_all (drop i latin)) rest ≡ bytes_eq (encode_utf8_all latin) name → r ≡ bytes_eq (encode_utf8_all latin) name
 name_all latin name rest i r le e so_far =
     let none : drop i latin ≡ [] = drop_all i latin le in

@@ -1,4 +1,4 @@
--- The lines that have ended and the one that hasn't, where the first LF is known.
+-- The lines that have ended and the one that hasn't, by the first LF.
 use Rattle.std.proofs.Common.{◌≡◌, ℕ, suc, ◌+◌, ◌-◌, ◌<◌, ◌≤◌, Bool, true, false, cond, List, [], ◌∷◌, ◌++◌, length, take, drop, Some, None, refl, sym, ap, subst, ◌∙◌, append_assoc, length-append, zero-add, arith}
 use Rattle.std.specs.Prelude.{not, ◌||◌, reverse, count_by, position}
 use Rattle.std.specs.List.{prefix_len, suffix_len}
@@ -27,7 +27,7 @@ by_lines_from P last line (b ∷ bs) z none =
       | false ↦ λ t. subst P (append_assoc z (b ∷ []) bs) (by_lines_from P last line bs (z ++ b ∷ []) (has_lf-push z b none t))
     ] refl
 
--- what holds of bytes in which no line ends, and of bytes with one line more before them, holds of all bytes
+-- induction over bytes: a property of bytes without LF that is preserved by one more line before them
 pub by_lines : (P : List ℕ → Type 0) → ((z : List ℕ) → has_lf z ≡ false → P z) → ((z r : List ℕ) → has_lf z ≡ false → P r → P (z ++ 10 ∷ r)) → (xs : List ℕ) → P xs
 by_lines P last line xs = by_lines_from P last line xs [] refl
 
@@ -76,7 +76,7 @@ pub length-ended : (bytes : List ℕ) → length (ended_lines bytes) ≤ length 
 unfolding ended_lines
 length-ended bytes = omega (arith, length-take (count_by is_lf bytes) (cut bytes), count_by-le-length is_lf bytes)
 
--- ---- the line that hasn't
+-- ---- the line that hasn't ended
 
 abbrev is_other : ℕ → Bool
 is_other b = not (is_lf b)
@@ -112,7 +112,7 @@ pending_first z r =
     let at : length (z ++ 10 ∷ r) - n ≡ length (z ++ 10 ∷ []) + (length r - n) = omega (arith, length-append z (10 ∷ r), length-append z (10 ∷ [])) in
     rw (suffix_first z r, at, ← append_assoc z (10 ∷ []) r) (drop-append-add (z ++ 10 ∷ []) r (length r - n))
 
--- ---- as the code cuts
+-- ---- the cuts of the code
 
 no_lf : (xs : List ℕ) → length xs ≤ prefix_len is_other xs → has_lf xs ≡ false
 no_lf [] le = refl

@@ -1,4 +1,4 @@
--- What a rule reads lies in its range.
+-- The value that a rule reads is in its range.
 use Rattle.std.proofs.Common.{◌≡◌, ℕ, ℤ, pos, negsuc, neg_ℤ, ◌+◌, ◌*◌, ◌≤◌, Bool, true, false, cond, ltb, leb, List, [], ◌∷◌, length, get_or, Option, Some, None, Result, Ok, Err, All, refl, sym, arith, encode_utf8_all}
 use Rattle.std.specs.Prelude.{◌&&◌, ◌||◌, int_lt}
 use Rattle.std.specs.List.{list_all, position_or_len, before_first, after_first}

@@ -1,4 +1,4 @@
--- What is kept between two pieces is what all bytes so far make, and it holds their fault and their book.
+-- The state between two pieces is that of all bytes so far, and determines their fault and their book.
 use Rattle.std.proofs.Common.{◌≡◌, ℕ, suc, ◌+◌, ◌≤◌, true, false, cond, ltb, List, [], ◌∷◌, ◌++◌, length, Option, Some, None, Result, Ok, Err, refl, sym, ap, subst, ◌∙◌, add-zero, arith}
 use Rattle.std.specs.Prelude.{codes}
 use Rattle.std.specs.Result.{IfOk, result_err}
@@ -36,7 +36,7 @@ after_lines_sound (l ∷ ls) d e n sound is =
     let b = bind_ok (on_line n (after_line d l)) _ e is in
     after_lines_sound ls b.0 e (n + 1) (line_sound d b.0 l sound (on_ok n (after_line d l) b.0 b.1)) b.2
 
--- the fault of what is left after some lines, or theirs
+-- the fault of the lines after some lines, or of these
 abbrev fault_after : List (List ℕ) → ℕ → Result Draft At → Option At
 fault_after ms m (Ok e) = fault_in (resume e (kept (numbered m ms)))
 fault_after ms m (Err fault) = Some fault
@@ -51,7 +51,7 @@ parts (l ∷ ls) ms d n sound =
     [ Ok e ↦ λ is. parts ls ms e (n + 1) (line_sound d e l sound is) | Err why ↦ λ is. refl ] in
     rw shift (ap fault_in (resume_line d n l (ls ++ ms) sound) ∙ go (after_line d l) refl)
 
--- a line that hasn't ended is judged where it is too long
+-- a line that hasn't ended is judged if it is too long
 judged_last : (e : Draft) (m : ℕ) (line : List ℕ) → IsDraft e → fault_in (resume e (kept (numbered m (cond (ltb 4096 (cond (is_comment line) 0 (length line))) (line ∷ []) [])))) ≡ result_err (with_pending e m line)
 unfolding with_pending numbered kept
 judged_last e m line sound =

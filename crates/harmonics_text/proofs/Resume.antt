@@ -1,4 +1,5 @@
--- What a draft makes of the lines that are left: the parts of the file that are still to come, in order.
+-- The result of a parser state over the lines that are left: the parts of the file still to come, in
+-- order.
 use Rattle.std.proofs.Common.{◌≡◌, ℕ, ℤ, suc, ◌-◌, List, [], ◌∷◌, ◌++◌, length, drop, Option, Result, Ok, refl, arith}
 use Rattle.std.specs.Prelude.{if◌then◌else◌, nat_lt}
 use Rattle.harmonics_text.specs.declared.book.Constituent.{Constituent}
@@ -96,7 +97,7 @@ resume (drafts.Stations b r) ls = resume_record b r ls
 minus_none : (n : ℕ) → n - 0 ≡ n
 minus_none n = omega arith
 
--- the whole file is what the empty draft makes of its lines
+-- the result of a file is that of the empty state over its lines
 pub resume_is_book : (ls : List Line) → resume drafts.Count ls ≡ book ls
 unfolding resume resume_count resume_constituents resume_first_year resume_years resume_first_end resume_years_again resume_second_end resume_stations book
 resume_is_book ls = rw (minus_none most_stations) refl

@@ -1,4 +1,4 @@
--- What holds of a draft holds of the draft after one more line.
+-- The invariant of a parser state is preserved by one more line.
 use Rattle.std.proofs.Common.{◌≡◌, ℕ, ℤ, pos, negsuc, zero, suc, ◌+◌, ◌*◌, ◌<◌, ◌≤◌, Bool, true, false, cond, leb, List, [], ◌∷◌, ◌++◌, length, length-append, Result, Ok, Err, All, refl, inl, inr, ap, ◌∙◌, arith}
 use Rattle.std.specs.List.{list_all}
 use Rattle.std.proofs.lemmas.Bool.{cases_lt, lt-ltb, le-ltb, leb-false, ne_eqb}
@@ -37,7 +37,7 @@ values_sound s (suc left) values (token ∷ more) v all e =
 
 -- ---- tables
 
--- a table after values at a place of which so many are still to come
+-- a table after values of a constituent of which `left` are still to come
 table_at : (s : Scale) (h : Heading) (place left : ℕ) (values : List ℤ) → place < length h.constituents → length values + left ≡ place * h.years + h.years → All (IsWithin (least_of s) (most_of s)) values
     → IsTable (least_of s) (most_of s) (length h.constituents) h.years (record { place = at_place left place; left = left; values = values })
 table_at s h place zero values lt count all = record {

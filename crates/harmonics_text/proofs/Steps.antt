@@ -1,4 +1,4 @@
--- A draft and one more line: what is left of the file is the same as before.
+-- One more line doesn't change the result over a parser state and the lines left.
 use Rattle.std.proofs.Common.{◌≡◌, ℕ, ℤ, zero, suc, ◌-◌, ◌<◌, ◌≤◌, Bool, true, false, cond, ltb, leb, eqb, List, [], ◌∷◌, ◌++◌, length, drop, get_or, Option, Some, Result, Ok, Err, refl, inl, inr, length-append, sym, ap, subst, ◌∙◌, arith, add-one}
 use Rattle.std.proofs.Math.Seq.{drop-cons}
 use Rattle.std.proofs.lemmas.List.{drop_all}
@@ -26,12 +26,12 @@ use Rattle.harmonics_text.specs.Reading.{At, at_line, checked, one, constituents
 use Rattle.harmonics_text.specs.Workings.Drafts.{IsDraft, new_book, station_of, with_constituents, with_angles, with_factors, with_pair, after_count, after_constituent, after_years, after_values, after_name, after_table_line, after_angles, after_years_again, after_factors, after_nothing, after_pair, after_record, after_text, at_place, new_table}
 use Rattle.harmonics_text.proofs.Resume.{Left, with_stations, resume_stations, resume_second_end, resume_years_again, resume_first_end, resume_years, resume_first_year, resume_constituents, resume_count, rest_of_table, resume_angles, resume_factors, station_then, constants_then, local_time_then, name_then, resume_record, resume}
 
--- the next draft with the other lines, or the fault at this line
+-- the next state with the other lines, or the fault at this line
 abbrev pub follow : ℕ → List Line → Result Draft Why → Left
 follow n ls (Ok d) = resume d ls
 follow n ls (Err why) = Err (Some (record { line = n; why = why }))
 
--- a rule over the line, and then a draft for its value
+-- a rule over the line, and then a state for its value
 pub one_then : {A : Type 0} (rule : List ℕ → Result A Why) (n : ℕ) (text : List ℕ) (ls : List Line) (k : A × List Line → Left) (d : A → Draft) → ((x : A) → k (x, ls) ≡ resume (d x) ls)
     → (one rule (record { number = n; text = text } ∷ ls) >>= k) ≡ follow n ls (checked (λ t. rule t >>= λ x. Ok (d x)) text)
 one_then {A} rule n text ls k d h =
@@ -95,7 +95,7 @@ values_then s h place (suc left) done ls =
 
 -- ---- a table
 
--- the table after a name or values, where the draft goes on with it
+-- the table after a name or values, if the state continues with it
 abbrev GoesOn : Scale → Heading → (List ℤ × List Line → Left) → (Table → Draft) → Type 0
 GoesOn s h k d = (t : Table) (ls : List Line) → (1 ≤ t.left → t.place < length h.constituents) → (rest_of_table s h t ls >>= k) ≡ resume (d t) ls
 
@@ -170,7 +170,7 @@ factors_on h angles t ls open_place =
       | inr le ↦ rw (le-ltb t.place (length h.constituents) le, whole Factor h t ls le open_place) refl
     ]
 
--- a table with nothing read
+-- a table before any line
 table_starts : (s : Scale) (h : Heading) (ls : List Line) → rest_of_table s h new_table ls ≡ table s h.years h.constituents [] ls
 unfolding rest_of_table
 table_starts s h ls = refl
@@ -264,7 +264,7 @@ step_record b (records.Name name) n text ls h = step_name_of_station b name n te
 step_record b (records.LocalTime name place) n text ls h = step_local_time b name place n text ls
 step_record b (records.Constants c) n text ls h = step_constants b c n text ls h.1.1.some_left
 
--- ---- any draft
+-- ---- any state
 
 pub step : (d : Draft) (n : ℕ) (text : List ℕ) (ls : List Line) → IsDraft d → resume d (line n text ∷ ls) ≡ follow n ls (checked (after_text d) text)
 unfolding resume resume_record resume_count resume_first_year resume_years resume_angles resume_first_end resume_years_again resume_factors resume_second_end after_text after_count after_years after_angles after_years_again after_factors

@@ -50,7 +50,7 @@ values_fail s (suc left) values token more why some e =
     [ Ok n ↦ λ k. absurd cc | Err other ↦ λ k. cc ] in
     go (number_of s token) e
 
--- a loop over the tokens ends with this
+-- the end of a loop over the tokens
 pub values_end : (s : Scale) (t : Table) (text : List ℕ) (left : ℕ) (values : List ℤ) (rest : List ℕ) → values_from s left values (tokens rest) ≡ values_from s t.left t.values (tokens text) → tokens rest ≡ [] → after_values s t text ≡ Ok (record { place = at_place left t.place; left = left; values = values })
 unfolding after_values values_from
 values_end s t text left values rest so_far none =
@@ -85,7 +85,7 @@ pub pair_added : (b : Book) (c : Constants) (text name : List ℕ) (p : ℤ × �
 unfolding after_pair unnamed
 pair_added b c text name p amplitude epoch name_is e a_is e_is = rw (← name_is, e, a_is, e_is) refl
 
--- a pair that is not the station's last
+-- a pair that isn't the station's last
 pub pair_within : (d : Draft) (b : Book) (r : Record) (c new : Constants) (text : List ℕ) (result : Result (Unit {0}) LineFault) → d ≡ drafts.Stations b r → r ≡ records.Constants c → length c.amplitude + 1 < length b.constituents → IfOk result (λ _. length new.amplitude ≡ length c.amplitude + 1)
     → Follows (λ _. with_pair b new) result (after_pair b c text) → Follows (λ _. drafts.Stations b (records.Constants new)) result (after_text d text)
 unfolding after_text after_record
@@ -98,6 +98,6 @@ pub absent_pair : (name text : List ℕ) → bytes_eq text (codes "x 0 0") ≡ t
 unfolding pair_of pair_from tokens number_of in_scale read_of decimal_of after_point made_of scaled scaled_or_bad
 absent_pair name text e = rw ((bytes_eq-Decides text (codes "x 0 0")).0 e) refl
 
--- an element of a list that is lent
+-- an element of a borrowed list
 pub element_is : {A : Type 0} (xs ys : List A) (i j : ℕ) (x d : A) → xs ≡ ys → i ≡ j → j < length ys → get_or xs i x ≡ get_or ys j d
 element_is xs ys i j x d xs_is i_is lt = rw (xs_is, i_is) (get_or_default ys j x d lt)

@@ -1,4 +1,4 @@
--- The worked files, computed.
+-- The example files, computed.
 use lib.Utf8.{encode}
 use Rattle.std.proofs.Common.{◌≡◌, [], ◌∷◌, ◌++◌, codes, pos, negsuc, take, Ok, Err, Some, None, refl}
 use Rattle.std.specs.Prelude.{map, replicate}

@@ -1,10 +1,11 @@
--- What every book meets: the counts, ranges and names that a file of harmonic constants can have (this project).
+-- The validity of a book: the counts, ranges and names that a file of harmonic constants can have (this
+-- project).
 use Rattle.std.specs.Prelude.{◌≡◌, ℕ, ℤ, pos, negsuc, ◌*◌, ◌≤◌, ◌≤ℤ◌, ◌⊎◌, List, length, All, encode_utf8_all}
 use Rattle.harmonics_text.specs.declared.book.Constituent.{Constituent}
 use Rattle.harmonics_text.specs.declared.book.Station.{Station}
 use Rattle.harmonics_text.specs.declared.book.Book.{Book}
 
--- from low to high, both included
+-- x is from low to high, both included
 pub record IsWithin (low high x : ℤ) : Type 0 where
   pub least : low ≤ℤ x
   pub most : x ≤ℤ high
@@ -13,7 +14,7 @@ pub record IsWithin (low high x : ℤ) : Type 0 where
 abbrev pub IsLatinNameByte : ℕ → Type 0
 IsLatinNameByte b = ((32 ≤ b) × (b ≤ 126)) ⊎ ((128 ≤ b) × (b ≤ 255))
 
--- UTF-8 of at most `most` such bytes, and of one at least
+-- a name: UTF-8 of 1 to `most` bytes of ISO 8859-1
 pub record IsName (most : ℕ) (name : List ℕ) : Type 0 where
   pub latin : List ℕ
   pub spelled : name ≡ encode_utf8_all latin
@@ -21,11 +22,12 @@ pub record IsName (most : ℕ) (name : List ℕ) : Type 0 where
   pub short : length latin ≤ most
   pub printable : All IsLatinNameByte latin
 
+-- a constituent: its name and the range of its speed
 pub record IsConstituent (c : Constituent) : Type 0 where
   pub name : IsName 32 c.name
   pub speed : IsWithin (pos 0) (pos 3600000000) c.speed
 
--- a station of a book with that many constituents
+-- a station of a book with `count` constituents
 pub record IsStation (count : ℕ) (s : Station) : Type 0 where
   pub name : IsName 200 s.name
   pub meridian : IsWithin (negsuc 958) (pos 959) s.meridian
@@ -35,6 +37,7 @@ pub record IsStation (count : ℕ) (s : Station) : Type 0 where
   pub epochs : length s.epoch ≡ count
   pub epoch : All (IsWithin (negsuc 7199999999) (pos 7200000000)) s.epoch
 
+-- a valid book: its counts, names and values are in the ranges of a file
 pub record IsBook (b : Book) : Type 0 where
   pub some_constituents : 1 ≤ length b.constituents
   pub few_constituents : length b.constituents ≤ 500

@@ -1,4 +1,5 @@
--- The book of a harmonics file: its parts in order, each of some of the lines that are kept (XTide's text harmonics file; this project).
+-- The book of a harmonics file: its parts in order, each of some lines (XTide's text harmonics file; this
+-- project).
 use Rattle.std.specs.Prelude.{◌≡◌, ℕ, zero, suc, ℤ, ◌+◌, List, [], ◌∷◌, ◌++◌, length, Option, Some, None, Result, Ok, Err, if◌then◌else◌}
 use Rattle.harmonics_text.specs.declared.book.Constituent.{Constituent}
 use Rattle.harmonics_text.specs.declared.book.Station.{Station}
@@ -14,20 +15,22 @@ use Rattle.harmonics_text.specs.Lines.{Line, tokens, cut, numbered, kept, withou
 use Rattle.decimal_text.specs.Expected.{◌>>=◌}
 use Rattle.harmonics_text.specs.Rules.{count_of, constituent_of, first_year_of, named, values_from, end_of, same_count_of, station_name_of, local_time_of, datum_of, pair_of}
 
--- the first fault of a file: a line's number and what is wrong there
+-- the first fault of a file: the number of its line, and the reason
 pub record At : Type 0 where
   pub line : ℕ
   pub why : Why
 
--- a part takes lines from the front; it fails at a line, or (None) because no line is left
+-- a part reads the first of the lines and returns the rest; it fails at a line, or (None) because no line
+-- is left
 abbrev pub Part : Type 0 → Type 0
 Part A = List Line → Result (A × List Line) (Option At)
 
+-- a rule's value, or its fault at line n
 abbrev pub at_line : {A : Type 0} → ℕ → Result A Why → Result A (Option At)
 at_line n (Ok x) = Ok x
 at_line n (Err why) = Err (Some (record { line = n; why = why }))
 
--- a rule over a line; the length is tested first
+-- a rule applied to a line; its length is tested first
 abbrev pub checked : {A : Type 0} → (List ℕ → Result A Why) → List ℕ → Result A Why
 checked rule text = if is_too_long text then Err LineTooLong else rule (without_cr text)
 
@@ -36,19 +39,19 @@ abbrev pub one : {A : Type 0} → (List ℕ → Result A Why) → Part A
 one rule [] = Err None
 one rule (l ∷ ls) = at_line l.number (checked rule l.text) >>= λ x. Ok (x, ls)
 
--- so many constituents after the earlier ones
+-- `left` constituents after the earlier ones
 unfoldable pub constituents : ℕ → List Constituent → Part (List Constituent)
 constituents zero earlier ls = Ok (earlier, ls)
 constituents (suc left) earlier ls = one (constituent_of earlier) ls >>= λ c. constituents left (earlier ++ c.0 ∷ []) c.1
 
--- so many values after the earlier ones, over as many lines as they take
+-- `left` values after the earlier ones, on one line or more
 unfoldable pub values : Scale → ℕ → List ℤ → Part (List ℤ)
 values s zero earlier ls = Ok (earlier, ls)
 values s (suc left) earlier [] = Err None
 values s (suc left) earlier (l ∷ ls) =
     at_line l.number (checked (λ text. values_from s (suc left) earlier (tokens text)) l.text) >>= λ v. values s v.0 v.1 ls
 
--- for each constituent its name on a line, and a value for each year
+-- a table: for each constituent its name on a line, and a value for each year
 unfoldable pub table : Scale → ℕ → List Constituent → List ℤ → Part (List ℤ)
 table s years [] earlier ls = Ok (earlier, ls)
 table s years (c ∷ cs) earlier ls = do
@@ -61,6 +64,7 @@ unfoldable pub pairs : List Constituent → List ℤ → List ℤ → Part (List
 pairs [] amplitude epoch ls = Ok ((amplitude, epoch), ls)
 pairs (c ∷ cs) amplitude epoch ls = one (pair_of c.name) ls >>= λ p. pairs cs (amplitude ++ p.0.0 ∷ []) (epoch ++ p.0.1 ∷ []) p.1
 
+-- one station: its name, local time, datum, and the constants of each constituent
 unfoldable pub station : List Constituent → Part Station
 station cs ls = do
   name ← one station_name_of ls
@@ -73,13 +77,13 @@ station cs ls = do
 unfoldable pub most_stations : ℕ
 most_stations = 20000
 
--- stations to the end of the file after the earlier ones, and no more than so many
+-- the stations up to the end of the file, at most `left` after the earlier ones
 unfoldable pub stations : ℕ → List Constituent → List Station → List Line → Result (List Station) (Option At)
 stations left cs earlier [] = Ok earlier
 stations zero cs earlier (l ∷ ls) = at_line l.number (checked (λ text. Err TooManyStations) l.text)
 stations (suc left) cs earlier (l ∷ ls) = station cs (l ∷ ls) >>= λ s. stations left cs (earlier ++ s.0 ∷ []) s.1
 
--- the ten parts
+-- the ten parts of a file
 unfoldable pub book : List Line → Result Book (Option At)
 book ls = do
   count ← one count_of ls
@@ -94,21 +98,22 @@ book ls = do
   all ← stations most_stations cs.0 [] second_end.1
   Ok (record { constituents = cs.0; first_year = first_year.0; years = years.0; angles = angles.0; factors = factors.0; stations = all })
 
--- where a part wants a line and none is left, the file is cut short one past its last line
+-- a part that requires a line and finds none fails with CutShort at the line after the last
 abbrev pub cut_short : {A : Type 0} → ℕ → Result A (Option At) → Result A At
 cut_short end (Ok x) = Ok x
 cut_short end (Err None) = Err (record { line = end; why = CutShort })
 cut_short end (Err (Some fault)) = Err fault
 
--- the book that a file's bytes hold, or its first fault
+-- the book that a file's bytes contain, or its first fault
 unfoldable pub book_of : List ℕ → Result Book At
 book_of bytes = let lines = cut bytes in cut_short (1 + length lines) (book (kept (numbered 1 lines)))
 
--- What a call returned is what the definition gives, unless memory ran out.
+-- A returned error is the fault of the definition, unless it is out of memory.
 abbrev pub FailsBook : BookFault → Result Book At → Type 0
 FailsBook NoMemory read = Unit {0}
 FailsBook (faults.At line why) read = read ≡ Err (record { line = line; why = why })
 
+-- A result is the book or the fault of the definition, unless it is out of memory.
 abbrev pub GivesBook : Result Book BookFault → Result Book At → Type 0
 GivesBook (Ok b) read = read ≡ Ok b
 GivesBook (Err e) read = FailsBook e read

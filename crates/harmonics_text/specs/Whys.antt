@@ -1,8 +1,9 @@
--- The numbers and the words of what can be wrong with a line (this project).
+-- The numbers and the texts of the faults of a line (this project).
 use Rattle.std.specs.Prelude.{ℕ, List, codes}
 use Rattle.harmonics_text.specs.declared.fault.Why.{Why}
 use Rattle.harmonics_text.specs.declared.fault.Why.TheVariants.{BadCount, BadName, BadNumber, TooFine, OutOfRange, YearsDiffer, WrongConstituent, NoEnd, BadMeridian, BadUnits, CutShort, TooManyStations, LineTooLong}
 
+-- the number of each reason
 abbrev pub number_of : Why → ℕ
 number_of BadCount = 1
 number_of BadName = 2
@@ -18,6 +19,7 @@ number_of CutShort = 11
 number_of TooManyStations = 12
 number_of LineTooLong = 13
 
+-- the printed text of each reason
 abbrev pub text_of : Why → List ℕ
 text_of BadCount = codes "bad count"
 text_of BadName = codes "bad name"

@@ -1,21 +1,23 @@
--- A small file, what it holds, and its faults where one line is another (this project).
+-- A small file, its book, and the faults of changed copies (this project).
 use Rattle.std.specs.Prelude.{ℕ, ◌-◌, pos, List, [], ◌∷◌, ◌++◌, codes, slice_set}
 use Rattle.harmonics_text.specs.declared.book.Book.{Book}
 use Rattle.harmonics_text.specs.declared.book.Units.TheVariants.{Feet}
 use Rattle.harmonics_text.specs.declared.fault.Why.{Why}
 use Rattle.harmonics_text.specs.declared.fault.Why.TheVariants.{BadCount, BadName, BadNumber, TooFine, OutOfRange, YearsDiffer, WrongConstituent, NoEnd, BadMeridian, BadUnits}
 
+-- the lines of a file with one constituent and one station
 abbrev pub pier_lines : List (List ℕ)
 pier_lines =
     codes "# Pier test" ∷ codes "1" ∷ codes "S2 30.0000000" ∷ codes "1999" ∷ codes "3"
     ∷ codes "S2" ∷ codes "0 0 0" ∷ codes "*END*" ∷ codes "3" ∷ codes "S2" ∷ codes "1 1 1" ∷ codes "*END*"
     ∷ codes "Pier" ∷ codes "0:00 :UTC" ∷ codes "0 feet" ∷ codes "S2 1 0" ∷ []
 
--- each line with its LF
+-- the lines, each with its LF
 abbrev pub file_of : List (List ℕ) → List ℕ
 file_of [] = []
 file_of (line ∷ lines) = line ++ 10 ∷ file_of lines
 
+-- the book of that file
 abbrev pub pier_book : Book
 pier_book = record {
   constituents = record { name = codes "S2"; speed = pos 300000000 } ∷ [];
@@ -26,7 +28,7 @@ pier_book = record {
   stations = record { name = codes "Pier"; meridian = pos 0; zone = codes "UTC"; datum = pos 0; units = Feet; amplitude = pos 1000000 ∷ []; epoch = pos 0 ∷ [] } ∷ [];
 }
 
--- another text for a line, and the fault that comes of it
+-- another text for one line, and the fault of the changed file
 pub record Change : Type 0 where
   pub line : ℕ
   pub text : List ℕ
@@ -36,9 +38,11 @@ pub record Change : Type 0 where
 abbrev pub change : ℕ → List ℕ → ℕ → Why → Change
 change line text at why = record { line = line; text = text; at = at; why = why }
 
+-- the file with one line changed
 abbrev pub pier_with : Change → List ℕ
 pier_with c = file_of (slice_set pier_lines (c.line - 1) c.text)
 
+-- a changed line for each fault
 abbrev pub changes : List Change
 changes =
     change 2 (codes "0") 2 BadCount

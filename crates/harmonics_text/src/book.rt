@@ -1,14 +1,14 @@
-//! What a file of harmonic constants holds.
+//! The content of a file of harmonic constants.
 
 use crate::lists::{Constituents, Stations};
 use decimal_text::{Numbers, Text};
 
-/// A tidal constituent, as M2.
+/// A tidal constituent, such as M2.
 #[derive(Debug, Drop)]
 pub struct Constituent {
-    /// At most 32 characters, none of them white space.
+    /// The name: from 1 to 32 characters, none of them white space.
     pub name: Text,
-    /// In ten-millionths of a degree per hour, from 0 to 3,600,000,000.
+    /// The speed in ten-millionths of a degree per hour, from 0 to 3,600,000,000.
     pub speed: i64,
 }
 
@@ -18,25 +18,26 @@ pub enum Units {
     Feet,
     Meters,
     Knots,
-    /// Of a hydraulic current, whose speed is the root of what the constants give.
+    /// The unit of a hydraulic current, whose speed is the square root of the predicted value.
     KnotsSquared,
 }
 
-/// A reference station and its harmonic constants.
+/// A reference station with its harmonic constants.
 #[derive(Debug, Drop)]
 pub struct Station {
-    /// From 1 to 200 characters.
+    /// The name, from 1 to 200 characters.
     pub name: Text,
-    /// In minutes east of Greenwich, from -959 to 959.
+    /// The meridian in minutes east of Greenwich, from -959 to 959.
     pub meridian: i32,
-    /// The name of its time zone. It may be empty, and nothing is computed from it.
+    /// The name of the time zone, which may be empty; no computation uses it.
     pub zone: Text,
-    /// In millionths of the unit, from -10,000,000,000 to 10,000,000,000.
+    /// The mean level in millionths of the unit, from -10,000,000,000 to 10,000,000,000.
     pub datum: i64,
     pub units: Units,
-    /// One for each constituent, in millionths of the unit, from -10,000,000,000 to 10,000,000,000.
+    /// The amplitude of each constituent, in millionths of the unit, from -10,000,000,000 to
+    /// 10,000,000,000.
     pub amplitude: Numbers,
-    /// One for each constituent, in ten-millionths of a degree, from -7,200,000,000 to
+    /// The epoch of each constituent, in ten-millionths of a degree, from -7,200,000,000 to
     /// 7,200,000,000.
     pub epoch: Numbers,
 }
@@ -44,17 +45,17 @@ pub struct Station {
 /// The content of a file of harmonic constants.
 #[derive(Debug, Drop)]
 pub struct Book {
-    /// From 1 to 500.
+    /// From 1 to 500 constituents.
     pub constituents: Constituents,
-    /// From 2 to 8800.
+    /// The first year of the tables, from 2 to 8800.
     pub first_year: i32,
-    /// How many years it has, from 1 to 500.
+    /// The number of years of the tables, from 1 to 500.
     pub years: u32,
-    /// The equilibrium arguments at the begin of each year: constituent by constituent, a value for
-    /// each year. In ten-millionths of a degree, from -7,200,000,000 to 7,200,000,000.
+    /// The equilibrium arguments at the start of each year, constituent by constituent, a value for each
+    /// year: in ten-millionths of a degree, from -7,200,000,000 to 7,200,000,000.
     pub angles: Numbers,
-    /// The node factors in the same order, in millionths, from 0 to 10,000,000.
+    /// The node factors in the order of `angles`, in millionths, from 0 to 10,000,000.
     pub factors: Numbers,
-    /// At most 20,000.
+    /// At most 20,000 stations.
     pub stations: Stations,
 }

@@ -1,4 +1,4 @@
-//! A file of harmonic constants that comes in pieces.
+//! Reading a file of harmonic constants in pieces.
 
 ghost use Rattle.std.specs.Prelude.{◌≡◌, ◌+◌, ◌^◌, ◌++◌, ◌<◌, ◌≤◌, [], length, if◌then◌else◌, is_none, IfOk, IfSome, None};
 ghost use Rattle.std.specs.Result.{result_err};
@@ -14,17 +14,17 @@ use crate::progress::Progress;
 use std::alloc::{AllocError, Global};
 use std::marker::Model;
 
-/// Reads a file in pieces, which may be cut anywhere, within a comment or before a line's last byte
-/// too. It keeps no bytes but those of the line that has not ended, which are at most 4,096.
+/// A reader of a file that comes in pieces, which may be cut anywhere, also within a comment or before
+/// the last byte of a line. It keeps only the bytes of the line that has not ended, at most 4,096.
 ///
-/// Contracts see it as the bytes that it was fed and the fault that it answered, if one was. All
+/// In contracts its value is the bytes that it was fed, and the fault that it returned, if any. All
 /// pieces together have at most 400,000,000 bytes.
 #[derive(Drop)]
 pub struct BookReader {
     alloc: Global,
-    /// How far the file is read, up to the fault.
+    /// The parser state after the bytes so far, up to the fault.
     progress: Progress,
-    /// The fault that was answered.
+    /// The fault that was returned, if any.
     fault: Option<BookFault>,
     history: History,
 }
@@ -41,7 +41,10 @@ impl Model for BookReader {
 }
 
 impl BookReader {
-    /// A reader that was fed nothing.
+    /// Returns a reader that was fed no byte.
+    ///
+    /// # Errors
+    /// [`AllocError`] if memory runs out.
     pub fn new(alloc: Global) -> Result<BookReader, AllocError>
         ensures { IfOk result (λ r. r ≡ record { bytes = []; fault = None }) }
     {
@@ -54,10 +57,12 @@ impl BookReader {
         })
     }
 
-    /// Reads a piece more.
+    /// Reads `piece`, the next bytes of the file.
     ///
-    /// `At` names the first line that is bad, as soon as its last byte has come, or more bytes of it
-    /// than a line may have. A fault stays: each later call answers it again.
+    /// # Errors
+    /// [`BookFault::At`] with the first line that is bad, as soon as its last byte has come, or more
+    /// bytes than a line may have; [`BookFault::NoMemory`] if memory runs out. Each later call returns
+    /// the same fault.
     pub fn feed(&mut self, piece: &[u8]) -> Result<(), BookFault>
         requires { length self.old.bytes + length piece.now ≤ MOST_BYTES }
         ensures fed { self.new.bytes ≡ self.old.bytes ++ piece.now }
@@ -74,7 +79,10 @@ impl BookReader {
         read
     }
 
-    /// The book of all bytes that it was fed, or their first fault.
+    /// Returns the book of all bytes that the reader was fed.
+    ///
+    /// # Errors
+    /// The [`BookFault`] that a call of [`BookReader::feed`] returned, or that the end of the file shows.
     pub fn finish(self) -> Result<Book, BookFault>
         ensures exact { GivesBook result (book_of self.bytes) }
         ensures again { IfSome self.fault (λ fault. result ≡ Err fault) }
@@ -93,7 +101,7 @@ impl BookReader {
         read.and(progress.into_book())
     }
 
-    /// How many bytes the line that has not ended has so far: at most 4,096, and 0 within a comment
+    /// Returns the number of bytes of the line that has not ended: at most 4,096, and 0 within a comment
     /// or after a fault.
     pub fn pending(&self) -> u32
         ensures exact { result ≡ (if is_none self.now.fault then pending_length self.now.bytes else 0) }

@@ -1,4 +1,4 @@
-//! A list of numbers that grows as it is read.
+//! A list of numbers that grows while a file is read.
 
 ghost use Rattle.std.specs.Prelude.{◌≡◌, [], ◌∷◌, ◌++◌, length, IfOk, OnOk};
 
@@ -6,7 +6,7 @@ use decimal_text::Numbers;
 use std::alloc::{AllocError, Global};
 use std::marker::Model;
 
-/// The numbers so far. Contracts see them as a list.
+/// The numbers read so far. In contracts its value is the list of them.
 #[derive(Drop)]
 pub struct Column {
     items: Vec<i64>,
@@ -21,7 +21,7 @@ impl Model for Column {
 }
 
 impl Column {
-    /// The empty list. It takes no memory.
+    /// Returns the empty list. It doesn't allocate.
     pub fn new(alloc: Global) -> Column
         ensures { result ≡ [] }
     {
@@ -30,7 +30,10 @@ impl Column {
         }
     }
 
-    /// The empty list, with the memory for so many numbers.
+    /// Returns the empty list, with memory for `count` numbers.
+    ///
+    /// # Errors
+    /// [`AllocError`] if memory runs out.
     pub fn with_room(alloc: Global, count: usize) -> Result<Column, AllocError>
         ensures { IfOk result (λ c. c ≡ []) }
     {
@@ -39,13 +42,14 @@ impl Column {
         })
     }
 
+    /// Returns the number of numbers.
     pub fn len(&self) -> usize
         ensures { result ≡ length self.now }
     {
         self.items.len()
     }
 
-    /// Adds a number at the end.
+    /// Appends `value`.
     pub fn push(&mut self, value: i64) -> Result<(), AllocError>
         ensures { OnOk result (self.new ≡ self.old ++ value ∷ []) }
     {
@@ -53,7 +57,7 @@ impl Column {
         Ok(())
     }
 
-    /// The list, complete.
+    /// Returns the finished list.
     pub fn into_numbers(self) -> Numbers
         ensures { result ≡ self }
     {

@@ -1,4 +1,4 @@
-//! A book that is read line by line.
+//! The parser state of a book that is read line by line.
 
 ghost use Rattle.std.specs.Prelude.{◌≡◌, ◌+◌, ◌<◌, ◌≤◌, length, IfOk};
 ghost use Rattle.harmonics_text.specs.Rules.{end_of, same_count_of};
@@ -20,11 +20,11 @@ use decimal_text::{Numbers, Text};
 use std::alloc::{AllocError, Global};
 use std::mem;
 
-/// What is read so far, and with it what the next line must be.
+/// The parser state: the parts of the book read so far, and so the form that the next line must have.
 #[derive(Drop)]
 pub enum Draft {
     Count,
-    /// How many constituents are still to come, at least one, and those before.
+    /// The number of constituents still to come, at least one, and those read.
     Constituents(u32, Constituents),
     FirstYear(Constituents),
     Years(Constituents, i32),
@@ -37,7 +37,7 @@ pub enum Draft {
 }
 
 impl Draft {
-    /// Adds a line of the file.
+    /// Reads the next line of the file.
     #[tactic(auto, unfolding(crate::specs::Workings::Drafts::after_line))]
     pub fn add_line(&mut self, alloc: Global, line: &[u8]) -> Result<(), LineFault>
         requires { IsDraft self.old }
@@ -56,7 +56,8 @@ impl Draft {
         self.add_text(alloc, text)
     }
 
-    /// Adds a line that is kept. A pair that is not the station's last is added in place.
+    /// Reads a line that is no comment. A pair that isn't the station's last is added without moving the
+    /// state.
     fn add_text(&mut self, alloc: Global, text: &[u8]) -> Result<(), LineFault>
         requires { IsDraft self.old }
         ensures { Follows (λ _. self.new) result (after_text self.old text.now) }
@@ -72,7 +73,7 @@ impl Draft {
         Ok(())
     }
 
-    /// The draft after a line that is kept.
+    /// Returns the state after a line that is no comment.
     #[tactic(auto, unfolding(crate::specs::Workings::Drafts::after_text, crate::specs::Workings::Drafts::after_count))]
     fn after_text(self, alloc: Global, text: &[u8]) -> Result<Draft, LineFault>
         requires { IsDraft self }
@@ -108,7 +109,7 @@ impl Draft {
         }
     }
 
-    /// The book, where the last part is complete.
+    /// Returns the book if its last part is complete.
     pub fn into_book(self) -> Option<Book>
         ensures { result ≡ book_in self }
     {
@@ -119,7 +120,7 @@ impl Draft {
     }
 }
 
-/// The book, where no station is begun.
+/// Returns `book` if no station is incomplete.
 fn book_at(book: Book, begun: Record) -> Option<Book>
     ensures { result ≡ book_at book begun }
 {
@@ -248,7 +249,7 @@ fn after_factors(
     Ok(with_factors(heading, angles, table))
 }
 
-/// The book with no station yet.
+/// Returns the book without any station.
 fn new_book(alloc: Global, heading: Heading, angles: Numbers, factors: Numbers) -> Book
     ensures { result ≡ new_book heading angles factors }
 {
@@ -286,7 +287,7 @@ fn after_station_name(
     Ok(Draft::Stations(book, Record::LocalTime(name, local_time)))
 }
 
-/// The station whose datum this line has, with room for so many constants.
+/// Returns the station with the datum of line `text`, with memory for `count` constants.
 #[tactic(auto, unfolding(crate::specs::Workings::Drafts::after_record))]
 fn with_datum(
     alloc: Global,
@@ -339,7 +340,7 @@ fn after_record(alloc: Global, book: Book, begun: Record, text: &[u8]) -> Result
     }
 }
 
-/// Adds the amplitude and the epoch of the constituent that is next.
+/// Appends the amplitude and the epoch of the next constituent to `station`.
 #[tactic(auto, unfolding(crate::specs::Workings::Drafts::after_pair))]
 fn add_pair(book: &Book, station: &mut Constants, text: &[u8]) -> Result<(), LineFault>
     requires { length station.old.amplitude < length book.now.constituents }
@@ -353,7 +354,7 @@ fn add_pair(book: &Book, station: &mut Constants, text: &[u8]) -> Result<(), Lin
     Ok(())
 }
 
-/// The draft after a pair more, which may be the station's last.
+/// Returns the state after `station` got one more pair, which may be its last.
 fn with_pair(mut book: Book, station: Constants) -> Result<Draft, AllocError>
     ensures { IfOk result (λ d. d ≡ with_pair book station) }
 {

@@ -1,17 +1,17 @@
-//! What can be wrong with a file of harmonic constants.
+//! The faults of a file of harmonic constants.
 
 ghost use Rattle.std.specs.Prelude.{◌≡◌};
 
 use std::alloc::AllocError;
 
-/// Why a line was not taken.
+/// The reason why a line wasn't read.
 #[derive(Clone, Copy, Debug, PartialEq, Eq)]
 pub enum LineFault {
     NoMemory,
     Bad(Why),
 }
 
-/// What is wrong with a line. The file format numbers these reasons, from 1.
+/// The fault of a line. The file format numbers these reasons from 1 (docs/FORMATS.md).
 #[derive(Clone, Copy, Debug, PartialEq, Eq)]
 pub enum Why {
     BadCount,
@@ -32,7 +32,7 @@ pub enum Why {
 impl Why {
     ghost use Rattle.harmonics_text.specs.Whys.{number_of, text_of};
 
-    /// The reason's number, from 1 to 13.
+    /// Returns the number of the reason, from 1 to 13.
     pub fn number(self) -> u32
         ensures { result ≡ number_of self }
     {
@@ -53,7 +53,7 @@ impl Why {
         }
     }
 
-    /// The reason in words.
+    /// Returns the text of the reason, as it is printed.
     pub fn text(self) -> &'static str
         ensures { result.now ≡ text_of self }
     {
@@ -95,13 +95,13 @@ impl From<Why> for LineFault {
     }
 }
 
-/// Why a file has no book.
+/// The reason why a file has no book.
 #[derive(Clone, Copy, Debug, PartialEq, Eq)]
 pub enum BookFault {
-    /// There was not enough memory.
+    /// Out of memory.
     NoMemory,
-    /// The first line that breaks a rule, and the first reason. Where the file ends too early, the
-    /// line is one past its last.
+    /// The first line that breaks a rule, counted from 1, and the first reason. If the file ends too
+    /// early, the line is one after its last.
     At { line: u32, why: Why },
 }
 

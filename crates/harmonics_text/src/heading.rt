@@ -14,23 +14,23 @@ use crate::scale::Scale;
 use decimal_text::Text;
 use std::alloc::Global;
 
-/// What stands before the tables.
+/// The parts of a book before its tables.
 #[derive(Drop)]
 pub struct Heading {
     pub constituents: Constituents,
     pub first_year: i32,
-    /// How many years each table has.
+    /// The number of years of each table.
     pub years: u32,
 }
 
-/// Whether the token stands for an absent constituent.
+/// Returns true if `token` stands for an absent constituent.
 pub fn is_absent(token: &[u8]) -> bool
     ensures { result ≡ is_absent token.now }
 {
     token == b"x".as_slice()
 }
 
-/// Whether the token ends a part.
+/// Returns true if `token` ends a part.
 pub fn is_end(token: &[u8]) -> bool
     ensures { result ≡ is_end token.now }
 {
@@ -45,7 +45,7 @@ fn has_name(constituents: &[Constituent], name: &Text) -> bool
         .any(|c| c.name.as_str() == name.as_str())
 }
 
-/// The name of a constituent after those before it.
+/// Returns the constituent name in `token`, if no constituent of `earlier` has it.
 #[tactic(auto, unfolding(crate::specs::Rules::new_name_of))]
 fn new_name(alloc: Global, earlier: &Constituents, token: &[u8]) -> Result<Text, LineFault>
     ensures { Follows (λ t. t) result (new_name_of earlier.now token.now) }
@@ -60,7 +60,7 @@ fn new_name(alloc: Global, earlier: &Constituents, token: &[u8]) -> Result<Text,
     Ok(name)
 }
 
-/// The constituent of a line, after those before it.
+/// Returns the constituent of line `text`, after the constituents `earlier`.
 #[tactic(auto, unfolding(crate::specs::Rules::constituent_of, crate::specs::Rules::constituent_from))]
 pub fn constituent(
     alloc: Global,

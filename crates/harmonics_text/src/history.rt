@@ -1,11 +1,11 @@
-//! The bytes that were read, for contracts alone.
+//! A ghost record of the bytes that were read.
 
 ghost use Rattle.std.specs.Prelude.{◌≡◌, ℕ, List, [], ◌++◌};
 ghost use Rattle.std.specs.Borrow.{ftrue};
 
 use std::marker::Model;
 
-/// The bytes so far. It takes no memory, and no byte is touched for it.
+/// A ghost record of the bytes that were read, in order. At run time it holds nothing and copies nothing.
 #[derive(Drop)]
 pub struct History {
     pub ghost bytes: { List ℕ },
@@ -16,14 +16,14 @@ impl Model for History {
 }
 
 impl History {
-    /// Nothing so far.
+    /// Returns the record of no bytes.
     pub fn new() -> History
         ensures { result.bytes ≡ [] }
     {
         History {}
     }
 
-    /// A piece more.
+    /// Returns this record followed by the bytes of `_piece`.
     pub fn then(&self, _piece: &[u8]) -> History
         ensures { result.bytes ≡ self.now.bytes ++ _piece.now }
     {

@@ -1,4 +1,4 @@
-//! Worked rows of the definitions.
+//! Theorems about reading a file, and examples of the definitions.
 
 ghost use Rattle.std.specs.Prelude.{◌≡◌, ◌≤◌, ℕ, List, ◌∷◌, ◌++◌, [], length, codes, map, take, replicate, pos, negsuc, Ok, Err, Some, None};
 ghost use Rattle.harmonics_text.specs.Rules.{count_of, station_name_of, local_time_of, pair_of};
@@ -9,7 +9,7 @@ ghost use Rattle.harmonics_text.specs.Worked.{pier_lines, file_of, pier_book, pi
 
 use crate::fault::Why;
 
-/// What some lines hold.
+/// Proves examples of lines, tokens and numbers.
 pub fn worked_lines()
     ensures lines { cut (codes "a\n\nb") ≡ codes "a" ∷ [] ∷ codes "b" ∷ [] }
     ensures kept { kept (numbered 1 (codes "#a" ∷ codes " #a" ∷ codes " \t\r" ∷ codes "\r\r" ∷ []))
@@ -26,7 +26,7 @@ pub fn worked_lines()
     ensures absent { pair_of (codes "S2") (codes "x 1 2") ≡ Ok (pos 0, pos 0) }
 {}
 
-/// What a whole file holds, and where it is at fault.
+/// Proves the book of a small file, and the fault of each changed copy.
 pub fn worked_files()
     ensures pier { book_of (file_of pier_lines) ≡ Ok pier_book }
     ensures cut_short { book_of (file_of (take 15 pier_lines)) ≡ Err (record { line = 16; why = Why.CutShort }) }
@@ -35,7 +35,7 @@ pub fn worked_files()
     ensures too_fine { book_of (codes "# a comment\n1\n\nS2 30.00000001\r\n") ≡ Err (record { line = 4; why = Why.TooFine }) }
 {}
 
-/// What the bytes of a file so far say, as they come.
+/// Proves examples of the fault and the pending line of a file's first bytes.
 pub fn worked_pieces()
     ensures begun { fault_so_far (codes "# Pier test\n1") ≡ None }
     ensures one_byte { pending_length (codes "# Pier test\n1") ≡ 1 }
@@ -49,7 +49,8 @@ pub fn worked_pieces()
     ensures complete { fault_so_far (file_of pier_lines) ≡ None }
 {}
 
-/// The fault that a file's bytes so far have is the file's, however it goes on, and a bad line is told as soon as it has ended.
+/// Proves that a fault of a file's first bytes is the fault of the file, whatever bytes follow, and that
+/// a bad line is reported as soon as it has ended.
 pub fn first_faults()
     ensures stand { (bytes more : List ℕ) (fault : At) → fault_so_far bytes ≡ Some fault → book_of (bytes ++ more) ≡ Err fault }
     ensures told { (bytes : List ℕ) (fault : At) → book_of bytes ≡ Err fault → fault.line ≤ length (ended_lines bytes) → fault_so_far bytes ≡ Some fault }

@@ -1,9 +1,9 @@
-//! The text file of harmonic constants: what it holds, and how it is read.
+//! The text file of harmonic constants: its content and its reader.
 //!
-//! A [`Book`] is the content of one file, after the text files of XTide's tools: the constituents
-//! with their speeds, the equilibrium arguments and node factors of each year, and the stations
-//! with their amplitudes and epochs. [`read_book`] makes it from the file's bytes. A [`SoundBook`] is
-//! one whose values are known to lie in a file's ranges.
+//! A [`Book`] is the content of one file, in the format of the text files of XTide's tools: the
+//! constituents with their speeds, the equilibrium arguments and node factors of each year, and the
+//! stations with their amplitudes and epochs. [`read_book`] reads it from the file's bytes. A
+//! [`SoundBook`] is one whose values are proved to be in the ranges of a file.
 #![tactic(auto)]
 
 mod book;

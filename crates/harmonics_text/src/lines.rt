@@ -1,4 +1,4 @@
-//! Lines of a file and tokens of a line.
+//! The lines of a file and the tokens of a line.
 
 ghost use Rattle.std.specs.Prelude.{◌≡◌, ◌<◌, ◌∷◌, ◌++◌, [], length, false, MatchOption, IfSome, position, option_map};
 ghost use Rattle.std.specs.List.{list_all};
@@ -12,7 +12,7 @@ fn lf_at(bytes: &[u8]) -> Option<usize>
     bytes.iter().position(|b| *b == b'\n')
 }
 
-/// The first line that ends, without its LF, and what follows it.
+/// Returns the bytes before the first LF and those after it, or `None` if there is no LF.
 pub fn next_line(bytes: &[u8]) -> Option<(&[u8], &[u8])>
     ensures shorter { IfSome result (λ r. length r.1.now < length bytes.now) }
     ensures exact { MatchOption result (has_lf bytes.now ≡ false) (λ r. (bytes.now ≡ r.0.now ++ 10 ∷ r.1.now) × (has_lf r.0.now ≡ false)) }
@@ -22,21 +22,21 @@ pub fn next_line(bytes: &[u8]) -> Option<(&[u8], &[u8])>
     Some((line, rest.split_at(1).1))
 }
 
-/// Whether the line is a comment.
+/// Returns true if `line` is a comment: if it begins with `#`.
 pub fn is_comment(line: &[u8]) -> bool
     ensures { result ≡ is_comment line.now }
 {
     line.starts_with(b"#".as_slice())
 }
 
-/// Whether the line is longer than any but a comment may be.
+/// Returns true if `line` is longer than a line other than a comment may be: 4,096 bytes.
 pub fn is_too_long(line: &[u8]) -> bool
     ensures { result ≡ is_too_long line.now }
 {
     line.len() > 4096
 }
 
-/// The line without one CR at its end.
+/// Returns `line` without one CR at its end.
 pub fn without_cr(line: &[u8]) -> &[u8]
     ensures { result.now ≡ without_cr line.now }
 {
@@ -53,7 +53,7 @@ fn is_blank(b: u8) -> bool
     b == b' ' || b == b'\t'
 }
 
-/// Whether the text is white space alone.
+/// Returns true if `text` has only spaces and tabs.
 pub fn is_all_blank(text: &[u8]) -> bool
     ensures { result ≡ list_all is_blank text.now }
 {
@@ -72,7 +72,7 @@ fn blank_at(text: &[u8]) -> Option<usize>
     text.iter().position(|b| is_blank(*b))
 }
 
-/// The first token of a line and what follows it. There is none where only white space is left.
+/// Returns the first token of `text` and the bytes after it, or `None` if `text` has only white space.
 pub fn next_token(text: &[u8]) -> Option<(&[u8], &[u8])>
     ensures shorter { IfSome result (λ r. length r.1.now < length text.now) }
     ensures exact { MatchOption result (tokens text.now ≡ []) (λ r. tokens text.now ≡ r.0.now ∷ tokens r.1.now) }
@@ -83,7 +83,7 @@ pub fn next_token(text: &[u8]) -> Option<(&[u8], &[u8])>
     Some(visible.split_at(end))
 }
 
-/// The only token of a line.
+/// Returns the token of `text` if there is exactly one.
 pub fn only_token(text: &[u8]) -> Option<&[u8]>
     ensures { option_copied result ≡ only (tokens text.now) }
 {
@@ -94,7 +94,7 @@ pub fn only_token(text: &[u8]) -> Option<&[u8]>
     }
 }
 
-/// The two tokens of a line that has no more.
+/// Returns the tokens of `text` if there are exactly two.
 pub fn only_two_tokens(text: &[u8]) -> Option<(&[u8], &[u8])>
     ensures { option_map (λ r. (r.0.now, r.1.now)) result ≡ only_two (tokens text.now) }
 {
@@ -106,7 +106,7 @@ pub fn only_two_tokens(text: &[u8]) -> Option<(&[u8], &[u8])>
     }
 }
 
-/// The text without the white space around it.
+/// Returns `text` without white space at both ends.
 pub fn trimmed(text: &[u8]) -> &[u8]
     ensures { result.now ≡ trimmed text.now }
 {

@@ -1,4 +1,4 @@
-//! The lists in a book.
+//! The lists of constituents and stations in a book.
 
 ghost use Rattle.std.specs.Prelude.{◌≡◌, [], ◌∷◌, ◌++◌, OnOk};
 
@@ -22,14 +22,14 @@ impl Model for Constituents {
 }
 
 impl Constituents {
-    /// The list of a vector's constituents. It takes no memory.
+    /// Returns the list of the constituents in `items`. It doesn't allocate.
     pub fn from_vec(items: Vec<Constituent>) -> Constituents
         ensures { result ≡ items.items }
     {
         Constituents { items }
     }
 
-    /// The empty list. It takes no memory.
+    /// Returns the empty list. It doesn't allocate.
     pub(crate) fn empty(alloc: Global) -> Constituents
         ensures { result ≡ [] }
     {
@@ -38,7 +38,7 @@ impl Constituents {
         }
     }
 
-    /// Adds a constituent at the end.
+    /// Appends `constituent`.
     pub(crate) fn push(&mut self, constituent: Constituent) -> Result<(), AllocError>
         ensures { OnOk result (self.new ≡ self.old ++ constituent ∷ []) }
     {
@@ -46,7 +46,7 @@ impl Constituents {
         Ok(())
     }
 
-    /// The constituents, lent.
+    /// Borrows the constituents as a slice.
     pub fn as_slice(&self) -> &[Constituent]
         ensures { result.now ≡ self.now }
     {
@@ -70,14 +70,14 @@ impl Model for Stations {
 }
 
 impl Stations {
-    /// The list of a vector's stations. It takes no memory.
+    /// Returns the list of the stations in `items`. It doesn't allocate.
     pub fn from_vec(items: Vec<Station>) -> Stations
         ensures { result ≡ items.items }
     {
         Stations { items }
     }
 
-    /// The empty list. It takes no memory.
+    /// Returns the empty list. It doesn't allocate.
     pub(crate) fn empty(alloc: Global) -> Stations
         ensures { result ≡ [] }
     {
@@ -86,7 +86,7 @@ impl Stations {
         }
     }
 
-    /// Adds a station at the end.
+    /// Appends `station`.
     pub(crate) fn push(&mut self, station: Station) -> Result<(), AllocError>
         ensures { OnOk result (self.new ≡ self.old ++ station ∷ []) }
     {
@@ -94,7 +94,7 @@ impl Stations {
         Ok(())
     }
 
-    /// The stations, lent.
+    /// Borrows the stations as a slice.
     pub fn as_slice(&self) -> &[Station]
         ensures { result.now ≡ self.now }
     {

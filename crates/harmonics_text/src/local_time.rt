@@ -11,10 +11,10 @@ use crate::names::utf8_of;
 use decimal_text::{Text, digits, split_sign};
 use std::alloc::Global;
 
-/// Where a station's clock stands.
+/// A station's local time: its meridian and the name of its zone.
 #[derive(Drop)]
 pub struct LocalTime {
-    /// In minutes east of Greenwich.
+    /// The meridian in minutes east of Greenwich.
     pub meridian: i32,
     pub zone: Text,
 }
@@ -49,7 +49,7 @@ fn minutes(hour: Option<u64>, minute: Option<u64>) -> Option<u32>
     Some((60 * hour + minute) as u32)
 }
 
-/// The minutes of `H:MM` or `HH:MM`.
+/// Returns the minutes of `H:MM` or `HH:MM`, at most 15:59, or `None` for any other text.
 #[tactic(auto, unfolding(crate::specs::Rules::clock_of))]
 fn clock_minutes(clock: &[u8]) -> Option<u32>
     ensures exact { result ≡ clock_of clock.now }
@@ -61,7 +61,7 @@ fn clock_minutes(clock: &[u8]) -> Option<u32>
     minutes(digits(hour, 2), two_digits(minute))
 }
 
-/// The minutes of a meridian, with its sign.
+/// Returns the minutes of the meridian in `token`, with its sign.
 #[tactic(auto, unfolding(crate::specs::Rules::meridian_of))]
 fn meridian_minutes(token: &[u8]) -> Result<i32, Why>
     ensures { result ≡ meridian_of token.now }
@@ -88,7 +88,7 @@ fn is_zone(token: &[u8]) -> bool
     token.iter().all(|b| is_zone_byte(*b))
 }
 
-/// The name of a zone, without the colon before it.
+/// Returns the name of the zone in `token`, without the colon before it.
 #[tactic(auto, unfolding(crate::specs::Rules::zone_of))]
 fn zone_name(alloc: Global, token: &[u8]) -> Result<Text, LineFault>
     ensures { Follows (λ t. t) result (zone_of token.now) }
@@ -103,7 +103,7 @@ fn zone_name(alloc: Global, token: &[u8]) -> Result<Text, LineFault>
     }
 }
 
-/// The meridian and the zone of a line.
+/// Returns the meridian and the zone of line `text`.
 #[tactic(auto, unfolding(crate::specs::Rules::local_time_of, crate::specs::Rules::local_time_from))]
 pub fn local_time_of_line(alloc: Global, text: &[u8]) -> Result<LocalTime, LineFault>
     ensures { Follows (λ p. p) result (local_time_of text.now) }

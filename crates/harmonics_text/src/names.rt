@@ -1,4 +1,4 @@
-//! Names in ISO 8859-1, which are kept as UTF-8.
+//! Names in ISO 8859-1, which are stored as UTF-8.
 
 ghost use Rattle.std.specs.Prelude.{◌≡◌, IfOk, encode_utf8_all};
 ghost use Rattle.std.specs.Option.{option_copied};
@@ -11,7 +11,7 @@ use crate::fault::{LineFault, Why};
 use decimal_text::Text;
 use std::alloc::{AllocError, Global};
 
-/// The same characters in UTF-8.
+/// Returns the characters of `latin`, in ISO 8859-1, as UTF-8.
 pub fn utf8_of(alloc: Global, latin: &[u8]) -> Result<Text, AllocError>
     ensures { IfOk result (λ t. t ≡ encode_utf8_all latin.now) }
 {
@@ -28,14 +28,14 @@ fn is_latin_name_byte(b: u8) -> bool
     matches!(b, 32..=126 | 128..=255)
 }
 
-/// Whether each byte may stand in a name.
+/// Returns true if each byte may be in a name: printable ASCII, the space, or from 128 on.
 fn is_printable(latin: &[u8]) -> bool
     ensures { result ≡ list_all is_latin_name_byte latin.now }
 {
     latin.iter().all(|b| is_latin_name_byte(*b))
 }
 
-/// The name of at most so many bytes.
+/// Returns the name in `latin`, of 1 to `most` bytes, as UTF-8.
 #[tactic(auto, unfolding(crate::specs::Rules::name_of))]
 pub fn name_of(alloc: Global, latin: &[u8], most: usize) -> Result<Text, LineFault>
     ensures { Follows (λ t. t) result (name_of most latin.now) }
@@ -46,7 +46,7 @@ pub fn name_of(alloc: Global, latin: &[u8], most: usize) -> Result<Text, LineFau
     Ok(utf8_of(alloc, latin)?)
 }
 
-/// What follows the byte, where the text begins with it.
+/// Returns the bytes after the first if that is `b`.
 fn without_byte(text: &[u8], b: u8) -> Option<&[u8]>
     ensures { option_copied result ≡ without_byte b text.now }
 {
@@ -54,7 +54,7 @@ fn without_byte(text: &[u8], b: u8) -> Option<&[u8]>
     if *first == b { Some(rest) } else { None }
 }
 
-/// What follows the character in UTF-8, where the text begins with it.
+/// Returns the bytes after the first character if that is `latin`, in UTF-8.
 #[tactic(auto, unfolding(crate::specs::Latin::without_bytes))]
 fn without_char(text: &[u8], latin: u8) -> Option<&[u8]>
     ensures { option_copied result ≡ without_bytes (utf8_byte_or_two latin) text.now }
@@ -65,7 +65,7 @@ fn without_char(text: &[u8], latin: u8) -> Option<&[u8]>
     without_byte(without_byte(text, 192 + latin / 64)?, 128 + latin % 64)
 }
 
-/// Whether these bytes write the name.
+/// Returns true if `latin` is `name` in ISO 8859-1.
 pub fn is_name(latin: &[u8], name: &Text) -> bool
     ensures { result ≡ is_name latin.now name.now }
 {

@@ -1,4 +1,4 @@
-//! Numbers of the file: counts and decimals.
+//! The numbers of a file: counts and decimals.
 
 ghost use Rattle.std.specs.Prelude.{◌≡◌, Ok};
 ghost use Rattle.harmonics_text.specs.Rules.{whole_of, count_of, first_year_of, in_scale, number_of};
@@ -8,7 +8,7 @@ use crate::lines::only_token;
 use crate::scale::Scale;
 use decimal_text::{DecimalFault, digits, read};
 
-/// The number of one to nine digits that the line holds.
+/// Returns the number of one to nine digits that `text` has as its only token.
 #[tactic(auto, unfolding(crate::specs::Rules::whole_of))]
 fn whole_number(text: &[u8]) -> Option<u32>
     ensures { result ≡ whole_of text.now }
@@ -17,7 +17,7 @@ fn whole_number(text: &[u8]) -> Option<u32>
     Some(number as u32)
 }
 
-/// The number of constituents or years that the line holds.
+/// Returns the number of constituents or years in line `text`, from 1 to 500.
 #[tactic(auto, unfolding(crate::specs::Rules::count_of, crate::specs::Rules::from_to))]
 pub fn count(text: &[u8]) -> Result<u32, Why>
     ensures { result ≡ count_of text.now }
@@ -34,7 +34,7 @@ pub fn count(text: &[u8]) -> Result<u32, Why>
     }
 }
 
-/// The first year of the tables.
+/// Returns the first year in line `text`, from 2 to 8800.
 #[tactic(auto, unfolding(crate::specs::Rules::first_year_of, crate::specs::Rules::from_to))]
 pub fn first_year(text: &[u8]) -> Result<i32, Why>
     ensures { result ≡ first_year_of text.now }
@@ -61,7 +61,7 @@ fn in_scale(value: i128, scale: Scale) -> Result<i64, Why>
     Ok(value as i64)
 }
 
-/// The decimal in its scale.
+/// Returns the decimal `text` in the unit of `scale`, if it is in the range of `scale`.
 #[tactic(auto, unfolding(crate::specs::Rules::number_of, crate::specs::Rules::in_scale))]
 pub fn number(text: &[u8], scale: Scale) -> Result<i64, Why>
     ensures { result ≡ number_of scale text.now }

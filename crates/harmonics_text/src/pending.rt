@@ -1,4 +1,4 @@
-//! A line that has not ended.
+//! A line that has not ended yet.
 
 ghost use Rattle.std.specs.Prelude.{◌≡◌, ◌++◌, ◌≤◌, ◌↔◌, [], length, if◌then◌else◌, IfOk, IsTrue, Ok};
 ghost use Rattle.harmonics_text.specs.Lines.{is_comment, is_filled};
@@ -10,11 +10,11 @@ use crate::lines::is_comment;
 use std::alloc::{AllocError, Global};
 use std::marker::Model;
 
-/// The most bytes of a line that is no comment.
+/// The most bytes of a line other than a comment.
 const MOST: usize = 4096;
 
-/// What is kept of the line: of a comment only that it is one, of any other its bytes so far.
-/// Contracts see it as what is kept.
+/// The kept bytes of a line: of a comment only the `#`, of any other line all bytes so far. In contracts
+/// its value is the list of them.
 #[derive(Drop)]
 pub struct Pending {
     kept: Vec<u8>,
@@ -31,7 +31,10 @@ impl Model for Pending {
 }
 
 impl Pending {
-    /// A line without a byte yet, with the memory for the longest one.
+    /// Returns a line without a byte, with memory for the longest one.
+    ///
+    /// # Errors
+    /// [`AllocError`] if memory runs out.
     pub fn new(alloc: Global) -> Result<Pending, AllocError>
         ensures { IfOk result (λ p. p ≡ []) }
     {
@@ -40,21 +43,21 @@ impl Pending {
         })
     }
 
-    /// Whether it has no byte yet.
+    /// Returns true if the line has no byte yet.
     pub fn is_empty(&self) -> bool
         ensures { IsTrue result ↔ (self.now ≡ []) }
     {
         self.kept.is_empty()
     }
 
-    /// What is kept of it.
+    /// Borrows the kept bytes.
     pub fn as_slice(&self) -> &[u8]
         ensures { result.now ≡ self.now }
     {
         self.kept.as_slice()
     }
 
-    /// How many bytes it has so far: 0 within a comment.
+    /// Returns the number of bytes of the line so far: 0 within a comment.
     pub fn count(&self) -> u32
         ensures { result ≡ (if is_comment self.now then 0 else length self.now) }
     {
@@ -65,7 +68,7 @@ impl Pending {
         }
     }
 
-    /// Adds bytes.
+    /// Appends `more` to the line.
     pub fn add(&mut self, more: &[u8]) -> Result<(), LineFault>
         ensures { Follows (λ _. self.new) result (held (self.old ++ more.now)) }
     {
@@ -81,7 +84,7 @@ impl Pending {
         Ok(())
     }
 
-    /// Adds the last bytes of the line, where there are any before them.
+    /// Appends `last`, the last bytes of the line, if there are any bytes before them.
     pub fn end(&mut self, last: &[u8]) -> Result<(), LineFault>
         ensures { Follows (λ _. self.new) result (if is_filled self.old then held (self.old ++ last.now) else Ok []) }
     {
@@ -92,7 +95,7 @@ impl Pending {
         }
     }
 
-    /// The whole line, where `end` has added its last bytes.
+    /// Returns the whole line after `end`: the kept bytes, or `last` if none were kept.
     pub fn whole<'a>(&'a self, last: &'a [u8]) -> &'a [u8]
         ensures { result.now ≡ (if is_filled self.now then self.now else last.now) }
     {
@@ -111,7 +114,7 @@ impl Pending {
     }
 }
 
-/// Whether the two parts of a line begin a comment.
+/// Returns true if `begin` followed by `more` begins a comment.
 fn is_comment_with(begin: &[u8], more: &[u8]) -> bool
     ensures { result ≡ is_comment (begin.now ++ more.now) }
 {

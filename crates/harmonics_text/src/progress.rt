@@ -1,4 +1,4 @@
-//! How far a file is read.
+//! The state between two pieces of a file.
 
 ghost use Rattle.std.specs.Prelude.{◌≡◌, ◌+◌, ◌<◌, ◌≤◌, ◌^◌, ◌++◌, ◌∷◌, [], length, false, IfOk, MatchResult};
 ghost use Rattle.harmonics_text.specs.Workings.Drafts.{IsDraft, placed, book_in};
@@ -12,12 +12,12 @@ use crate::lines::next_line;
 use crate::pending::Pending;
 use std::alloc::{AllocError, Global};
 
-/// What is kept between two pieces of a file.
+/// The state between two pieces of a file.
 #[derive(Drop)]
 pub struct Progress {
-    /// What the lines that have ended make.
+    /// The parser state after the lines that have ended.
     pub draft: Draft,
-    /// The number of the line that has not ended.
+    /// The number of the line that has not ended, counted from 1.
     pub number: u32,
     pub pending: Pending,
 }
@@ -32,7 +32,10 @@ fn at_line(line: u32, fault: LineFault) -> BookFault
 }
 
 impl Progress {
-    /// Nothing is read yet.
+    /// Returns the state before any byte.
+    ///
+    /// # Errors
+    /// [`AllocError`] if memory runs out.
     pub fn new(alloc: Global) -> Result<Progress, AllocError>
         ensures { IfOk result (λ p. p ≡ nothing_read) }
     {
@@ -44,8 +47,8 @@ impl Progress {
         })
     }
 
-    /// Reads a piece more. Lines that begin and end in the piece are read from there. After a fault
-    /// it stands somewhere in the piece, and is not to be read on.
+    /// Reads `piece`. Lines that begin and end in it are read without being copied. After a fault the
+    /// state is somewhere in the piece, and must not be read on.
     pub fn read_piece(&mut self, alloc: Global, piece: &[u8]) -> Result<(), BookFault>
         requires sound { IsProgress self.old }
         requires few { self.old.number + length piece.now < 2 ^ 32 }
@@ -64,7 +67,7 @@ impl Progress {
         self.add_rest(rest)
     }
 
-    /// Adds bytes of a line that does not end in them.
+    /// Appends `rest`, bytes of a line that doesn't end in them.
     #[tactic(auto, unfolding(crate::specs::Workings::Readers::with_pending))]
     fn add_rest(&mut self, rest: &[u8]) -> Result<(), BookFault>
         ensures { GivesAt (reached self.new (result_err result)) (with_pending self.old.draft self.old.number (self.old.pending ++ rest.now)) }
@@ -75,7 +78,7 @@ impl Progress {
         }
     }
 
-    /// Ends the last line, where the file ends here.
+    /// Ends the last line at the end of the file.
     #[tactic(auto, unfolding(crate::specs::Workings::Readers::ended))]
     pub fn end(&mut self, alloc: Global) -> Result<(), BookFault>
         requires sound { IsProgress self.old }
@@ -92,7 +95,7 @@ impl Progress {
         Ok(())
     }
 
-    /// The book, where the last line has ended.
+    /// Returns the book after the last line has ended.
     pub fn into_book(self) -> Result<Book, BookFault>
         ensures { GivesAt result (finished self.number (book_in self.draft)) }
     {
@@ -106,8 +109,8 @@ impl Progress {
     }
 }
 
-/// Adds a line and those that end in the bytes behind it to a draft: the number of the line after
-/// them, and what has come of that.
+/// Reads the line `first` and those that end in `bytes`: returns the number of the next line and the
+/// bytes left, or the fault.
 fn add_lines<'a>(
     draft: &mut Draft,
     mut number: u32,

@@ -10,22 +10,36 @@ use crate::book_reader::BookReader;
 use crate::fault::BookFault;
 use std::alloc::Global;
 
-/// The book of a file of harmonic constants, or its first fault.
+/// Reads a file of harmonic constants, and returns its book.
 ///
-/// The file has the form of the text files that XTide's tools write: constituents with their
-/// speeds, a table of equilibrium arguments and one of node factors, and records of stations.
-/// Comments begin with `#`, lines of white space are passed over, and names are ISO 8859-1. Units
-/// and ranges of the numbers are those of [`Book`]'s fields.
+/// The file has the format of the text files that XTide's tools write: constituents with their speeds, a
+/// table of equilibrium arguments and one of node factors, and records of stations. Comments begin with
+/// `#`, lines of white space are skipped, and names are in ISO 8859-1. Units and ranges of the numbers
+/// are those of [`Book`]'s fields.
 ///
-/// The bytes, at most 400,000,000, are gone over once, line by line. `At` names the first line that
-/// breaks a rule, with the first reason; only want of memory may come in its place.
+/// `bytes`, at most 400,000,000, are read once, line by line.
+///
+/// # Errors
+/// [`BookFault::At`] with the first line that breaks a rule, and the first reason;
+/// [`BookFault::NoMemory`] if memory runs out.
+///
+/// # Examples
+/// ```
+/// let text =
+///     b"1\nS2 30\n1999\n1\nS2\n0\n*END*\n1\nS2\n1\n*END*\nPier\n0:00 :UTC\n0 feet\nS2 1 0\n";
+/// let book = read_book(rt.alloc(), text)?;
+/// assert_eq!(rt; book.stations.as_slice().len(), 1);
+/// let why = Why::BadNumber;
+/// let fault = read_book(rt.alloc(), b"1\nS2 30,0\n").err();
+/// assert_eq!(rt; fault, Some(BookFault::At { line: 2, why }));
+/// ```
 pub fn read_book(alloc: Global, bytes: &[u8]) -> Result<Book, BookFault>
     requires { length bytes.now ≤ MOST_BYTES }
     ensures exact { GivesBook result (book_of bytes.now) }
     ensures sound { IfOk result IsBook }
 {
     let mut reader = BookReader::new(alloc)?;
-    // A fault stays, and `finish` answers it again.
+    // A fault is kept by the reader: `finish` returns it again.
     let _ = reader.feed(bytes);
     reader.finish()
 }

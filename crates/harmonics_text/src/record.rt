@@ -26,7 +26,7 @@ pub struct Constants {
     pub epoch: Column,
 }
 
-/// What is read of the station that is next.
+/// The part of the next station's record that is read.
 #[derive(Drop)]
 pub enum Record {
     Nothing,
@@ -35,7 +35,7 @@ pub enum Record {
     Constants(Constants),
 }
 
-/// The station with its constants as they are.
+/// Returns the station with the constants read.
 pub fn into_station(constants: Constants) -> Station
     ensures { result ≡ station_of constants }
 {
@@ -76,7 +76,7 @@ fn parse_units(token: &[u8]) -> Result<Units, Why>
     }
 }
 
-/// The datum of a line and its unit.
+/// Returns the datum of line `text`, in millionths, and its unit.
 #[tactic(auto, unfolding(crate::specs::Rules::datum_of))]
 pub fn datum(text: &[u8]) -> Result<(i64, Units), Why>
     ensures { result ≡ datum_of text.now }
@@ -95,7 +95,7 @@ fn pair(absent: bool, amplitude: i64, epoch: i64) -> (i64, i64)
     if absent { (0, 0) } else { (amplitude, epoch) }
 }
 
-/// The amplitude and the epoch that the line has for the constituent of this name.
+/// Returns the amplitude and the epoch of the constituent `name` in line `text`.
 #[tactic(auto, using(crate::proofs::Values::absent_pair), unfolding(crate::specs::Rules::pair_of, crate::specs::Rules::pair_from))]
 pub fn amplitude_and_epoch(name: &Text, text: &[u8]) -> Result<(i64, i64), Why>
     ensures { result ≡ pair_of name.now text.now }

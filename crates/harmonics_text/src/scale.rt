@@ -1,12 +1,12 @@
-//! How the decimals of a file are kept.
+//! The scales of the decimals of a file.
 
 ghost use Rattle.std.specs.Prelude.{◌≡◌, ◌≤◌};
 ghost use Rattle.harmonics_text.specs.Rules.{places_of, least_of, most_of};
 
-/// What a decimal stands for. With it go its unit and its range.
+/// The meaning of a decimal, which determines its unit and its range.
 #[derive(Clone, Copy)]
 pub enum Scale {
-    /// In ten-millionths of a degree per hour.
+    /// A speed, in ten-millionths of a degree per hour.
     Speed,
     /// An equilibrium argument or an epoch, in ten-millionths of a degree.
     Angle,
@@ -17,6 +17,7 @@ pub enum Scale {
 }
 
 impl Scale {
+    /// Returns the number of decimal places of the unit.
     pub fn places(self) -> u32
         ensures exact { result ≡ places_of self }
         ensures few { result ≤ 9 }
@@ -27,6 +28,7 @@ impl Scale {
         }
     }
 
+    /// Returns the least value, in the unit of the scale.
     pub fn least(self) -> i64
         ensures { result ≡ least_of self }
     {
@@ -37,6 +39,7 @@ impl Scale {
         }
     }
 
+    /// Returns the greatest value, in the unit of the scale.
     pub fn most(self) -> i64
         ensures { result ≡ most_of self }
     {

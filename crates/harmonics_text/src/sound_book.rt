@@ -1,4 +1,4 @@
-//! A book that is known to be sound.
+//! A book that is proved to be valid.
 
 ghost use Rattle.std.specs.Prelude.{◌≡◌};
 ghost use Rattle.harmonics_text.specs.Books.{IsBook};
@@ -6,8 +6,8 @@ ghost use Rattle.harmonics_text.specs.Books.{IsBook};
 use crate::book::Book;
 use std::marker::Model;
 
-/// A book whose counts, names and values lie in the ranges of a file, lent. Contracts see it as the
-/// book.
+/// A borrowed book whose counts, names and values are proved to be in the ranges of a file. In contracts
+/// its value is the book.
 #[derive(Debug, Drop)]
 pub struct SoundBook<'a> {
     book: &'a Book,
@@ -26,7 +26,7 @@ impl<'a> Model for SoundBook<'a> {
 }
 
 impl<'a> SoundBook<'a> {
-    /// A book that meets its ranges.
+    /// Returns `book` as a valid one; the caller proves its ranges.
     pub fn new(book: &'a Book) -> SoundBook<'a>
         requires { IsBook book.now }
         ensures { result ≡ book.now }
@@ -34,7 +34,7 @@ impl<'a> SoundBook<'a> {
         SoundBook { book }
     }
 
-    /// The book, lent.
+    /// Borrows the book.
     pub fn get(&self) -> &'a Book
         ensures exact { result.now ≡ self.now }
         ensures sound { IsBook self.now }

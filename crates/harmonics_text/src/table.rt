@@ -14,17 +14,17 @@ use crate::scale::Scale;
 use decimal_text::Text;
 use std::alloc::Global;
 
-/// A table as far as it is read.
+/// A table that is read in part.
 #[derive(Drop)]
 pub struct Table {
-    /// The place of the constituent that is next.
+    /// The index of the constituent whose values are next.
     pub place: usize,
-    /// How many of its values are still to come: 0 before its name.
+    /// The number of its values still to come: 0 before its name.
     pub left: u32,
     pub values: Column,
 }
 
-/// The table with nothing read.
+/// Returns the table before any line.
 pub fn start_table(alloc: Global) -> Table
     ensures { result ≡ new_table }
 {
@@ -35,7 +35,7 @@ pub fn start_table(alloc: Global) -> Table
     }
 }
 
-/// Adds the number of a token.
+/// Appends the number in `token` to `values`.
 #[tactic(auto, unfolding(crate::specs::Workings::Drafts::pushed))]
 fn push_number(values: &mut Column, scale: Scale, token: &[u8]) -> Result<(), LineFault>
     ensures { Follows (λ _. values.new) result (pushed scale values.old token.now) }
@@ -44,7 +44,7 @@ fn push_number(values: &mut Column, scale: Scale, token: &[u8]) -> Result<(), Li
     Ok(())
 }
 
-/// The place after a line that leaves so many values to come.
+/// Returns the constituent's index after a line that leaves `left` values to come.
 fn next_place(left: u32, place: usize) -> usize
     requires { place < 500 }
     ensures { result ≡ at_place left place }
@@ -52,7 +52,7 @@ fn next_place(left: u32, place: usize) -> usize
     if left == 0 { place + 1 } else { place }
 }
 
-/// The values of a line.
+/// Returns `table` with the values of line `text`.
 #[tactic(auto, unfolding(crate::specs::Workings::Drafts::after_values))]
 fn with_values(table: Table, scale: Scale, text: &[u8]) -> Result<Table, LineFault>
     requires { table.place < 500 }
@@ -76,7 +76,7 @@ fn with_values(table: Table, scale: Scale, text: &[u8]) -> Result<Table, LineFau
     })
 }
 
-/// The line that names the constituent of the values after it.
+/// Checks that line `text` is the name of the constituent of the next values.
 #[tactic(auto, unfolding(crate::specs::Rules::named))]
 fn check_name(name: &Text, text: &[u8]) -> Result<(), Why>
     ensures { result ≡ named name.now text.now }
@@ -91,7 +91,7 @@ fn check_name(name: &Text, text: &[u8]) -> Result<(), Why>
     }
 }
 
-/// The next line of a table that is not complete.
+/// Returns `table`, which is incomplete, after its next line `text`.
 #[tactic(auto, unfolding(crate::specs::Workings::Drafts::after_table_line, crate::specs::Workings::Drafts::after_name))]
 pub fn with_line(
     table: Table,

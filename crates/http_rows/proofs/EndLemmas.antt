@@ -1,4 +1,4 @@
--- A head that has ended stays as it is.
+-- A head that has ended is unchanged by further bytes.
 use Rattle.std.proofs.Common.{◌≡◌, ℕ, suc, ◌+◌, ◌-◌, ◌≤◌, Bool, true, false, List, [], ◌∷◌, ◌++◌, length, take, arith, Option, Some, None, is_some, append-nil, ap, ◌∙◌, sym, refl}
 use Rattle.std.specs.Prelude.{◌==◌, ◌&&◌, nat_le, if◌then◌else◌}
 use Rattle.std.specs.Option.{option_map}
@@ -34,7 +34,7 @@ mapped : (x : Option ℕ) (n : ℕ) → option_map (λ m. m + 1) x ≡ Some n �
 mapped None n is = absurd (cc)
 mapped (Some k) n is = let e : k + 1 ≡ n = cc in (ap Some (omega arith), omega arith)
 
--- the head after its first byte, behind which it ends or doesn't
+-- the head without its first byte, after which it ends or doesn't
 abbrev pub after : Bool → Option ℕ → Option ℕ → Option ℕ
 after here ended later = option_map (λ m. m + 1) (if here then ended else later)
 

@@ -1,4 +1,4 @@
--- Fields gone through one by one.
+-- Counting the fields of a name one by one.
 use Rattle.std.proofs.Common.{◌≡◌, ℕ, ◌+◌, ◌<◌, ◌≤◌, Bool, true, false, List, [], ◌∷◌, ◌++◌, map, length, get_or, take, arith, ap, ◌∙◌, refl}
 use Rattle.std.specs.Prelude.{◌==◌, if◌then◌else◌, filter}
 use Rattle.std.specs.Str.{str_eq_ignore_ascii_case}
@@ -54,7 +54,7 @@ length_push values value = grind (arith, common_steps)
 abbrev pub noted : ℕ → List ℕ → Occurs
 noted count first = record { count = count; first = first }
 
--- once all fields were gone through
+-- after the last field
 pub all_named : (bytes name : List ℕ) (fields : List HeaderSpan) (i : ℕ) (seen : Occurs) → length fields ≤ i
     → seen.count ≡ length (values_of name (map (header_bytes bytes) (take i fields)))
     → seen.first ≡ first_or_empty (values_of name (map (header_bytes bytes) (take i fields)))

@@ -1,4 +1,4 @@
--- Where a head ends, line by line.
+-- The end of a head, line by line.
 use Rattle.std.proofs.Common.{◌≡◌, ℕ, add-one, ◌+◌, ◌<◌, ◌≤◌, Bool, false, List, [], ◌∷◌, length, get_or, take, drop, arith, Option, Some, None, is_some, ap, ◌∙◌, sym, refl}
 use Rattle.std.specs.Prelude.{◌==◌, ◌&&◌, min}
 use Rattle.std.specs.Option.{option_map}
@@ -6,7 +6,7 @@ use Rattle.std.proofs.lemmas.Grind.{common_steps}
 use Rattle.std.proofs.Math.Seq.{drop-cons}
 use Rattle.http_rows.specs.Heads.{empty_line, head_length}
 
--- whether the head ends with an empty line behind that byte
+-- the head ends with an empty line after this byte
 abbrev pub ends_behind : ℕ → List ℕ → Bool
 ends_behind b bytes = (b == 10) && is_some (empty_line bytes)
 

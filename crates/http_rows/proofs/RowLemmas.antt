@@ -1,4 +1,4 @@
--- Rows of the table: one a request, which more bytes don't change once it is settled.
+-- Each request has one row, which further bytes don't change once it is settled.
 use Rattle.std.proofs.Common.{◌≡◌, ℕ, ◌+◌, ◌≤◌, Bool, true, false, List, [], ◌∷◌, ◌++◌, length, map, take, drop, length-drop, arith, Option, Some, None, is_none, ap, ◌∙◌, sym, subst, refl}
 use Rattle.std.specs.Prelude.{◌&&◌, nat_lt, nat_le, if◌then◌else◌, IsTrue}
 use Rattle.std.proofs.lemmas.Grind.{common_steps}
@@ -53,7 +53,7 @@ first_in_first [] last rejection is = absurd (cc)
 first_in_first (row ∷ rows) last rejection is =
     kept row.0 row.1 (first_row rows) (first_row (rows ++ last)) (Some rejection) is (first_in_first rows last rejection)
 
--- ---- a settled row stays
+-- ---- a settled row is unchanged
 
 cut_later : (post : Bool) (size : ℕ) (rest more : List ℕ) → (post && nat_lt (length rest) size) ≡ false
     → (post && nat_lt (length (rest ++ more)) size) ≡ false
@@ -65,7 +65,7 @@ body_stays : (post : Bool) (size : ℕ) (rest more : List ℕ) → (post && nat_
 body_stays true size rest more there = grind (arith, common_steps, nat_tests)
 body_stays false size rest more there = refl
 
--- the row where no field rejects, by whether the body is cut short
+-- the row if no field rejects the request: the body is complete or cut short
 abbrev pub row_by : Bool → Head → List ℕ → Row
 row_by cut head rest = field_row (if cut then Some BodyCutShort else None) head rest
 
@@ -96,12 +96,12 @@ ended_stays None None rest more settled = refl
 ended_stays None (Some head) rest more settled =
     fields_stay (field_rows head) (first_row (field_rows head)) head rest more refl settled
 
--- ---- more bytes of a request
+-- ---- further bytes of a request
 
 longer : (request more : List ℕ) → nat_le MOST_HEAD (length request) ≡ true → nat_le MOST_HEAD (length (request ++ more)) ≡ true
 longer request more long = grind (arith, common_steps, nat_tests)
 
--- whether a head that hasn't ended is too large
+-- a head that hasn't ended is too large, or cut short
 abbrev pub unended : Bool → Row
 unended long = rejects (if long then HeadTooLarge else HeadCutShort) false
 
@@ -170,7 +170,7 @@ none_hold [] none = tt
 none_hold (row ∷ rows) none =
     let one = fails row.0 row.1 (first_row rows) none in (one.0, none_hold rows one.1)
 
--- the last row of the fields: a body isn't too large
+-- the last row of the fields: the body is within its limit
 small_body : (head : Head) → first_row (field_rows head) ≡ None → (is_post head && nat_lt MOST_BODY (length_of head)) ≡ false
 unfolding NoneHold
 small_body head none = (none_hold (field_rows head) none).1.1.1.1.1.1.1.0

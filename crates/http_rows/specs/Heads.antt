@@ -1,4 +1,4 @@
--- The head of a request: where it ends, and what the server reads of it (RFC 9112, sections 2 to 6).
+-- The head of a request: its end, and the fields that the server uses (RFC 9112, sections 2 to 6).
 use Rattle.std.specs.Prelude.{◌≡◌, ℕ, ◌+◌, ◌<◌, ◌≤◌, ◌==◌, ◌&&◌, if◌then◌else◌, List, [], ◌∷◌, length, take, map, filter, count_by, Option, Some, None, is_some, codes}
 use Rattle.std.specs.List.{starts_with}
 use Rattle.std.specs.Option.{option_map}
@@ -8,43 +8,46 @@ use Rattle.httparse.specs.Grammar.{RequestHead, ReadsRequest}
 use Rattle.httparse.specs.Spans.{name_and_value}
 use Rattle.http_rows.specs.declared.limits.TheConstants.{MOST_FIELDS, MOST_HEAD}
 
--- how long the empty line at the front is: LF, or CR LF
+-- the length of the empty line that the bytes begin with: LF, or CR LF
 unfoldable pub empty_line : List ℕ → Option ℕ
 empty_line bytes =
     if starts_with (λ a b. a == b) bytes (line_feed ∷ []) then Some 1
     else (if starts_with (λ a b. a == b) bytes crlf_bytes then Some 2 else None)
 
--- how long the head is: it ends with the empty line that directly follows the first LF which one follows
+-- the length of the head, which ends with the first empty line that directly follows an LF
 unfoldable pub head_length : List ℕ → Option ℕ
 head_length [] = None
 head_length (b ∷ bytes) =
     option_map (λ n. n + 1) (if b == line_feed && is_some (empty_line bytes) then empty_line bytes else head_length bytes)
 
--- the head of a request ends within the most bytes that it may have
+-- the length of the head of a request, if it ends within MOST_HEAD bytes
 abbrev pub head_end : List ℕ → Option ℕ
 head_end request = head_length (take MOST_HEAD request)
 
+-- the number of LF in the bytes
 abbrev pub line_feeds : List ℕ → ℕ
 line_feeds bytes = count_by (λ b. b == line_feed) bytes
 
--- how many fields have a name, and the value of the first of them
+-- the number of fields of one name, and the value of the first of them
 pub record Occurs : Type 0 where
   pub count : ℕ
   pub first : List ℕ
 
--- the values of the fields of that name, which is compared without regard to ASCII case
+-- the values of the fields called `name`, compared without ASCII case
 abbrev pub values_of : List ℕ → List (List ℕ × List ℕ) → List (List ℕ)
 values_of name fields = map (λ f. f.1) (filter (λ f. str_eq_ignore_ascii_case f.0 name) fields)
 
+-- the first value, or no bytes if there is none
 abbrev pub first_or_empty : List (List ℕ) → List ℕ
 first_or_empty [] = []
 first_or_empty (value ∷ more) = value
 
+-- the fields called `name`: their number, and the first value
 abbrev pub occurs : List ℕ → List (List ℕ × List ℕ) → Occurs
 occurs name fields =
     record { count = length (values_of name fields); first = first_or_empty (values_of name fields) }
 
--- what the server reads of a head
+-- the parts of a head that the server uses
 pub record Head : Type 0 where
   pub method : List ℕ
   pub target : List ℕ
@@ -53,6 +56,7 @@ pub record Head : Type 0 where
   pub content_length : Occurs
   pub transfer_coding : Occurs
 
+-- the parts of a request head with these fields that the server uses
 abbrev pub head_of : List ℕ → List ℕ → ℕ → List (List ℕ × List ℕ) → Head
 head_of method target minor fields = record {
   method = method;
@@ -63,7 +67,8 @@ head_of method target minor fields = record {
   transfer_coding = occurs (codes "transfer-encoding") fields;
 }
 
--- What bytes read as: the head of the crate's grammar that they are to their last byte, unless it has too many fields.
+-- Bytes read as a head: to their last byte they are a request head of the grammar of `httparse`, with at
+-- most MOST_FIELDS fields. They read as none if each such head has more fields.
 abbrev pub ReadsAs : List ℕ → Option Head → Type 0
 ReadsAs bytes None = (h : RequestHead) → ReadsRequest bytes h [] → MOST_FIELDS < length h.fields
 ReadsAs bytes (Some head) =

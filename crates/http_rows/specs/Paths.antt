@@ -5,6 +5,7 @@ use Rattle.std.specs.Str.{bytes_eq}
 use Rattle.http_rows.specs.declared.path.Path.{Path}
 use Rattle.http_rows.specs.declared.path.Path.TheVariants.{Predict, Certify, Heights, Calendar, Clock, Stations, Check}
 
+-- the text of each path
 abbrev pub text_of : Path → List ℕ
 text_of Predict = codes "/predict"
 text_of Certify = codes "/certify"
@@ -17,11 +18,11 @@ text_of Check = codes "/check"
 abbrev pub all_paths : List Path
 all_paths = Predict ∷ Certify ∷ Heights ∷ Calendar ∷ Clock ∷ Stations ∷ Check ∷ []
 
--- the path of a text, if it is known
+-- the path with a text, if there is one
 abbrev pub path_named : List ℕ → Option Path
 path_named text = find (λ path. bytes_eq (text_of path) text) all_paths
 
--- whether a path is for POST; the others are for GET and HEAD
+-- a path is for POST; the others are for GET and HEAD
 abbrev pub is_posted : Path → Bool
 is_posted Check = true
 is_posted Predict = false

@@ -6,7 +6,7 @@ use Rattle.http_rows.specs.declared.code.Code.TheVariants as code
 use Rattle.http_rows.specs.declared.rejection.Rejection.{Rejection}
 use Rattle.http_rows.specs.declared.rejection.Rejection.TheVariants.{HeadTooLarge, HeadCutShort, BadRequest, NotFound, WantsGet, WantsPost, LengthRequired, BodyTooLarge, BodyCutShort}
 
--- a status code and its phrase
+-- a status code with its reason phrase
 unfoldable pub status_of : Code → List ℕ
 status_of code.Success = codes "200 OK"
 status_of code.BadRequest = codes "400 Bad Request"
@@ -18,7 +18,8 @@ status_of code.Unprocessable = codes "422 Unprocessable Content"
 status_of code.FieldsTooLarge = codes "431 Request Header Fields Too Large"
 status_of code.Unavailable = codes "503 Service Unavailable"
 
--- the head of a response of a type, for a body of a length, with a line that names the methods allowed or none
+-- the head of a response of the type `kind` for a body of `size` bytes; `allow` is the line of allowed
+-- methods, or empty
 abbrev pub response_head : Code → List ℕ → List ℕ → ℕ → List ℕ
 response_head code kind allow size =
     codes "HTTP/1.1 " ++ status_of code
@@ -26,12 +27,13 @@ response_head code kind allow size =
     ++ allow
     ++ codes "Connection: close\r\n\r\n"
 
--- a response with its body or without it; the length is the body's
+-- a response with its body or without it; its length is that of the body in both cases
 abbrev pub response : Code → List ℕ → List ℕ → List ℕ → Bool → List ℕ
 response code kind allow body bodiless = response_head code kind allow (length body) ++ (if bodiless then [] else body)
 
 -- ---- the fixed rows
 
+-- the status code of each rejection
 unfoldable pub code_of : Rejection → Code
 code_of HeadTooLarge = code.FieldsTooLarge
 code_of HeadCutShort = code.BadRequest
@@ -43,6 +45,7 @@ code_of LengthRequired = code.LengthRequired
 code_of BodyTooLarge = code.ContentTooLarge
 code_of BodyCutShort = code.BadRequest
 
+-- the body of the reply to each rejection
 unfoldable pub body_of : Rejection → List ℕ
 body_of HeadTooLarge = codes "header fields too large\n"
 body_of HeadCutShort = codes "bad request\n"
@@ -54,6 +57,7 @@ body_of LengthRequired = codes "length required\n"
 body_of BodyTooLarge = codes "content too large\n"
 body_of BodyCutShort = codes "bad request\n"
 
+-- the line of allowed methods in the reply to each rejection
 unfoldable pub allow_of : Rejection → List ℕ
 allow_of WantsGet = codes "Allow: GET, HEAD\r\n"
 allow_of WantsPost = codes "Allow: POST\r\n"
@@ -65,25 +69,27 @@ allow_of LengthRequired = []
 allow_of BodyTooLarge = []
 allow_of BodyCutShort = []
 
--- the reply of a fixed row
+-- the reply to a rejected request
 abbrev pub rejection_of : Rejection → Bool → List ℕ
 rejection_of rejection bodiless =
     response (code_of rejection) (codes "text/plain") (allow_of rejection) (body_of rejection) bodiless
 
--- the reply of a row that is fixed
+-- the reply of a fixed row; none for a request that the predictor answers
 abbrev pub fixed_of : Row → Option (List ℕ)
 fixed_of (rejects rejection bodiless) = Some (rejection_of rejection bodiless)
 fixed_of (asks asking) = None
 
--- ---- want of memory
+-- ---- out of memory
 
+-- the reply of a row has no body
 abbrev pub is_bodiless : Row → Bool
 is_bodiless (rejects rejection bodiless) = bodiless
 is_bodiless (asks asking) = asking.bodiless
 
--- the reply that stands for any other one where memory is wanting
+-- the reply that replaces any other one if memory runs out
 abbrev pub unavailable_to : Bool → List ℕ
 unavailable_to bodiless = response code.Unavailable (codes "text/plain") [] (codes "no memory\n") bodiless
 
+-- the reply to a row's request that replaces any other one if memory runs out
 abbrev pub unavailable_of : Row → List ℕ
 unavailable_of row = unavailable_to (is_bodiless row)

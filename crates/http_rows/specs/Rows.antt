@@ -1,5 +1,5 @@
--- Which row of the table of statuses answers a request (RFC 9110, sections 9 and 15; RFC 9112, sections 2, 3 and 6; the paths
--- and the order are this project's).
+-- The row of the table of statuses that applies to a request (RFC 9110, sections 9 and 15; RFC 9112,
+-- sections 2, 3 and 6; the paths and the order are this project's).
 use Rattle.std.specs.Prelude.{◌≡◌, ℕ, ◌+◌, ◌==◌, nat_lt, nat_le, Bool, true, false, not, ◌&&◌, ◌||◌, if◌then◌else◌, List, [], ◌∷◌, ◌++◌, length, take, drop, Option, Some, None, is_none, unwrap_or, codes}
 use Rattle.std.specs.List.{position_or_len, starts_with}
 use Rattle.std.specs.Option.{option_map_or}
@@ -12,57 +12,64 @@ use Rattle.http_rows.specs.declared.path.Path.{Path}
 use Rattle.http_rows.specs.declared.rejection.Rejection.{Rejection}
 use Rattle.http_rows.specs.declared.rejection.Rejection.TheVariants.{HeadTooLarge, HeadCutShort, BadRequest, NotFound, WantsGet, WantsPost, LengthRequired, BodyTooLarge, BodyCutShort}
 
--- the path is what stands before the first `?`, and the query is what stands behind it
+-- the path is the part of the target before its first `?` (63), and the query is the part after it
 abbrev pub path_of : List ℕ → List ℕ
 path_of target = take (position_or_len (λ b. b == 63) target) target
 
 abbrev pub query_of : List ℕ → List ℕ
 query_of target = drop (position_or_len (λ b. b == 63) target + 1) target
 
+-- the path of a head's target, if the server has it
 abbrev pub path_in : Head → Option Path
 path_in head = path_named (path_of head.target)
 
+-- the path is for GET and HEAD
 abbrev pub wants_get : Head → Bool
 wants_get head = option_map_or (λ path. not (is_posted path)) (path_in head) false
 
+-- the path is for POST
 abbrev pub wants_post : Head → Bool
 wants_post head = option_map_or is_posted (path_in head) false
 
+-- the method is HEAD
 abbrev pub is_head : Head → Bool
 is_head head = bytes_eq head.method (codes "HEAD")
 
+-- the method is GET or HEAD
 abbrev pub is_read : Head → Bool
 is_read head = bytes_eq head.method (codes "GET") || is_head head
 
+-- the method is POST
 abbrev pub is_post : Head → Bool
 is_post head = bytes_eq head.method (codes "POST")
 
--- how long the body is to be: one field says it by digits alone, and no transfer coding says it otherwise
+-- the length of the body: the digits of exactly one Content-Length, without any Transfer-Encoding
 abbrev pub length_in : Head → Option ℕ
 length_in head =
     if nat_lt 1 head.content_length.count || nat_lt 0 head.transfer_coding.count then None
     else digits_of MOST_DIGITS head.content_length.first
 
+-- the length of the body, 0 if there is none
 abbrev pub length_of : Head → ℕ
 length_of head = unwrap_or (length_in head) 0
 
 -- ---- the table, in its order
 
--- of a request whose head hasn't ended
+-- the rows of a request whose head hasn't ended
 abbrev pub unended_rows : List ℕ → List (Bool × Rejection)
 unended_rows request =
     (nat_le MOST_HEAD (length request), HeadTooLarge)
     ∷ (true, HeadCutShort)
     ∷ []
 
--- of a head that has ended, and of what it reads as
+-- the rows of a head that has ended, by its lines and its grammar
 abbrev pub head_rows : List ℕ → Option Head → List (Bool × Rejection)
 head_rows bytes read =
     (nat_lt MOST_LINES (line_feeds bytes), HeadTooLarge)
     ∷ (is_none read, BadRequest)
     ∷ []
 
--- of what the head says
+-- the rows of a head's fields, path, method and length, in order
 abbrev pub field_rows : Head → List (Bool × Rejection)
 field_rows head =
     (nat_lt 1 head.host.count || (head.minor == 1 && (head.host.count == 0)), BadRequest)
@@ -75,31 +82,33 @@ field_rows head =
     ∷ (is_post head && nat_lt MOST_BODY (length_of head), BodyTooLarge)
     ∷ []
 
--- of the bytes behind the head
+-- the rows of the bytes after the head
 abbrev pub body_rows : Head → List ℕ → List (Bool × Rejection)
 body_rows head rest =
     (is_post head && nat_lt (length rest) (length_of head), BodyCutShort)
     ∷ []
 
--- the first row whose condition holds
+-- the first row whose condition is true
 abbrev pub first_row : List (Bool × Rejection) → Option Rejection
 first_row [] = None
 first_row (row ∷ rows) = if row.0 then Some row.1 else first_row rows
 
--- ---- the row that answers
+-- ---- the row that applies
 
--- what is asked of the tables: by the path, the query and the body, and whether the reply leaves its body out
+-- a request for the predictor: path, query and body, and whether the reply has no body
 pub record Asking : Type 0 where
   pub path : List ℕ
   pub query : List ℕ
   pub body : List ℕ
   pub bodiless : Bool
 
--- A fixed row rejects a request, with or without the reply's body. Behind these rows the request asks.
+-- A fixed row rejects a request, and says whether its reply has no body. Any other request is for the
+-- predictor.
 pub data Row : Type 0 where
   rejects : Rejection → Bool → Row
   asks : Asking → Row
 
+-- the request of a head whose body is at the begin of `rest`
 abbrev pub asking : Head → List ℕ → Asking
 asking head rest = record {
   path = path_of head.target;
@@ -108,34 +117,36 @@ asking head rest = record {
   bodiless = is_head head;
 }
 
--- a reply to HEAD leaves its body out once the head was read
+-- a rejection after the head was read: a reply to HEAD has no body
 abbrev pub field_row : Option Rejection → Head → List ℕ → Row
 field_row (Some rejection) head rest = rejects rejection (is_head head)
 field_row None head rest = asks (asking head rest)
 
+-- the row after the test of the head's end and grammar
 abbrev pub head_row : Option Rejection → Option Head → List ℕ → Row
 head_row (Some rejection) read rest = rejects rejection false
 head_row None None rest = rejects BadRequest false
 head_row None (Some head) rest = field_row (first_row (field_rows head ++ body_rows head rest)) head rest
 
--- of a head that has ended
+-- the row of a head that has ended
 abbrev pub ended_row : List ℕ → Option Head → List ℕ → Row
 ended_row bytes read rest = head_row (first_row (head_rows bytes read)) read rest
 
--- of a request whose head hasn't ended
+-- the row of a request whose head hasn't ended
 abbrev pub unended_row : List ℕ → Row
 unended_row request = head_row (first_row (unended_rows request)) None []
 
--- The row of a request, by where its head ends.
+-- the row of a request whose head ends at `end`, or not at all
 abbrev pub IsRowAt : Option ℕ → List ℕ → Row → Type 0
 IsRowAt None request row = row ≡ unended_row request
 IsRowAt (Some end) request row =
     (read : Option Head) × ReadsAs (take end request) read × (row ≡ ended_row (take end request) read (drop end request))
 
+-- the row of the table that applies to a request
 abbrev pub IsRow : List ℕ → Row → Type 0
 IsRow request row = IsRowAt (head_end request) request row
 
--- Whether more bytes of the request can't change the row: neither its head nor its body was cut short.
+-- further bytes of the request can't change the row: neither its head nor its body was cut short
 abbrev pub is_settled_by : Rejection → Bool
 is_settled_by HeadCutShort = false
 is_settled_by BodyCutShort = false
@@ -147,6 +158,7 @@ is_settled_by WantsPost = true
 is_settled_by LengthRequired = true
 is_settled_by BodyTooLarge = true
 
+-- further bytes of the request can't change the row
 abbrev pub is_settled : Row → Bool
 is_settled (rejects rejection bodiless) = is_settled_by rejection
 is_settled (asks asking) = true

@@ -1,4 +1,4 @@
-//! What is asked, or why it is rejected.
+//! The request for the predictor that a head and a body make, or the reason why they are rejected.
 
 ghost use Rattle.std.specs.Prelude.{◌≡◌, ◌==◌, ◌≤◌, length, nat_lt, ◌&&◌, ◌||◌, ◌++◌, Some, None, IfOk, IfErr, codes};
 ghost use Rattle.std.specs.List.{starts_with};
@@ -13,13 +13,13 @@ use crate::rejection::Rejection;
 use crate::target::{path_of, query_of};
 use decimal_text::digits;
 
-/// What is asked of the predictor.
+/// A request that passes all fixed rows: its path, query and body.
 #[derive(Clone, Copy, Debug)]
 pub struct Asking<'a> {
     pub path: Path,
     pub query: &'a [u8],
     pub body: &'a [u8],
-    /// Whether the reply leaves its body out.
+    /// True if the reply has no body (a request by HEAD).
     pub bodiless: bool,
 }
 
@@ -41,7 +41,8 @@ fn has_bad_host(head: &Head<'_>) -> bool
     head.host.count > 1 || head.minor == 1 && head.host.count == 0
 }
 
-/// How long the body is to be.
+/// Returns the length of the body in bytes, or `None` unless exactly one Content-Length has digits only
+/// and there is no Transfer-Encoding.
 fn length_in(head: &Head<'_>) -> Option<u64>
     ensures { result ≡ length_in (head_seen head.now) }
 {
@@ -57,7 +58,10 @@ fn is_path(target: &[u8]) -> bool
     target.starts_with(b"/".as_slice())
 }
 
-/// What is asked by what the head says and the bytes behind it, or why they are rejected.
+/// Returns the request of `head`, whose body is at the begin of `rest`.
+///
+/// # Errors
+/// The first [`Rejection`] of the table of statuses that applies.
 pub(crate) fn asked<'a>(head: &Head<'a>, rest: &'a [u8]) -> Result<Asking<'a>, Rejection>
     ensures asks { IfOk result (λ a. (first_row (field_rows (head_seen head.now) ++ body_rows (head_seen head.now) rest.now) ≡ None)
         × (asking_seen a ≡ asking (head_seen head.now) rest.now)) }

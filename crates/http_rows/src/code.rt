@@ -1,6 +1,6 @@
 //! The status codes of responses.
 
-/// A status code that the server answers.
+/// A status code of the server's responses (RFC 9110, section 15).
 #[derive(Clone, Copy, Debug, PartialEq, Eq)]
 pub enum Code {
     /// 200

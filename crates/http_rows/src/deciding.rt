@@ -1,4 +1,4 @@
-//! What a request's bytes decide by themselves.
+//! Replies that follow from a request's bytes alone.
 
 ghost use Rattle.std.specs.Prelude.{◌≡◌, [], is_some, unwrap_or};
 ghost use Rattle.http_rows.specs.Responses.{fixed_of, unavailable_of};
@@ -9,14 +9,16 @@ use crate::responses::{write_rejection, write_unavailable};
 use crate::row::{Row, row_for};
 use arrayvec::ArrayString;
 
-/// Whether the bytes of a request that came so far settle its reply. It takes no memory.
+/// Returns true if the bytes received so far settle the reply: further bytes can't change it. It doesn't
+/// allocate.
 pub fn enough(request: &[u8]) -> bool
     ensures { (row : rows.Row) × IsRow request.now row × (result ≡ is_settled row) }
 {
     row_for(request).is_settled()
 }
 
-/// Writes the reply to the whole of a request, if it is one that needs no answer of the predictor. It takes no memory.
+/// Writes the reply to `request`, the whole of a request, to the empty `out` and returns true; if the
+/// predictor has to answer it, returns false and writes nothing. It doesn't allocate.
 pub fn fixed_reply(request: &[u8], out: &mut ArrayString<256>) -> bool
     requires { out.old.bytes ≡ [] }
     ensures { (row : rows.Row) × IsRow request.now row
@@ -31,7 +33,8 @@ pub fn fixed_reply(request: &[u8], out: &mut ArrayString<256>) -> bool
     }
 }
 
-/// Writes the reply that stands for another one where memory is wanting. It takes no memory.
+/// Writes the reply 503 that replaces any other one if memory runs out to the empty `out`. It doesn't
+/// allocate.
 pub fn unavailable_reply(request: &[u8], out: &mut ArrayString<256>)
     requires { out.old.bytes ≡ [] }
     ensures { (row : rows.Row) × IsRow request.now row × (out.new.bytes ≡ unavailable_of row) }

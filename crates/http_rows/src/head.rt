@@ -1,4 +1,4 @@
-//! What the server reads of a head.
+//! The fields of a head that the server uses.
 
 ghost use Rattle.std.specs.Prelude.{◌≡◌, ◌≤◌, ◌<◌, ◌^◌, All, length, map, take, codes};
 ghost use Rattle.std.specs.Option.{option_map};
@@ -12,14 +12,14 @@ use crate::limits::MOST_FIELDS;
 use httparse::Status;
 use httparse::spans::{EMPTY_HEADER_SPAN, HeaderSpan, RequestSpans, parse_request};
 
-/// How many fields have a name, and the value of the first of them.
+/// The number of fields of one name, and the value of the first of them.
 #[derive(Clone, Copy, Debug)]
 pub(crate) struct Occurs<'a> {
     pub(crate) count: usize,
     pub(crate) first: &'a [u8],
 }
 
-/// What the server reads of a head.
+/// The parts of a head that the server uses.
 #[derive(Clone, Copy, Debug)]
 pub(crate) struct Head<'a> {
     pub(crate) method: &'a [u8],
@@ -30,14 +30,15 @@ pub(crate) struct Head<'a> {
     pub(crate) transfer_coding: Occurs<'a>,
 }
 
-/// Whether the method is HEAD.
+/// Returns true if the method is HEAD.
 pub(crate) fn is_head(head: &Head<'_>) -> bool
     ensures { result ≡ is_head (head_seen head.now) }
 {
     head.method == b"HEAD".as_slice()
 }
 
-/// What the bytes read as, if they are a head to their last byte.
+/// Returns the head that `bytes` are to their last byte, or `None` if they are no head of HTTP/1.x or
+/// have more than 64 fields.
 pub(crate) fn read_head(bytes: &[u8]) -> Option<Head<'_>>
     ensures { ReadsAs bytes.now (option_map head_seen result) }
 {
@@ -67,7 +68,8 @@ fn head_at<'a>(bytes: &'a [u8], request: &RequestSpans, fields: &[HeaderSpan]) -
     }
 }
 
-/// How many of the fields have that name, and the value of the first of them.
+/// Returns the number of fields called `name`, compared without ASCII case, and the value of the first of
+/// them.
 fn named<'a>(bytes: &'a [u8], fields: &[HeaderSpan], name: &str) -> Occurs<'a>
     requires { All (IsHeaderWithin (length bytes.now)) fields.now }
     ensures { occurs_seen result ≡ occurs name.now (map (header_bytes bytes.now) fields.now) }

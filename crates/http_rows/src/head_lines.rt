@@ -5,7 +5,7 @@ ghost use Rattle.http_rows.specs.Heads.{empty_line, head_length, head_end, line_
 
 use crate::limits::MOST_HEAD;
 
-/// How long the empty line at the front is.
+/// Returns the length of the empty line that `bytes` begin with: 1 (LF), 2 (CR LF), or `None`.
 #[tactic(auto, unfolding(crate::specs::Heads::empty_line))]
 fn empty_line(bytes: &[u8]) -> Option<usize>
     ensures value { result ≡ empty_line bytes.now }
@@ -20,7 +20,7 @@ fn empty_line(bytes: &[u8]) -> Option<usize>
     }
 }
 
-/// The bytes from an index on.
+/// Returns the bytes from index `at` on.
 pub fn rest_from(bytes: &[u8], at: usize) -> &[u8]
     requires { at ≤ length bytes.now }
     ensures { result.now ≡ drop at bytes.now }
@@ -28,7 +28,8 @@ pub fn rest_from(bytes: &[u8], at: usize) -> &[u8]
     &bytes[at..]
 }
 
-/// How long the head is that the bytes begin with.
+/// Returns the length of the head that `bytes` begin with, its empty line included, or `None` if it
+/// doesn't end.
 fn head_length(bytes: &[u8]) -> Option<usize>
     ensures value { result ≡ head_length bytes.now }
     ensures within { IfSome result (λ n. n ≤ length bytes.now) }
@@ -43,7 +44,7 @@ fn head_length(bytes: &[u8]) -> Option<usize>
     None
 }
 
-/// How long the head of a request is, if it ends within its first bytes.
+/// Returns the length of the head of `request`, or `None` if it doesn't end within 8,192 bytes.
 pub(crate) fn head_end(request: &[u8]) -> Option<usize>
     ensures value { result ≡ head_end request.now }
     ensures within { IfSome result (λ n. n ≤ length request.now) }

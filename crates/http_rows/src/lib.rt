@@ -1,8 +1,9 @@
-//! The requests that an HTTP server gets, and the replies to them that need no answer of the predictor.
+//! HTTP requests, and the replies to them that don't need the predictor.
 //!
-//! [`row_for`] finds the row of the table of statuses that answers the bytes of a request: where the head ends, what it says,
-//! which path and method are meant, and how long the body is. [`write_rejection`] writes the reply of a fixed row, and
-//! [`response`] any other. [`enough`], [`fixed_reply`] and [`unavailable_reply`] do so for a request's bytes.
+//! [`row_for`] returns the row of the table of statuses that applies to the bytes of a request: it finds
+//! the end of the head, its fields, the path and method, and the length of the body. [`write_rejection`]
+//! writes the reply of a fixed row, and [`response`] any other. [`enough`], [`fixed_reply`] and
+//! [`unavailable_reply`] do so for the bytes of a request.
 #![tactic(auto)]
 
 mod asked;

@@ -1,16 +1,16 @@
-//! How large a request may be (this project).
+//! The limits on the size of a request (this project).
 
-/// How many bytes a head may have.
+/// The most bytes of a head.
 pub const MOST_HEAD: usize = 8_192;
 
-/// How many lines a head may have, the empty one at its end included.
+/// The most lines of a head, with the empty one at its end.
 pub const MOST_LINES: usize = 66;
 
-/// How many fields a head may have.
+/// The most fields of a head.
 pub const MOST_FIELDS: usize = 64;
 
-/// How many digits the length of a body may have.
+/// The most digits of the length of a body.
 pub const MOST_DIGITS: usize = 18;
 
-/// How many bytes a body may have.
+/// The most bytes of a body.
 pub const MOST_BODY: usize = 4_194_304;

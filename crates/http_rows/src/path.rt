@@ -1,6 +1,6 @@
-//! The paths that are known.
+//! The paths of the server.
 
-/// A path that is known.
+/// A path that the server serves, one for each command.
 #[derive(Clone, Copy, Debug, PartialEq, Eq)]
 pub enum Path {
     Predict,
@@ -40,7 +40,7 @@ impl Path {
         }
     }
 
-    /// The path of that text, if it is known.
+    /// Returns the path with the text `text`, or `None` if the server has no such path.
     pub(crate) fn named(text: &[u8]) -> Option<Path>
         ensures named { result ≡ path_named text.now }
         ensures same { IfSome result (λ path. text_of path ≡ text.now) }
@@ -51,14 +51,14 @@ impl Path {
             .find(|path| path.text().as_bytes() == text)
     }
 
-    /// The command that it names, which is its text without the `/`.
+    /// Returns the path's command: its text without the `/`.
     pub fn command(self) -> &'static str
         ensures { result.now ≡ drop 1 (text_of self) }
     {
         &self.text()[1..]
     }
 
-    /// Whether it is for POST; else it is for GET and HEAD.
+    /// Returns true if the path is for POST, false if it is for GET and HEAD.
     pub(crate) fn is_posted(self) -> bool
         ensures { result ≡ is_posted self }
     {

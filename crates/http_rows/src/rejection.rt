@@ -1,25 +1,25 @@
-//! Why a request is rejected by its head or its body alone.
+//! The reasons why a request is rejected without the predictor.
 
-/// Why a request is rejected by its head or its body alone.
+/// The reason why a request is rejected by its head or the length of its body.
 #[derive(Clone, Copy, Debug, PartialEq, Eq)]
 pub enum Rejection {
     /// The head doesn't end within 8,192 bytes, or has more than 66 lines.
     HeadTooLarge,
-    /// The request was over before its head ended.
+    /// The request ended before its head did.
     HeadCutShort,
-    /// The head isn't one of HTTP/1.1, or it contradicts itself.
+    /// The head isn't one of HTTP/1.x, or its fields contradict each other.
     BadRequest,
-    /// The path isn't known.
+    /// The server has no such path.
     NotFound,
     /// The path is for GET and HEAD.
     WantsGet,
     /// The path is for POST.
     WantsPost,
-    /// The body's length isn't given.
+    /// The length of the body is missing or unclear.
     LengthRequired,
     /// The body is longer than 4,194,304 bytes.
     BodyTooLarge,
-    /// The request was over before its body ended.
+    /// The request ended before its body did.
     BodyCutShort,
 }
 
@@ -27,7 +27,8 @@ impl Rejection {
     ghost use Rattle.std.specs.Prelude.{◌≡◌};
     ghost use Rattle.http_rows.specs.Rows.{is_settled_by};
 
-    /// Whether more bytes of the request can't change it: neither its head nor its body was cut short.
+    /// Returns true if further bytes of the request can't change the rejection: if neither head nor body
+    /// was cut short.
     pub(crate) fn is_settled(self) -> bool
         ensures { result ≡ is_settled_by self }
     {

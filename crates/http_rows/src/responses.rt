@@ -1,4 +1,4 @@
-//! Responses written.
+//! Writing responses.
 
 ghost use Rattle.std.specs.Prelude.{◌≡◌, ◌≤◌, ◌+◌, ◌++◌, [], length, codes, decimal, IfOk};
 ghost use Rattle.arrayvec.specs.ArrayString.{array_string_len};
@@ -83,7 +83,8 @@ fn push_number(number: usize, out: &mut ArrayString<256>)
     out.push_str(buffer.format(number));
 }
 
-/// Writes the head of a response for a body of so many bytes.
+/// Writes the head of a response to the empty `out`, for a body of `size` bytes of the type `kind`;
+/// `allow` is the line of the allowed methods, or empty.
 fn write_head(code: Code, kind: &str, allow: &str, size: usize, out: &mut ArrayString<256>)
     requires empty { out.old.bytes ≡ [] }
     requires kind { length kind.now ≤ 10 }
@@ -102,7 +103,8 @@ fn write_head(code: Code, kind: &str, allow: &str, size: usize, out: &mut ArrayS
     out.push_str("Connection: close\r\n\r\n");
 }
 
-/// Writes a response of plain text.
+/// Writes a response of type text/plain to the empty `out`; `bodiless` leaves the body out, but not its
+/// length.
 fn write_plain(code: Code, allow: &str, body: &str, bodiless: bool, out: &mut ArrayString<256>)
     requires empty { out.old.bytes ≡ [] }
     requires allow { length allow.now ≤ 18 }
@@ -115,7 +117,8 @@ fn write_plain(code: Code, allow: &str, body: &str, bodiless: bool, out: &mut Ar
     }
 }
 
-/// Writes the reply of a fixed row.
+/// Writes the reply to a rejected request to the empty `out`; `bodiless` leaves the body out, but not its
+/// length. It doesn't allocate.
 pub fn write_rejection(rejection: Rejection, bodiless: bool, out: &mut ArrayString<256>)
     requires { out.old.bytes ≡ [] }
     ensures { out.new.bytes ≡ rejection_of rejection bodiless }
@@ -129,7 +132,8 @@ pub fn write_rejection(rejection: Rejection, bodiless: bool, out: &mut ArrayStri
     );
 }
 
-/// Writes the reply that stands for another one where memory is wanting.
+/// Writes the reply 503 that replaces any other one if memory runs out to the empty `out`. It doesn't
+/// allocate.
 pub fn write_unavailable(bodiless: bool, out: &mut ArrayString<256>)
     requires { out.old.bytes ≡ [] }
     ensures { out.new.bytes ≡ unavailable_to bodiless }
@@ -137,7 +141,11 @@ pub fn write_unavailable(bodiless: bool, out: &mut ArrayString<256>)
     write_plain(Code::Unavailable, "", "no memory\n", bodiless, out);
 }
 
-/// A response with its body, or with the head alone.
+/// Returns the bytes of a response with `body`, of the type `kind` in UTF-8; `bodiless` leaves the body
+/// out, but not its length.
+///
+/// # Errors
+/// [`AllocError`] if memory runs out.
 pub fn response(
     alloc: Global,
     code: Code,

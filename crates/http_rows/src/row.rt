@@ -1,4 +1,4 @@
-//! The row of the table that answers a request.
+//! The row of the table of statuses that applies to a request.
 
 ghost use Rattle.std.specs.Prelude.{◌≡◌, Option};
 ghost use Rattle.http_rows.specs.Heads as heads;
@@ -11,12 +11,12 @@ use crate::head_lines::{head_end, line_feeds};
 use crate::limits::{MOST_HEAD, MOST_LINES};
 use crate::rejection::Rejection;
 
-/// The row of the table that answers a request.
+/// The row of the table of statuses that applies to a request.
 #[derive(Clone, Copy, Debug)]
 pub enum Row<'a> {
-    /// A fixed one, and whether the reply leaves its body out.
+    /// A fixed row, which rejects the request; true if its reply has no body.
     Rejects(Rejection, bool),
-    /// One behind the fixed rows, by what is asked.
+    /// A row after the fixed ones: the predictor answers this request.
     Asks(Asking<'a>),
 }
 
@@ -26,7 +26,7 @@ impl Row<'_> {
     ghost use Rattle.http_rows.specs.Rows.{is_settled};
     ghost use Rattle.http_rows.specs.Workings.Views.{row_seen};
 
-    /// Whether more bytes of the request can't change it.
+    /// Returns true if further bytes of the request can't change the row.
     pub fn is_settled(&self) -> bool
         ensures { result ≡ is_settled (row_seen self.now) }
     {
@@ -36,7 +36,7 @@ impl Row<'_> {
         }
     }
 
-    /// Whether the reply leaves its body out.
+    /// Returns true if the reply has no body.
     pub fn is_bodiless(&self) -> bool
         ensures { result ≡ is_bodiless (row_seen self.now) }
     {
@@ -47,7 +47,7 @@ impl Row<'_> {
     }
 }
 
-/// The row that answers the whole request.
+/// Returns the row of the table of statuses that applies to `request`, the whole of a request.
 pub fn row_for(request: &[u8]) -> Row<'_>
     ensures row { rows.IsRow request.now (row_seen result) }
     ensures known { IsAskingRow (row_seen result) }

@@ -1,9 +1,9 @@
-//! What a request's target names.
+//! The path and the query of a request's target.
 
 ghost use Rattle.std.specs.Prelude.{◌≡◌, ◌==◌, position};
 ghost use Rattle.http_rows.specs.Rows.{path_of, query_of};
 
-/// The path of a target.
+/// Returns the part of `target` before its first `?`.
 pub(crate) fn path_of(target: &[u8]) -> &[u8]
     ensures { result.now ≡ path_of target.now }
 {
@@ -13,7 +13,7 @@ pub(crate) fn path_of(target: &[u8]) -> &[u8]
     }
 }
 
-/// The query of a target, which is empty where it has none.
+/// Returns the part of `target` after its first `?`, or no bytes if it has none.
 pub(crate) fn query_of(target: &[u8]) -> &[u8]
     ensures { result.now ≡ query_of target.now }
 {

@@ -1,4 +1,4 @@
-//! Worked rows of the definitions that contracts cite.
+//! Examples of the definitions that contracts cite.
 
 ghost use Rattle.std.specs.Prelude.{◌≡◌, true, [], ◌∷◌, Some, None, codes};
 ghost use Rattle.http_rows.specs.Heads.{head_length, head_of};
@@ -9,7 +9,7 @@ ghost use Rattle.http_rows.specs.Rows.{path_of, query_of, length_in, field_rows,
 use crate::path::Path;
 use crate::rejection::Rejection;
 
-/// Checks the definitions at a few values.
+/// Proves examples of heads, targets, paths and lengths.
 #[tactic(auto, unfolding(crate::specs::Heads::empty_line, crate::specs::Heads::head_length))]
 pub fn worked_rows()
     ensures ended { head_length (codes "G / H\r\nA:b\r\n\r\nxy") ≡ Some 14 }
@@ -26,7 +26,7 @@ pub fn worked_rows()
     ensures unknown { path_named (codes "/Clock") ≡ None }
 {}
 
-/// Checks the order of the rows at a few heads, and the bytes of a reply.
+/// Proves examples of the order of the rows, and of the bytes of a reply.
 pub fn worked_replies()
     ensures host_first { first_row (field_rows (head_of (codes "PUT") (codes "/tides") 1 [])) ≡ Some Rejection.BadRequest }
     ensures path_before_method { first_row (field_rows (head_of (codes "PUT") (codes "/tides") 0 [])) ≡ Some Rejection.NotFound }

@@ -1,4 +1,4 @@
--- How the pieces ahead of a search change, and what they always have.
+-- The pieces ahead of a search: their changes and their invariant.
 use Rattle.std.proofs.Common.{◌≡◌, ℕ, suc, ◌+◌, ◌-◌, ◌*◌, ◌/◌, ◌^◌, ◌≤◌, ◌<◌, min, ℤ, pos, ◌+ℤ◌, ◌≤ℤ◌, ◌<ℤ◌, false, List, [], ◌∷◌, ◌++◌, length, length-append, refl, sym, ap, ◌∙◌, arith, append_assoc, nat_le}
 use Rattle.std.proofs.lemmas.Int.{ints}
 use Rattle.std.proofs.lemmas.Bool.Decides.{nat_tests}
@@ -18,11 +18,11 @@ use Rattle.interval_search.specs.Workings.Ahead.{minutes_to, IsPiece, cells_ahea
 pub split-unit : (c : Meaning) (a : ℤ) (n : ℕ) (cell : Cell) → n ≡ 1 → cell ≡ unit_cell c.track a → split c a n ≡ cell ∷ []
 split-unit c a n cell one is = rw (one, is) (split-one c a)
 
--- so many minutes on
+-- n minutes later
 minutes_to-add : (a : ℤ) (n : ℕ) → minutes_to a (a +ℤ pos n) ≡ n
 minutes_to-add a n = omega (arith, ints)
 
--- a block begun gives the same cells
+-- beginning a block doesn't change the cells
 last-cells : (c : Meaning) (end a b : ℤ) → a <ℤ end → minutes_to a end ≤ MOST_MINUTES → b ≡ end → split c a (minutes_to a b) ++ cover c b (minutes_to b end) ≡ cover c a (minutes_to a end)
 last-cells c end a b some few is =
     let none : minutes_to end end ≡ 0 = omega (arith, ints) in
@@ -59,7 +59,7 @@ begun-stands c values count end at p some is near stands =
       few = omega arith;
     }
 
--- the same as a call tells it
+-- the same in terms of a call's result
 pub begun-at : (c : Meaning) (values : ℤ → ℤ) (count more : ℕ) (end : ℤ) (at : Point) (b : ℤ) (p : Point) (old new : List Point) → at.minute <ℤ end → b ≡ at.minute +ℤ pos (min (minutes_to at.minute end) MOST_MINUTES) → p.minute ≡ b → p.value ≡ values b → more ≡ count + 1 → old ≡ [] → new ≡ []
     → Stands c values count end at old → Stands c values more end at (p ∷ new) × (cells_ahead c end at.minute (p ∷ new) ≡ cells_ahead c end at.minute old)
 begun-at c values count more end at b p old new some is minute near counted empty none stands =
@@ -67,7 +67,7 @@ begun-at c values count more end at b p old new some is minute near counted empt
     let cells = begun-cells c end at.minute p some (minute ∙ is) in
     (rw (counted, none) begun, rw (empty, none) cells)
 
--- the nearest piece, and what is halved of it
+-- the nearest piece, and its halves
 pub piece-parts : (values : ℤ → ℤ) (end a : ℤ) (p : Point) (ps : List Point) → ArePieces values end a (p ∷ ps) → (a <ℤ p.minute) × (minutes_to a p.minute * 2 ^ length ps ≤ MOST_MINUTES) × (p.value ≡ values p.minute) × ArePieces values end p.minute ps
 unfolding ArePieces
 piece-parts values end a p ps pieces = pieces
@@ -84,7 +84,7 @@ pieces-end values end a (p ∷ ps) pieces =
 one_or_more : (k n : ℕ) → n * 2 ^ k ≤ MOST_MINUTES → n ≤ MOST_MINUTES
 one_or_more k n few = let p = pow_pos k in let q = mul-le-mul_left n p in omega (arith, q)
 
--- what lies ahead of a point to the nearest one
+-- the cells from a point to the nearest pending one
 pub piece-ahead : (c : Meaning) (values : ℤ → ℤ) (end : ℤ) (at p : Point) (ps : List Point) → at.value ≡ values at.minute → c.first ≤ℤ at.minute → end ≤ℤ c.last → ArePieces values end at.minute (p ∷ ps) → IsPiece c values at p
 piece-ahead c values end at p ps near first last pieces =
     let parts = piece-parts values end at.minute p ps pieces in
@@ -103,7 +103,7 @@ piece-ahead c values end at p ps near first last pieces =
 pub nearest-piece : (c : Meaning) (values : ℤ → ℤ) (count : ℕ) (end : ℤ) (at p : Point) (ps : List Point) → Stands c values count end at (p ∷ ps) → IsPiece c values at p
 nearest-piece c values count end at p ps stands = piece-ahead c values end at p ps stands.value stands.first stands.last stands.pieces
 
--- few enough points wait for one more
+-- there is room for one more pending point
 pub waiting-few : (values : ℤ → ℤ) (end a : ℤ) (p : Point) (ps : List Point) → ArePieces values end a (p ∷ ps) → length ps < 16
 waiting-few values end a p ps pieces =
     let parts = piece-parts values end a p ps pieces in
@@ -118,14 +118,14 @@ waiting-few values end a p ps pieces =
     absurd (omega (arith, all)))
     (λ less. grind (arith, nat_tests))
 
--- few enough values were asked for one more
+-- there is room for one more evaluation
 pub asked-few : (c : Meaning) (values : ℤ → ℤ) (count : ℕ) (end : ℤ) (at p : Point) (ps : List Point) → Stands c values count end at (p ∷ ps) → count < 2 ^ 63
 asked-few c values count end at p ps stands =
     let few = stands.few in
     let waiting = waiting-few values end at.minute p ps stands.pieces in
     omega arith
 
--- halves instead of their whole
+-- two halves in place of their whole
 halved-cells : (c : Meaning) (end a m b : ℤ) (rest : List Cell) → a <ℤ b → 2 ≤ minutes_to a b → is_quiet c a (minutes_to a b) ≡ false → m ≡ a +ℤ pos (minutes_to a b / 2) → split c a (minutes_to a m) ++ (split c m (minutes_to m b) ++ rest) ≡ split c a (minutes_to a b) ++ rest
 halved-cells c end a m b rest some two loud is =
     let first : minutes_to a m ≡ minutes_to a b / 2 = omega (arith, ints) in
@@ -170,7 +170,7 @@ middle-stands c values count end at m p ps stands two loud is near =
       few = omega arith;
     }
 
--- a search that begins
+-- the state of a search at its begin
 pub first-stands : (c : Meaning) (values : ℤ → ℤ) (count more : ℕ) (begin end : ℤ) (p : Point) (ps : List Point) → IsLawful c → begin ≤ℤ end → c.first ≤ℤ begin → end ≤ℤ c.last → count ≤ 2 ^ 62 → more ≡ count + 1 → p.minute ≡ begin → p.value ≡ values begin → ps ≡ []
     → Stands c values more end p ps × (cells_ahead c end p.minute ps ≡ cover c begin (minutes_to begin end))
 unfolding cells_ahead ArePieces
@@ -180,7 +180,7 @@ first-stands c values count more begin end p ps lawful forward first last few co
     let late = lawful.late in
     rw (minute, none, counted) (record { value = near; first = first; last = last; pieces = forward; few = omega (arith, ints) }, refl)
 
--- a search that is done
+-- the state of a search at its end
 pub done-cells : (c : Meaning) (values : ℤ → ℤ) (end a : ℤ) (ps : List Point) → ArePieces values end a ps → a ≡ end → cells_ahead c end a ps ≡ []
 unfolding cells_ahead ArePieces
 done-cells c values end a [] pieces done =
@@ -203,7 +203,7 @@ cell-minutes c a b cell some one =
     let same = rw one at whole in
     omega (arith, ints)
 
--- a cell is given
+-- a cell is returned
 pub given-cells : (c : Meaning) (end a : ℤ) (p : Point) (ps : List Point) (cell : Cell) → split c a (minutes_to a p.minute) ≡ cell ∷ [] → cells_ahead c end a (p ∷ ps) ≡ cell ∷ cells_ahead c end p.minute ps
 unfolding cells_ahead
 given-cells c end a p ps cell one = rw one refl
@@ -243,7 +243,7 @@ points-few c values end a (p ∷ ps) pieces =
     let rest = points-few c values end p.minute ps pieces.3 in
     omega (arith, length-append (split c a (minutes_to a p.minute)) (cells_ahead c end p.minute ps))
 
--- no more values were asked for than in the end
+-- at most as many evaluations so far as in the end
 pub asked-most : (c : Meaning) (values : ℤ → ℤ) (more most all : ℕ) (end : ℤ) (at : Point) (ps : List Point) → Stands c values more end at ps → (more + length (cells_ahead c end at.minute ps)) - length ps ≡ most → most ≡ all → more ≤ all
 asked-most c values more most all end at ps stands is same =
     let few = points-few c values end at.minute ps stands.pieces in omega arith

@@ -1,8 +1,8 @@
-//! A cell and its place.
+//! A cell with its position.
 
 use curve_law::Cell;
 
-/// A cell that a search has found.
+/// A cell that a search has found, with its position.
 #[derive(Clone, Copy, Debug, PartialEq, Eq)]
 pub struct Found {
     /// The minute at which the cell begins, since 1970-01-01T00:00Z.

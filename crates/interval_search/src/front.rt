@@ -1,4 +1,4 @@
-//! How far a search has come.
+//! The state of a search: the point that it has reached, and the pieces after it.
 
 ghost use Rattle.std.specs.Prelude.{◌≡◌, ◌+◌, ◌-◌, ◌^◌, ◌<◌, ◌≤◌, ℤ, pos, ◌+ℤ◌, ◌-ℤ◌, ◌≤ℤ◌, ◌<ℤ◌, unsigned_abs, List, [], ◌∷◌, length};
 ghost use Rattle.curve_law.specs.Cover.{split, cover};
@@ -10,14 +10,14 @@ use crate::piece::{block_end, cell_between, middle};
 use crate::waiting::Waiting;
 use curve_law::{Cell, Curve, Point, near_point_at};
 
-/// A cell, and the point where it ends.
+/// A cell, and the point at its end.
 #[derive(Clone, Copy, Debug)]
 pub struct Step {
     pub end: Point,
     pub cell: Cell,
 }
 
-/// The end of the nearest piece, which is taken off, or else of the next block.
+/// Returns the end of the nearest piece, which is removed from `waiting`, or else of the next block.
 fn nearest_end<C: Curve>(curve: &mut C, waiting: &mut Waiting, at: Point, end: i64) -> Point
     requires stands { Stands (C.meaning curve.old) (C.near curve.old) (C.count curve.old) end at waiting.old }
     requires onward { at.minute <ℤ end }
@@ -34,7 +34,7 @@ fn nearest_end<C: Curve>(curve: &mut C, waiting: &mut Waiting, at: Point, end: i
     }
 }
 
-/// The first cell of the nearest piece, which is halved until it is one.
+/// Returns the first cell of the nearest piece, which is halved until it is one cell.
 fn nearest_step<C: Curve>(
     curve: &mut C,
     waiting: &mut Waiting,
@@ -61,8 +61,8 @@ fn nearest_step<C: Curve>(
     }
 }
 
-/// How far a search over a span has come: to a point, with the ends of the pieces ahead of it at which
-/// near values are known, the nearest one first, and on to the span's end.
+/// The state of a search over a span: the point that it has reached, the ends of the pieces after it
+/// whose approximate values are known, the nearest first, and the end of the span.
 #[derive(Debug, Drop)]
 pub struct Front {
     pub at: Point,
@@ -70,7 +70,7 @@ pub struct Front {
     pub end: i64,
 }
 
-/// The front of a search that begins.
+/// Returns the state of a search at its begin.
 pub fn front_at<C: Curve>(curve: &mut C, begin: i64, end: i64) -> Front
     requires forward { begin ≤ℤ end }
     requires first { (C.meaning curve.old).first ≤ℤ begin }
@@ -92,7 +92,7 @@ pub fn front_at<C: Curve>(curve: &mut C, begin: i64, end: i64) -> Front
     }
 }
 
-/// The next cell, and where it begins. None is left where the front is at the end.
+/// Returns the next cell and the minute at which it begins, or `None` if the search has reached the end.
 pub fn next_found<C: Curve>(curve: &mut C, front: &mut Front) -> Option<Found>
     requires { Stands (C.meaning curve.old) (C.near curve.old) (C.count curve.old) front.old.end front.old.at front.old.waiting }
     ensures same { C.meaning curve.new ≡ C.meaning curve.old }

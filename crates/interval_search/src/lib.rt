@@ -1,12 +1,12 @@
 //! The search for the cells of a span.
 //!
-//! [`search`] gives all cells of a span at once, and a [`Search`] one after the other, without memory.
-//! Both ask their curve for near values at the ends of cells alone, and at no minute twice: the pieces
-//! that wait stand on a small stack, with the near values at their ends. Where those leave open what
-//! lies between, the exact ones are taken.
+//! [`search`] returns all cells of a span at once, and a [`Search`] returns them one after the other
+//! without allocating. Both evaluate their curve at the ends of cells only, approximately, and at no
+//! minute twice: the ends of pending pieces wait on a small stack with their approximate values. If these
+//! leave the cell open, the exact values are used.
 //!
-//! A walk for cells of another kind cuts a span by the same rule: [`block_end`], [`halfway`],
-//! [`minutes_to`] and [`Waiting`] are for it too.
+//! Searches for cells of another kind use the same rule to cut a span: [`block_end`], [`halfway`],
+//! [`minutes_to`] and [`Waiting`] are public for them.
 #![tactic(auto)]
 
 mod found;

@@ -9,10 +9,10 @@ use crate::front::{Front, front_at, next_found};
 use curve_law::Curve;
 use std::marker::Model;
 
-/// A search for the cells of a span, one after the other. It owns its curve and takes no memory.
+/// A search that returns the cells of a span one after the other. It owns its curve and doesn't allocate.
 ///
-/// Contracts see the curve, the minute that the search has come to, the cells that are left from
-/// there on, and the most values that the curve will have been asked for in the end.
+/// In contracts its value is the curve, the minute that it has reached, the cells left from there on, and
+/// the greatest number of evaluations in the end.
 #[derive(Drop)]
 pub struct Search<C: Curve> {
     curve: C,
@@ -31,8 +31,16 @@ impl<C: Curve> Model for Search<C> {
 }
 
 impl<C: Curve> Search<C> {
-    /// A search over the minutes from `begin` on and before `end`, which the curve tells. The curve was
-    /// asked for at most 2^62 values.
+    /// Returns a search over the minutes from `begin` on and before `end`, all of them minutes of
+    /// `curve`, which was evaluated at most 2^62 times.
+    ///
+    /// # Examples
+    /// ```
+    /// let mut search = Search::new(Line::new(-2, false, 1), 0, 8);
+    /// let (quiet, event) = (Cell::Quiet(2), Cell::Turn(Kind::Low, 2));
+    /// assert_eq!(rt; search.next(), Some(Found { at: 0, cell: quiet }));
+    /// assert_eq!(rt; search.next(), Some(Found { at: 2, cell: event }));
+    /// ```
     pub fn new(curve: C, begin: i64, end: i64) -> Search<C>
         requires forward { begin ≤ℤ end }
         requires first { (C.meaning curve).first ≤ℤ begin }
@@ -48,7 +56,7 @@ impl<C: Curve> Search<C> {
         Search { curve, front }
     }
 
-    /// The next cell, and the minute at which it begins; none where no cell is left.
+    /// Returns the next cell and the minute at which it begins, or `None` if no cell is left.
     pub fn next(&mut self) -> Option<Found>
         ensures found { StepsOn self.old result self.new }
         ensures same { C.meaning self.new.curve ≡ C.meaning self.old.curve }
@@ -57,7 +65,7 @@ impl<C: Curve> Search<C> {
         next_found(&mut self.curve, &mut self.front)
     }
 
-    /// How many values the curve was asked for.
+    /// Returns the number of evaluations of the curve so far.
     pub fn evaluations(&self) -> u64
         ensures count { result ≡ C.count self.now.curve }
         ensures most { result ≤ self.now.most }

@@ -1,11 +1,11 @@
-//! What lies between two points at which near values are known.
+//! The cells between two points with known approximate values.
 
 ghost use Rattle.std.specs.Prelude.{◌≡◌, ◌+◌, ◌/◌, ◌≤◌, ◌<◌, ◌^◌, ℤ, pos, neg_ℤ, ◌+ℤ◌, ◌-ℤ◌, ◌≤ℤ◌, ◌<ℤ◌, unsigned_abs, min, IfSome, IfNone};
 ghost use Rattle.interval_search.specs.Workings.Ahead.{minutes_to, IsPiece, IsSplit};
 
 use curve_law::{Cell, Curve, MOST_MINUTES, Point, is_quiet_near, near_point_at, unit_cell_near};
 
-/// The one cell of the minutes between two points, or none where they have to be halved.
+/// Returns the one cell of the minutes from `begin` to `end`, or `None` if they have to be halved.
 pub fn cell_between<C: Curve>(curve: &C, begin: Point, end: Point) -> Option<Cell>
     requires { IsPiece (C.meaning curve.now) (C.near curve.now) begin end }
     ensures { IsSplit (C.meaning curve.now) begin.minute (minutes_to begin.minute end.minute) result }
@@ -21,8 +21,8 @@ pub fn cell_between<C: Curve>(curve: &C, begin: Point, end: Point) -> Option<Cel
     }
 }
 
-/// The minute at which the second half of a piece begins, with its near value; the first half is the
-/// shorter one. One value is counted.
+/// Evaluates `curve` approximately at the begin of the second half of a piece, and returns the point. The
+/// first half is the shorter one.
 pub fn middle<C: Curve>(curve: &mut C, begin: Point, end: Point) -> Point
     requires piece { IsPiece (C.meaning curve.old) (C.near curve.old) begin end }
     requires few { C.count curve.old < 2 ^ 63 }
@@ -35,7 +35,7 @@ pub fn middle<C: Curve>(curve: &mut C, begin: Point, end: Point) -> Point
     near_point_at(curve, halfway(begin.minute, end.minute))
 }
 
-/// Where the second half of a piece begins.
+/// Returns the minute at which the second half of the piece from `begin` to `end` begins.
 pub fn halfway(begin: i64, end: i64) -> i64
     requires some { begin <ℤ end }
     requires few { end ≤ℤ (begin +ℤ pos MOST_MINUTES) }
@@ -44,8 +44,8 @@ pub fn halfway(begin: i64, end: i64) -> i64
     begin + i64::from(minutes_to(begin, end) / 2)
 }
 
-/// Where the block that begins at a minute, at most 2^60 far from 0, ends: after [`MOST_MINUTES`], or
-/// with the span, which ends later.
+/// Returns the end of the block that begins at `begin`, at most 2^60 in size: [`MOST_MINUTES`] later, or
+/// `end`, the later end of the span, if that comes first.
 pub fn block_end(begin: i64, end: i64) -> i64
     requires some { begin <ℤ end }
     requires near { unsigned_abs begin ≤ 2 ^ 60 }
@@ -54,7 +54,7 @@ pub fn block_end(begin: i64, end: i64) -> i64
     end.min(begin + i64::from(MOST_MINUTES))
 }
 
-/// How many minutes there are from one minute to a later one, at most [`MOST_MINUTES`].
+/// Returns the number of minutes from `begin` to the later minute `end`, at most [`MOST_MINUTES`].
 pub fn minutes_to(begin: i64, end: i64) -> u32
     requires some { begin <ℤ end }
     requires few { end ≤ℤ (begin +ℤ pos MOST_MINUTES) }

@@ -1,4 +1,4 @@
-//! The cells of a span at once.
+//! All cells of a span at once.
 
 ghost use Rattle.std.specs.Prelude.{◌≡◌, ◌+◌, ◌^◌, ◌≤◌, ◌-ℤ◌, ◌≤ℤ◌, length, unsigned_abs, IfOk};
 ghost use Rattle.curve_law.specs.Cover.{cover};
@@ -7,8 +7,19 @@ use crate::front::{front_at, next_found};
 use curve_law::{Cells, Curve};
 use std::alloc::{AllocError, Global};
 
-/// The cells of the minutes from `begin` on and before `end`, which the curve tells. The curve was
-/// asked for at most 2^62 values, and is asked for at most one a cell and one more.
+/// Returns the cells of the minutes from `begin` on and before `end`, all of them minutes of `curve`. The
+/// curve was evaluated at most 2^62 times, and is evaluated at most once a cell and once more.
+///
+/// # Errors
+/// [`AllocError`] if memory runs out.
+///
+/// # Examples
+/// ```
+/// let mut curve = Line::new(-2, false, 1);
+/// let cells = search(rt.alloc(), &mut curve, 0, 8)?;
+/// assert_eq!(rt; cells.as_slice().len(), 4);
+/// assert_eq!(rt; cells.as_slice()[1], Cell::Turn(Kind::Low, 2));
+/// ```
 pub fn search<C: Curve>(
     alloc: Global,
     curve: &mut C,

@@ -5,14 +5,14 @@ use curve_law::samples::{Line, Ripple};
 use curve_law::{Cell, Curve, Kind};
 use std::alloc::Global;
 
-// Whether a search that begins with no value asked may be made.
+// Returns true if a search may begin on `curve`, not yet evaluated.
 fn can_search<C: Curve>(curve: &C, begin: i64, end: i64) -> bool
     ensures { IsTrue result → (begin ≤ℤ end) × ((C.meaning curve.now).first ≤ℤ begin) × (end ≤ℤ (C.meaning curve.now).last) × (C.count curve.now ≡ 0) }
 {
     begin <= end && curve.first() <= begin && end <= curve.last() && curve.evaluations() == 0
 }
 
-// Whether the search gives these cells, and asks for no more than one value a cell and one more.
+// Returns true if the search returns the cells `wanted`, and evaluates at most once a cell and once more.
 fn has_cells<C: Curve + Drop>(
     alloc: Global,
     curve: C,
@@ -30,7 +30,7 @@ fn has_cells<C: Curve + Drop>(
     }
 }
 
-// Whether a search in steps gives these, and nothing after them.
+// Returns true if a search in steps returns `wanted`, and nothing after that.
 fn has_steps<C: Curve + Drop>(curve: C, begin: i64, end: i64, wanted: &[Found]) -> bool {
     if !can_search(&curve, begin, end) {
         return false;

@@ -1,4 +1,4 @@
-//! The points that a search has ahead.
+//! A stack of the points that a search has still to reach.
 
 ghost use Rattle.std.specs.Prelude.{◌≡◌, ◌<◌, [], ◌∷◌, length, MatchOption};
 
@@ -6,8 +6,8 @@ use arrayvec::ArrayVec;
 use curve_law::Point;
 use std::marker::Model;
 
-/// Points that wait: up to sixteen, and the last one that came is the first to go. Contracts see them
-/// as a list, that one first.
+/// A stack of up to sixteen points. In contracts its value is the list of them, the last one pushed
+/// first.
 #[derive(Debug, Drop)]
 pub struct Waiting {
     points: ArrayVec<Point, 16>,
@@ -23,7 +23,7 @@ impl Model for Waiting {
 }
 
 impl Waiting {
-    /// None waits.
+    /// Returns the empty stack.
     pub fn new() -> Waiting
         ensures { result ≡ [] }
     {
@@ -32,7 +32,7 @@ impl Waiting {
         }
     }
 
-    /// One more, the first to go. At most fifteen wait before.
+    /// Pushes `point` onto at most fifteen points.
     pub fn push(&mut self, point: Point)
         requires { length self.old < 16 }
         ensures { self.new ≡ point ∷ self.old }
@@ -40,7 +40,7 @@ impl Waiting {
         self.points.push(point);
     }
 
-    /// Takes off the last one that came, if one waits.
+    /// Removes and returns the last point pushed, if there is one.
     pub fn pop(&mut self) -> Option<Point>
         ensures { MatchOption result ((self.old ≡ []) × (self.new ≡ [])) (λ point. self.old ≡ point ∷ self.new) }
     {

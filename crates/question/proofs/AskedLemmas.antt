@@ -1,4 +1,4 @@
--- What is known of the question of pairs in which nothing is wrong.
+-- The properties of the question of pairs without a fault.
 use Rattle.std.proofs.Common.{◌≡◌, ℕ, ◌+◌, ◌≤◌, Bool, true, false, not, ◌&&◌, ◌||◌, List, [], ◌∷◌, Option, Some, None, pos, ◌≤ℤ◌, unsigned_abs, Result, Ok, Err, refl, sym, subst, arith, cond}
 use Rattle.std.specs.Prelude.{if◌then◌else◌, ℤ, unwrap_or, IsSome, is_some, option_and_then}
 use Rattle.std.specs.Option.{ok_or, ForSome}
@@ -33,7 +33,7 @@ use Rattle.question.proofs.FormLemmas.{moment_of-range, mark_of-range, step_of-r
 is_in : Key → List Key → Bool
 is_in k ks = list_any (sameb the_type k) ks
 
--- what holds of the first key and of the later ones holds of each
+-- a property of the first key and of the later ones is one of each
 each_key : (P : Key → Type 0) (k j : Key) (ks : List Key) → P j → (is_in k ks ≡ true → P k) → is_in k (j ∷ ks) ≡ true → P k
 unfolding is_in
 each_key P k j ks first later member =
@@ -70,7 +70,7 @@ found_in test (j ∷ ks) k is =
       | false ↦ λ later. rw (found_in test ks k later) (or_true (sameb the_type k j))
     ] is
 
--- no two keys of the table have one name
+-- no two keys of the table have the same name
 differ : Key → Key → Bool
 differ j k = not (bytes_eq (name_of j) (name_of k)) || sameb the_type j k
 
@@ -103,7 +103,7 @@ none_missing : (missing : Option Key) (done : Unit {0}) → complete missing ≡
 none_missing None done ok = refl
 none_missing (Some k) done ok = absurd cc
 
--- each text that was said is of the form of its key
+-- each text that was given has the form of its key
 abbrev AllFit : Origin → Said → Type 0
 AllFit origin said = (k : Key) (text : List ℕ) → is_in k all_keys ≡ true → said k ≡ Some text → has_form origin k text ≡ true
 
@@ -140,7 +140,7 @@ items_fit origin command (item ∷ items) place said more fit ok =
 none_fit : (origin : Origin) → AllFit origin nothing_said
 none_fit origin k text known is = absurd cc
 
--- ---- what is needed is there
+-- ---- required keys are present
 
 record WasRead (origin : Origin) (command : Command) (said : Said) : Type 0 where
   pub fit : AllFit origin said
@@ -162,7 +162,7 @@ there {origin} {command} {said} read k known needed =
     let absent = none_found (λ k. is_needed origin command k && not (is_some (said k))) all_keys k read.whole known in
     value_there ((row_of k).form origin) (said k) (present _ _ needed absent) (λ text is. read.fit k text known is)
 
--- both origins need it
+-- both origins require the key
 in_both : (origin : Origin) {command : Command} {said : Said} → WasRead origin command said → (k : Key) → is_in k all_keys ≡ true
     → is_needed Line command k ≡ true → is_needed Query command k ≡ true
     → IsSome (option_and_then ((row_of k).form origin) (said k))
@@ -218,7 +218,7 @@ files_there Line Peak read = there read key.File refl refl
 files_there Line PeakCheck read = (there read key.File refl refl, there read key.Certificate refl refl)
 files_there Line About read = there read key.File refl refl
 
--- ---- values lie in their ranges
+-- ---- values are in their ranges
 
 in_range : {V : Type 0} (P : V → Type 0) (form : List ℕ → Option V) (said : Option (List ℕ))
     → ((text : List ℕ) (v : V) → form text ≡ Some v → P v) → ForSome (option_and_then form said) P

@@ -1,11 +1,11 @@
--- Commands are the same where their words are.
+-- Commands are the same if their names are.
 use Rattle.std.proofs.Common.{◌≡◌, refl, ap, Some}
 use Rattle.question.specs.declared.command.Command.{Command}
 use Rattle.question.specs.declared.command.Command.TheVariants.{Predict, Certify, Check, Heights, Calendar, Clock, Stations, Sample, Trial, Serve, Report, Highest, Peak, PeakCheck, About}
 use Rattle.question.specs.declared.origin.Origin.TheVariants.{Line}
 use Rattle.question.specs.Commands.{word_of, command_named}
 
--- its word names it
+-- a command is found by its name
 pub command_named-word_of : (c : Command) → command_named Line (word_of c) ≡ Some c
 command_named-word_of Predict = refl
 command_named-word_of Certify = refl

@@ -1,4 +1,4 @@
--- What is known of the values of keys.
+-- The properties of the values of keys.
 use Rattle.std.proofs.Common.{◌≡◌, ℕ, ◌≤◌, Bool, true, false, List, length, Option, Some, None, Ok, Err, ℤ, pos, neg_ℤ, refl, arith, eqb, unsigned_abs, ◌≤ℤ◌, codes}
 use Rattle.std.specs.Prelude.{option_and_then, nat_le, if◌then◌else◌}
 use Rattle.std.specs.Option.{option_map, option_or}
@@ -20,7 +20,7 @@ use Rattle.std.specs.List.{before_first, after_first}
 pub moment_of-range : (text : List ℕ) (m : ℤ) → moment_of text ≡ Some m → IsMoment m
 moment_of-range text m h = (moment_text-moment_of text m h).0
 
--- a number lies in its range
+-- a number is in its range
 if_some : {A : Type 0} (b : Bool) (x y : A) → (if b then Some x else None) ≡ Some y → (b ≡ true) × (x ≡ y)
 if_some true x y h = (refl, cc)
 if_some false x y h = absurd (cc)

@@ -1,4 +1,4 @@
--- What an item and the items after it say.
+-- The texts that an item and the items after it give to keys.
 use Rattle.std.proofs.Common.{◌≡◌, ℕ, ◌+◌, ◌<◌, ◌≤◌, Bool, true, false, List, length, ◌++◌, [], ◌∷◌, get_or, drop, take, Some, None, Result, Ok, Err, sym, ap, ◌∙◌, arith, add-one, drop-cons}
 use Rattle.std.proofs.lemmas.List.{drop_all, length-take-le, take_all, take_more}
 use Rattle.std.specs.Prelude.{is_some}
@@ -54,13 +54,13 @@ with_items-at : (origin : Origin) (command : Command) (items : List Item) (i : �
 unfolding with_items
 with_items-at origin command items i item said lt is = rw (add-one i, drop-cons items i item lt, sym is)
 
--- an item that is in order leaves the rest to tell
+-- after an item without a fault the result depends on the rest
 with_items-more : (origin : Origin) (command : Command) (items : List Item) (i : ℕ) (item : Item) (said more : Said)
     → i < length items → item ≡ get_or items i item
     → with_item origin command (i + 1) item said ≡ Ok more → with_items origin command (i + 1) (drop i items) said ≡ with_items origin command (i + 1 + 1) (drop (i + 1) items) more
 with_items-more origin command items i item said more lt is h = rw h at (with_items-at origin command items i item said lt is)
 
--- a fault of an item is one of the items from it on
+-- a fault of an item is the fault of the items from it on
 Excused-then : {A B E : Type 0} (wants : Bool) (x : Result A E) (f : A → Result B E) (fault : E) → Excused wants x fault
     → Excused wants (x >>= f) fault
 Excused-then true x f fault h = tt
@@ -75,7 +75,7 @@ with_items-fault : (wants : Bool) (origin : Origin) (command : Command) (items :
 with_items-fault wants origin command items i item said whole fault lt is e h =
     Excused-same wants _ _ fault (e ∙ with_items-at origin command items i item said lt is) (Excused-then wants _ _ fault h)
 
--- an item that is in order after those before it leaves the rest to tell
+-- after an item without a fault among earlier ones the result depends on the rest
 pub with_items-step : (origin : Origin) (command : Command) (items : List Item) (i : ℕ) (item : Item) (whole : Result Said AskFault) → i < length items → item ≡ get_or items i item
     → whole ≡ with_items origin command (i + 1) (drop i items) (said_by (take i items))
     → with_item origin command (length (take i items) + 1) item (said_by (take i items)) ≡ Ok (said_by (take i items ++ item ∷ []))
@@ -86,7 +86,7 @@ with_items-step origin command items i item whole lt is e h =
     let longer : take (i + 1) items ≡ take i items ++ item ∷ [] = take_more items i item lt ∙ ap (λ x. take i items ++ x ∷ []) (sym is) in
     e ∙ more ∙ ap (λ first. with_items origin command (i + 1 + 1) (drop (i + 1) items) (said_by first)) (sym longer)
 
--- all items are gone through
+-- after the last item
 pub with_items-end : (origin : Origin) (command : Command) (items : List Item) (i : ℕ) (whole : Result Said AskFault) → length items ≤ i
     → whole ≡ with_items origin command (i + 1) (drop i items) (said_by (take i items)) → whole ≡ Ok (said_by items)
 with_items-end origin command items i whole ge e =

@@ -1,4 +1,4 @@
--- What items say, one by one.
+-- The texts that items give to keys, one by one.
 use Rattle.std.proofs.Common.{◌≡◌, ℕ, ◌+◌, ◌<◌, Bool, true, false, ◌&&◌, cond, List, [], ◌∷◌, ◌++◌, length, get_or, drop, Option, Some, None, refl, sym, add-one, drop-cons}
 use Rattle.std.specs.Prelude.{if◌then◌else◌}
 use Rattle.std.specs.List.{find}
@@ -33,12 +33,12 @@ found_passes {X} test (y ∷ ys) x is =
       | false ↦ λ fails later. found_passes test ys x later
     ] refl is
 
--- the name of the key that a name names
+-- the key found by a name has that name
 named_so : (origin : Origin) (command : Command) (name : List ℕ) (k : Key) → key_named origin command name ≡ Some k → name_of k ≡ name
 named_so origin command name k is =
     (bytes_eq-Decides (name_of k) name).0 (and_parts _ _ (found_passes (λ k. bytes_eq (name_of k) name && has_key origin command k) all_keys k is)).0
 
--- an item that is in order says its text for its key
+-- an item without a fault gives its text to its key
 pub said_by-more : (origin : Origin) (command : Command) (items : List Item) (item : Item) (k : Key) (text : List ℕ)
     → item.value ≡ Some text → key_named origin command item.key ≡ Some k → also k text (said_by items) ≡ said_by (items ++ item ∷ [])
 said_by-more origin command items item k text value named =

@@ -1,4 +1,4 @@
--- Texts that are cut or read.
+-- Texts that are split or read.
 use Rattle.std.proofs.Common.{◌≡◌, ◌≢◌, ℕ, ◌+◌, ◌<◌, ◌^◌, Bool, true, false, cond, ltb, not, ◌||◌, if◌then◌else◌, List, [], ◌∷◌, length, Option, Some, None, Result, Ok, Err, inl, inr, refl, ap, ◌∙◌, arith, rules, MatchOption}
 use Rattle.std.proofs.lemmas.Bool.{cases_lt}
 use Rattle.std.proofs.lemmas.Bool.Decides.{nat_tests}
@@ -14,7 +14,7 @@ use Rattle.question.specs.declared.question.ZoneWord.{ZoneWord}
 use Rattle.question.specs.Forms.{after, offset_of, file_zone, zone_of}
 use Rattle.question.specs.Words.{is_equals_sign, item_of}
 
--- a byte that stands first
+-- the first byte
 after_none : (c : ℕ) (bs : List ℕ) → ((rest : List ℕ) → bs ≢ c ∷ rest) → None ≡ after c bs
 after_none c [] h = refl
 after_none c (b ∷ rest) h =
@@ -31,7 +31,7 @@ after_first : (c : ℕ) (bs rest : List ℕ) → after c bs ≡ Some rest → bs
 after_first c [] rest h = absurd (cc)
 after_first c (b ∷ bs) rest h = grind (arith, nat_tests)
 
--- what begins with `@` is no offset
+-- a text that begins with `@` is no offset
 option_or_none : (zone : Option ZoneWord) → option_or zone None ≡ zone
 option_or_none None = refl
 option_or_none (Some zone) = refl
@@ -43,7 +43,7 @@ zone_of-at origin name = refl
 pub zone_of-file : (origin : Origin) (text name : List ℕ) → after 64 text ≡ Some name → zone_of origin text ≡ file_zone origin name
 zone_of-file origin text name h = rw (after_first 64 text name h) (zone_of-at origin name ∙ option_or_none (file_zone origin name))
 
--- no place passes, so no element does
+-- no index passes the test, so no element does
 pub list_any-none_at : {X : Type 0} (p : X → Bool) (xs : List X) → position_or_len p xs ≡ length xs → list_any p xs ≡ false
 list_any-none_at p [] h = refl
 list_any-none_at {X} p (x ∷ xs) h =
@@ -52,11 +52,11 @@ list_any-none_at {X} p (x ∷ xs) h =
       | false ↦ λ e. list_any-none_at p xs (omega (arith, e))
     ] (omega (arith, h))
 
--- a word without a sign of equality
+-- an argument without `=`
 pub item_of-plain : (word : List ℕ) → position_or_len is_equals_sign word ≡ length word → item_of word ≡ record { key = word; value = None }
 item_of-plain word h = rw (list_any-none_at is_equals_sign word h)
 
--- the number of digits, if it has 64 bits
+-- the number of some digits, if it fits 64 bits
 own : IsNumeralModel (λ ds. list_all is_ascii_digit ds ≡ true) (digits_value 10)
 own = numerals_by_value _ (search rules)
 

@@ -1,4 +1,4 @@
--- What is known of a question that was read (this project).
+-- The properties of a question that was read (this project).
 use Rattle.std.specs.Prelude.{◌≤◌, pos, ◌≤ℤ◌, unsigned_abs, IsSome}
 use Rattle.std.specs.Option.{ForSome}
 use Rattle.zone_time.specs.Moments.{IsMoment}
@@ -10,19 +10,19 @@ use Rattle.question.specs.declared.question.Question.{Question}
 use Rattle.question.specs.declared.question.ZoneWord.{ZoneWord}
 use Rattle.question.specs.declared.question.ZoneWord.TheVariants.{Utc, Fixed, Named}
 
--- a zone is at most 15 hours and 59 minutes ahead or behind
+-- a fixed offset is at most 15 hours and 59 minutes
 abbrev pub IsZoneWord : ZoneWord → Type 0
 IsZoneWord Utc = Unit {0}
 IsZoneWord (Fixed minutes) = unsigned_abs minutes ≤ 959
 IsZoneWord (Named name) = Unit {0}
 
--- a station and a span
+-- the question has a station and a span
 pub record HasSpan (q : Question) : Type 0 where
   pub station : IsSome q.station
   pub begin : IsSome q.begin
   pub end : IsSome q.end
 
--- what a command needs of a question wherever it comes from
+-- the values that a command requires of a question of either origin
 abbrev pub HasNeeded : Command → Question → Type 0
 HasNeeded Predict q = HasSpan q
 HasNeeded Certify q = HasSpan q
@@ -40,7 +40,7 @@ HasNeeded Peak q = HasSpan q
 HasNeeded PeakCheck q = Unit {0}
 HasNeeded About q = IsSome q.station
 
--- the files that a command needs a command line to name
+-- the files that a command requires a command line to name
 abbrev pub HasFiles : Command → Question → Type 0
 HasFiles Check q = IsSome q.file × IsSome q.certificate
 HasFiles PeakCheck q = IsSome q.file × IsSome q.certificate
@@ -48,11 +48,12 @@ HasFiles Sample q = Unit {0}
 HasFiles Trial q = Unit {0}
 HasFiles _ q = IsSome q.file
 
+-- a question from a command line names the required files
 abbrev pub NamesFiles : Origin → Question → Type 0
 NamesFiles Line q = HasFiles q.command q
 NamesFiles Query q = Unit {0}
 
--- a question is whole, and all that it says is in range
+-- a question is complete, and all its values are in range
 pub record IsAsked (q : Question) : Type 0 where
   pub whole : HasNeeded q.command q
   pub begin : ForSome q.begin IsMoment

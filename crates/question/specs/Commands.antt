@@ -1,4 +1,4 @@
--- The commands and their words (this project).
+-- The commands and their names (this project).
 use Rattle.std.specs.Prelude.{ℕ, Bool, true, ◌&&◌, List, [], ◌∷◌, codes, Option}
 use Rattle.std.specs.List.{find, list_any}
 use Rattle.std.specs.Str.{bytes_eq}
@@ -11,11 +11,11 @@ abbrev pub all_commands : List Command
 all_commands =
     Predict ∷ Certify ∷ Check ∷ Heights ∷ Calendar ∷ Clock ∷ Stations ∷ Sample ∷ Trial ∷ Serve ∷ Report ∷ Highest ∷ Peak ∷ PeakCheck ∷ About ∷ []
 
--- those that the web server has a path for
+-- the commands that the web server has a path for
 abbrev pub with_path : List Command
 with_path = Predict ∷ Certify ∷ Check ∷ Heights ∷ Calendar ∷ Clock ∷ Stations ∷ []
 
--- a command's word
+-- the name of each command
 abbrev pub word_of : Command → List ℕ
 word_of Predict = codes "predict"
 word_of Certify = codes "certify"
@@ -33,15 +33,15 @@ word_of Peak = codes "peak"
 word_of PeakCheck = codes "peakcheck"
 word_of About = codes "about"
 
--- commands are the same where their words are
+-- a command is in a list; commands are compared by their names
 abbrev pub is_among : List Command → Command → Bool
 is_among commands command = list_any (λ c. bytes_eq (word_of c) (word_of command)) commands
 
--- a command line can ask for each command, and a query for those with a path
+-- a command line can request each command, and a query those with a path
 abbrev pub is_asked_in : Origin → Command → Bool
 is_asked_in Line command = true
 is_asked_in Query command = is_among with_path command
 
--- the command that a word names
+-- the command called `word` that a question of this origin can request
 abbrev pub command_named : Origin → List ℕ → Option Command
 command_named origin word = find (λ command. bytes_eq (word_of command) word && is_asked_in origin command) all_commands

@@ -1,4 +1,4 @@
--- What the value of a key may look like, and what it says (this project).
+-- The forms of keys' values, and the values of texts in each form (this project).
 use Rattle.std.specs.Prelude.{ℕ, ◌+◌, ◌*◌, ◌==◌, ◌&&◌, nat_le, nat_lt, not, Bool, true, if◌then◌else◌, List, [], ◌∷◌, length, codes, ℤ, pos, neg_ℤ, unsigned_abs, Option, Some, None, option_and_then, is_some, Result, Ok, Err}
 use Rattle.std.specs.Option.{option_map, option_or}
 use Rattle.std.specs.List.{list_all, list_any, before_first, after_first, slice_split}
@@ -17,42 +17,46 @@ use Rattle.question.specs.declared.question.ZoneWord.TheVariants.{Utc, Fixed, Na
 use Rattle.question.specs.declared.values.Form.{Form}
 use Rattle.question.specs.declared.values.Form.TheVariants as form
 
--- any text but the empty one
+-- any text other than the empty one
 unfoldable pub some_text : List ℕ → Option (List ℕ)
 some_text text = if nat_lt 0 (length text) then Some text else None
 
--- one digit or more, at most so many, that write a number in a range
+-- the number of 1 to `digits` digits, if it is from `least` to `most`
 unfoldable pub number_of : ℕ → ℕ → ℕ → List ℕ → Option ℕ
 number_of digits least most text =
     if nat_lt 0 (length text) && nat_le (length text) digits && list_all is_ascii_digit text
     && nat_le least (digits_value 10 text) && nat_le (digits_value 10 text) most
     then Some (digits_value 10 text) else None
 
+-- the seed of a generator, of 64 bits
 abbrev pub seed_of : List ℕ → Option ℕ
 seed_of text = number_of 20 0 18446744073709551615 text
 
+-- a port, from 1 to 65,535
 abbrev pub port_of : List ℕ → Option ℕ
 port_of text = number_of 5 1 65535 text
 
--- minutes from one height to the next
+-- the minutes from one height to the next, from 1 to 44,640
 abbrev pub step_of : List ℕ → Option ℤ
 step_of text = option_map pos (number_of 6 1 44640 text)
 
--- a level, as a decimal that is a whole number of millionths from -10000 to 10000
+-- a mark: a decimal that is a whole number of millionths from -10000 to 10000
 abbrev pub mark_from : Result ℤ DecimalFault → Option ℤ
 mark_from (Ok millionths) = if nat_le (unsigned_abs millionths) 10000000000 then Some millionths else None
 mark_from (Err fault) = None
 
+-- a mark in millionths
 unfoldable pub mark_of : List ℕ → Option ℤ
 mark_of text = mark_from (read_of text 6)
 
+-- the layout of a name
 unfoldable pub layout_of : List ℕ → Option Layout
 layout_of text =
     if bytes_eq text (codes "plain") then Some Plain
     else if bytes_eq text (codes "csv") then Some Csv
     else None
 
--- the rest of a text that begins with a byte
+-- the rest of a text after the byte `first`, if it begins with it
 abbrev pub after : ℕ → List ℕ → Option (List ℕ)
 after first [] = None
 after first (byte ∷ rest) = if byte == first then Some rest else None
@@ -60,30 +64,30 @@ after first (byte ∷ rest) = if byte == first then Some rest else None
 abbrev pub is_colon : ℕ → Bool
 is_colon byte = byte == 58
 
--- two digits that write a number up to `most`
+-- the number of exactly two digits, up to `most`
 abbrev pub two_digits_of : ℕ → List ℕ → Option ℕ
 two_digits_of most text = if length text == 2 then number_of 2 0 most text else None
 
--- hours to 15 and minutes below 60, as `05:30`
+-- the minutes of hours up to 15 and minutes below 60, as `05:30`
 unfoldable pub clock_of : List ℕ → Option ℕ
 clock_of text =
     option_and_then
     (λ hours. option_map (λ minutes. 60 * hours + minutes) (two_digits_of 59 (after_first is_colon text)))
     (two_digits_of 15 (before_first is_colon text))
 
--- a zone's minutes ahead of universal time, as `+05:30`, or behind it, as `-05:30`
+-- the minutes of an offset from universal time, as `+05:30` (43) or `-05:30` (45)
 unfoldable pub offset_of : List ℕ → Option ℤ
 offset_of text =
     option_or
     (option_map pos (option_and_then clock_of (after 43 text)))
     (option_map (λ minutes. neg_ℤ (pos minutes)) (option_and_then clock_of (after 45 text)))
 
--- the name of a zone's file, which a query can't give
+-- a zone by the name of its file, which a query can't give
 abbrev pub file_zone : Origin → List ℕ → Option ZoneWord
 file_zone Line name = option_map Named (some_text name)
 file_zone Query name = None
 
--- `UTC`, `@` (64) with the name of a file, or an offset
+-- a zone: `UTC`, `@` (64) with the name of a file, or an offset
 unfoldable pub zone_of : Origin → List ℕ → Option ZoneWord
 zone_of origin text =
     if bytes_eq text (codes "UTC") then Some Utc
@@ -96,17 +100,17 @@ is_comma byte = byte == 44
 abbrev pub is_sheet : List ℕ → Bool
 is_sheet word = nat_lt 0 (length word) && nat_le (length word) 16 && list_all is_ascii_lowercase word
 
--- each word is the name of a sheet, and none of those before it
+-- each word is the name of a sheet, and none occurs earlier
 abbrev pub are_sheets : List (List ℕ) → List (List ℕ) → Bool
 are_sheets earlier [] = true
 are_sheets earlier (word ∷ words) =
     is_sheet word && not (list_any (bytes_eq word) earlier) && are_sheets (word ∷ earlier) words
 
--- names of sheets with single commas (44) between them, none twice
+-- the names of sheets with single commas (44) between them, if none occurs twice
 unfoldable pub sheets_of : List ℕ → Option (List (List ℕ))
 sheets_of text = let words = slice_split is_comma text in if are_sheets [] words then Some words else None
 
--- a text is of a form in a question of this origin
+-- a text has the form in a question of this origin
 abbrev pub meets : Form → Origin → List ℕ → Bool
 meets form.Text origin text = is_some (some_text text)
 meets form.Moment origin text = is_some (moment_of text)

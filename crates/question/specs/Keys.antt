@@ -17,11 +17,12 @@ use Rattle.question.specs.Commands.{is_among}
 use Rattle.question.specs.Origins.{is_one_of}
 use Rattle.question.specs.Forms.{some_text, mark_of, step_of, zone_of, layout_of, seed_of, port_of, sheets_of}
 
--- in the order in which a missing one is told
+-- all keys, in the order in which a missing one is reported
 abbrev pub all_keys : List Key
 all_keys =
     key.File ∷ key.Offsets ∷ key.Certificate ∷ key.Station ∷ key.Begin ∷ key.End ∷ key.Mark ∷ key.Step ∷ key.Zone ∷ key.Layout ∷ key.Seed ∷ key.Port ∷ key.Sheets ∷ []
 
+-- the name of each key
 abbrev pub name_of : Key → List ℕ
 name_of key.File = codes "file"
 name_of key.Offsets = codes "offsets"
@@ -37,7 +38,7 @@ name_of key.Seed = codes "seed"
 name_of key.Port = codes "port"
 name_of key.Sheets = codes "sheets"
 
--- what a key's value says
+-- the type of a key's value
 abbrev pub Value : Key → Type 0
 Value key.File = List ℕ
 Value key.Offsets = List ℕ
@@ -53,7 +54,7 @@ Value key.Seed = ℕ
 Value key.Port = ℕ
 Value key.Sheets = List (List ℕ)
 
--- what a question has for a key: its value, where that stands for itself if it isn't given, else the value or nothing
+-- the type of a question's field for a key: its value if the key has a default, else an optional value
 abbrev pub Field : Key → Type 0
 Field key.Step = ℤ
 Field key.Zone = ZoneWord
@@ -61,21 +62,24 @@ Field key.Layout = Layout
 Field key.Port = ℕ
 Field k = Option (Value k)
 
--- whether a key has to be given, and what a question has for it
+-- whether a key is required, and the field of a question for its value, if one is given
 pub record Need (V F : Type 0) : Type 0 where
   pub is_needed : Bool
   pub field : Option V → F
 
+-- a required key
 abbrev pub needed : {V : Type 0} → Need V (Option V)
 needed = record { is_needed = true; field = λ value. value }
 
+-- an optional key without a default
 abbrev pub optional : {V : Type 0} → Need V (Option V)
 optional = record { is_needed = false; field = λ value. value }
 
+-- an optional key with a default
 abbrev pub otherwise : {V : Type 0} → V → Need V V
 otherwise default = record { is_needed = false; field = λ value. unwrap_or value default }
 
--- a key's row: the commands and the origins that have it, the form of its value, and the need of it
+-- a key's row: the commands and the origins that have it, the form of its value, and its need
 pub record Row (V F : Type 0) : Type 0 where
   pub commands : List Command
   pub origins : List Origin
@@ -89,10 +93,11 @@ row commands origins form need = record { commands = commands; origins = origins
 abbrev pub always : {V : Type 0} → (List ℕ → Option V) → Origin → List ℕ → Option V
 always form origin text = form text
 
--- a command line alone names files
+-- the origins that name files: a command line only
 abbrev pub in_line : List Origin
 in_line = Line ∷ []
 
+-- both origins
 abbrev pub anywhere : List Origin
 anywhere = Line ∷ Query ∷ []
 
@@ -101,39 +106,47 @@ abbrev pub of_file : List Command
 of_file =
     Predict ∷ Certify ∷ Check ∷ Heights ∷ Calendar ∷ Clock ∷ Stations ∷ Serve ∷ Report ∷ Highest ∷ Peak ∷ PeakCheck ∷ About ∷ []
 
--- those for one station, and those of them over a span of time
+-- the commands for one station
 abbrev pub of_station : List Command
 of_station = Predict ∷ Certify ∷ Heights ∷ Calendar ∷ Clock ∷ Report ∷ Highest ∷ Peak ∷ About ∷ []
 
+-- the commands over a span of time
 abbrev pub of_span : List Command
 of_span = Predict ∷ Certify ∷ Heights ∷ Calendar ∷ Report ∷ Highest ∷ Peak ∷ []
 
--- those that have each other key
+-- the commands that check a certificate
 abbrev pub of_check : List Command
 of_check = Check ∷ PeakCheck ∷ []
 
+-- the commands with a mark
 abbrev pub of_mark : List Command
 of_mark = Predict ∷ Certify ∷ Calendar ∷ Report ∷ []
 
+-- the commands with a step
 abbrev pub of_step : List Command
 of_step = Heights ∷ []
 
+-- the commands with a zone
 abbrev pub of_zone : List Command
 of_zone = Predict ∷ Check ∷ Heights ∷ Calendar ∷ Clock ∷ Highest ∷ []
 
+-- the commands with a layout
 abbrev pub of_layout : List Command
 of_layout = Predict ∷ Heights ∷ []
 
+-- the commands with a seed
 abbrev pub of_seed : List Command
 of_seed = Sample ∷ Trial ∷ []
 
+-- the commands with a port
 abbrev pub of_port : List Command
 of_port = Serve ∷ []
 
+-- the commands with sheets
 abbrev pub of_sheets : List Command
 of_sheets = Report ∷ []
 
--- key, commands, origins, form of the value, and need
+-- the table: key, commands, origins, form of the value, and need
 abbrev pub row_of : (k : Key) → Row (Value k) (Field k)
 row_of key.File = row of_file in_line (always some_text) needed
 row_of key.Offsets = row of_file in_line (always some_text) optional
@@ -149,13 +162,14 @@ row_of key.Seed = row of_seed anywhere (always seed_of) needed
 row_of key.Port = row of_port anywhere (always port_of) (otherwise 8080)
 row_of key.Sheets = row of_sheets anywhere (always sheets_of) needed
 
--- the table gives a key for this origin and command
+-- the command has the key in questions of this origin
 abbrev pub has_key : Origin → Command → Key → Bool
 has_key origin command k = is_one_of (row_of k).origins origin && is_among (row_of k).commands command
 
+-- the command requires the key in questions of this origin
 abbrev pub is_needed : Origin → Command → Key → Bool
 is_needed origin command k = (row_of k).need.is_needed && has_key origin command k
 
--- the key of the table that a name names
+-- the key called `name` that the command has in questions of this origin
 abbrev pub key_named : Origin → Command → List ℕ → Option Key
 key_named origin command name = find (λ k. bytes_eq (name_of k) name && has_key origin command k) all_keys

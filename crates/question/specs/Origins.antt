@@ -1,4 +1,4 @@
--- Where a question comes from (this project).
+-- The origin of a question (this project).
 use Rattle.std.specs.Prelude.{Bool, true, false, List}
 use Rattle.std.specs.List.{list_any}
 use Rattle.question.specs.declared.origin.Origin.{Origin}

@@ -1,4 +1,4 @@
--- The question that pairs ask, or what is wrong with them (this project).
+-- The question of pairs, or their first fault (this project).
 use Rattle.std.specs.Prelude.{ℕ, ◌+◌, Bool, true, false, ◌&&◌, not, if◌then◌else◌, List, [], ◌∷◌, Option, Some, None, option_and_then, is_some, Result, Ok, Err}
 use Rattle.std.specs.Option.{ok_or}
 use Rattle.std.specs.List.{find}
@@ -16,33 +16,38 @@ use Rattle.question.specs.declared.question.Question.{Question}
 use Rattle.question.specs.Commands.{command_named}
 use Rattle.question.specs.Keys.{all_keys, name_of, Field, row_of, is_needed, key_named}
 
+-- a fault is out of memory
 abbrev pub wants_memory : AskFault → Bool
 wants_memory NoMemory = true
 wants_memory _ = false
 
--- what has been said: the text of each key's value
+-- the text that was given to each key, if any
 abbrev pub Said : Type 0
 Said = Key → Option (List ℕ)
 
+-- no key has a text
 abbrev pub nothing_said : Said
 nothing_said k = None
 
--- keys are the same where their names are
+-- the texts with one more; keys are compared by their names
 abbrev pub also : Key → List ℕ → Said → Said
 also new text said k = if bytes_eq (name_of k) (name_of new) then Some text else said k
 
+-- a fault if the condition is true
 abbrev pub refuse_if : Bool → AskFault → Result (Unit {0}) AskFault
 refuse_if true fault = Err fault
 refuse_if false fault = Ok tt
 
+-- a text has the form of a key in questions of this origin
 abbrev pub has_form : Origin → Key → List ℕ → Bool
 has_form origin k text = is_some ((row_of k).form origin text)
 
+-- the command, or the fault that it is missing or unknown
 abbrev pub command_of : Origin → Option (List ℕ) → Result Command AskFault
 command_of origin None = Err NoCommand
 command_of origin (Some word) = ok_or (command_named origin word) UnknownCommand
 
--- an item says a key's value; the first thing that is wrong with it is told
+-- the texts after one more item, or the first fault of the item
 unfoldable pub with_item : Origin → Command → ℕ → Item → Said → Result Said AskFault
 with_item origin command place item said = do
   text ← ok_or item.value (NotAPair place)
@@ -51,24 +56,26 @@ with_item origin command place item said = do
   good ← refuse_if (not (has_form origin k text)) (BadValue place)
   Ok (also k text said)
 
--- items from the left, the first of them at this place
+-- the texts after items, from the left; the first has the number `place`
 unfoldable pub with_items : Origin → Command → ℕ → List Item → Said → Result Said AskFault
 with_items origin command place [] said = Ok said
 with_items origin command place (item ∷ items) said =
     with_item origin command place item said >>= with_items origin command (place + 1) items
 
--- the first key of the table that is needed and not said
+-- the first key of the table that is required and has no text
 abbrev pub missing_key : Origin → Command → Said → Option Key
 missing_key origin command said = find (λ k. is_needed origin command k && not (is_some (said k))) all_keys
 
+-- the fault of a missing key, if there is one
 abbrev pub complete : Option Key → Result (Unit {0}) AskFault
 complete None = Ok tt
 complete (Some k) = Err (MissingKey k)
 
--- what a question has for a key
+-- the field of a question for a key
 abbrev pub field_of : Origin → Said → (k : Key) → Field k
 field_of origin said k = (row_of k).need.field (option_and_then ((row_of k).form origin) (said k))
 
+-- the question of a command with these texts
 abbrev pub asked : Origin → Command → Said → Question
 asked origin command said = record {
   command = command;
@@ -87,7 +94,7 @@ asked origin command said = record {
   sheets = field_of origin said key.Sheets;
 }
 
--- the command first, then the items, then the needed keys
+-- the question of pairs: the command is read first, then the items, then the required keys are checked
 unfoldable pub question_of : Pairs → Result Question AskFault
 question_of pairs = do
   command ← command_of pairs.origin pairs.command

@@ -1,4 +1,4 @@
--- The words of a command line as pairs (this project).
+-- The arguments of a command line as pairs (this project).
 use Rattle.std.specs.Prelude.{ℕ, ◌==◌, Bool, if◌then◌else◌, List, drop, map, slice_get, Some, None}
 use Rattle.std.specs.List.{before_first, after_first, list_any}
 use Rattle.question.specs.declared.origin.Origin.TheVariants.{Line}
@@ -8,13 +8,13 @@ use Rattle.question.specs.declared.pairs.Pairs.{Pairs}
 abbrev pub is_equals_sign : ℕ → Bool
 is_equals_sign byte = byte == 61
 
--- a word is cut at its first sign of equality, and without one it has no value
+-- an argument is split at its first `=`; without one it has no value
 abbrev pub item_of : List ℕ → Item
 item_of word =
     if list_any is_equals_sign word
     then record { key = before_first is_equals_sign word; value = Some (after_first is_equals_sign word) }
     else record { key = word; value = None }
 
--- the first word is the command
+-- the first argument is the command
 abbrev pub pairs_of : List (List ℕ) → Pairs
 pairs_of words = record { origin = Line; command = slice_get words 0; items = map item_of (drop 1 words) }

@@ -1,4 +1,4 @@
--- Questions in short, for the worked rows: words with a space between (this project).
+-- Short forms of questions, for examples: arguments with a space between them (this project).
 use Rattle.std.specs.Prelude.{ℕ, ◌==◌, Bool, List, map, pos, Some, None, Result}
 use Rattle.std.specs.List.{slice_split}
 use Rattle.question.specs.declared.command.Command.{Command}
@@ -13,13 +13,15 @@ use Rattle.question.specs.Words.{item_of, pairs_of}
 abbrev pub is_space : ℕ → Bool
 is_space byte = byte == 32
 
+-- the result of reading a command line
 abbrev pub of_line : List ℕ → Result Question AskFault
 of_line words = question_of (pairs_of (slice_split is_space words))
 
+-- the result of reading a query
 abbrev pub of_query : List ℕ → List (List ℕ) → Result Question AskFault
 of_query command words = question_of (record { origin = Query; command = Some command; items = map item_of words })
 
--- a question that says nothing beside its command
+-- a question with defaults for all keys
 abbrev pub bare : Command → Question
 bare command = record {
   command = command;

@@ -1,4 +1,4 @@
-//! The question of items in which nothing is wrong.
+//! The question of items without a fault.
 
 ghost use Rattle.std.specs.Prelude.{◌≡◌, IfOk, option_and_then};
 ghost use Rattle.zone_time.specs.Moments.{moment_of};
@@ -23,7 +23,11 @@ const DEFAULT_STEP: i64 = 60;
 
 const DEFAULT_PORT: u16 = 8080;
 
-/// The question that items ask of a command: what isn't said has its default.
+/// Returns the question of `command` with `items`, which have no fault; keys that aren't given have their
+/// defaults.
+///
+/// # Errors
+/// [`AllocError`] if memory runs out.
 pub fn asked(
     alloc: Global,
     origin: Origin,

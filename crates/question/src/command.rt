@@ -1,24 +1,24 @@
-//! What a question asks for.
+//! The commands of questions.
 
 ghost use Rattle.std.specs.Prelude.{◌≡◌};
 ghost use Rattle.question.specs.Commands.{command_named};
 
 use crate::origin::Origin;
 
-/// What a question asks for.
+/// The command of a question.
 #[derive(Clone, Copy, Debug, PartialEq, Eq)]
 pub enum Command {
     /// The events of a station over a span.
     Predict,
     /// A certificate of these events.
     Certify,
-    /// Whether a certificate holds.
+    /// The check of such a certificate.
     Check,
-    /// Levels at even steps.
+    /// The levels at even steps.
     Heights,
     /// The events day by day.
     Calendar,
-    /// What is next at a station from now on.
+    /// The next events of a station from now on.
     Clock,
     /// The stations of a file.
     Stations,
@@ -32,11 +32,11 @@ pub enum Command {
     Report,
     /// The highest water of a span.
     Highest,
-    /// A certificate of it.
+    /// A certificate of a highest water.
     Peak,
-    /// Whether such a certificate holds.
+    /// The check of such a certificate.
     PeakCheck,
-    /// What is known of a station.
+    /// The facts about a station.
     About,
 }
 
@@ -62,7 +62,7 @@ impl Command {
     ghost use Rattle.std.specs.Str.{bytes_eq};
     ghost use Rattle.question.specs.Commands.{word_of, is_asked_in};
 
-    /// The command's word. It takes no memory.
+    /// Returns the name of the command, as it is given. It doesn't allocate.
     pub fn text(self) -> &'static str
         ensures { result.now ≡ word_of self }
     {
@@ -85,15 +85,15 @@ impl Command {
         }
     }
 
-    /// Whether it is the other command.
+    /// Returns true if both commands are the same.
     pub fn is(self, other: Command) -> bool
         ensures { result ≡ bytes_eq (word_of self) (word_of other) }
     {
         self == other
     }
 
-    /// Whether a question of this origin can ask for it. A query can't ask for what the web server
-    /// has no path for.
+    /// Returns true if a question of this origin can request the command. A query can request only what
+    /// the web server has a path for.
     fn is_asked_in(self, origin: Origin) -> bool
         ensures { result ≡ is_asked_in origin self }
     {
@@ -113,7 +113,7 @@ impl Command {
     }
 }
 
-/// The command that a word names in a question of this origin.
+/// Returns the command called `word` that a question of this origin can request.
 pub fn command_named(origin: Origin, word: &str) -> Option<Command>
     ensures { result ≡ command_named origin word.now }
 {

@@ -1,24 +1,24 @@
-//! What can be wrong with a question.
+//! The faults of a question.
 
 use crate::key::Key;
 use std::alloc::AllocError;
 
-/// What is wrong with a question: the first thing that is. An item's place counts from 1.
+/// The first fault of a question. Items are counted from 1.
 #[derive(Clone, Copy, Debug, PartialEq, Eq)]
 pub enum AskFault {
-    /// There was not enough memory.
+    /// Out of memory.
     NoMemory,
     NoCommand,
     UnknownCommand,
-    /// The item at this place has no value.
+    /// The item with this number has no value.
     NotAPair(u64),
-    /// The key of the item at this place isn't one that the command has.
+    /// The key of the item with this number isn't one of the command's.
     UnknownKey(u64),
-    /// An earlier item has the key of the item at this place.
+    /// The key of the item with this number is that of an earlier item.
     RepeatedKey(u64),
-    /// The value of the item at this place isn't of the form that its key wants.
+    /// The value of the item with this number doesn't have the form of its key.
     BadValue(u64),
-    /// No item has this key, which the command needs.
+    /// The command requires this key, and no item has it.
     MissingKey(Key),
 }
 

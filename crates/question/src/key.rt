@@ -9,7 +9,7 @@ use crate::command::Command;
 use crate::origin::Origin;
 use crate::values::Form;
 
-/// The keys of a question's pairs, in the order in which a missing one is told.
+/// The keys of a question, in the order in which a missing one is reported.
 #[derive(Clone, Copy, Debug, PartialEq, Eq)]
 pub enum Key {
     File,
@@ -46,7 +46,7 @@ pub static KEYS: [Key; 13] = [
 impl Key {
     ghost use Rattle.question.specs.Keys.{name_of};
 
-    /// The key's name, as `file`. It takes no memory.
+    /// Returns the name of the key, such as `file`. It doesn't allocate.
     pub fn text(self) -> &'static str
         ensures { result.now ≡ name_of self }
     {
@@ -138,14 +138,14 @@ static IN_LINE: [Origin; 1] = [Origin::Line];
 
 static ANYWHERE: [Origin; 2] = [Origin::Line, Origin::Query];
 
-/// What the table says of a key.
+/// The row of a key in the table.
 #[derive(Clone, Copy)]
 struct Row {
-    /// The commands that have it.
+    /// The commands that have the key.
     commands: &'static [Command],
-    /// The origins that have it: a query names no files.
+    /// The origins that have the key: a query names no files.
     origins: &'static [Origin],
-    /// The form of its values.
+    /// The form of the key's values.
     form: Form,
     is_needed: bool,
 }
@@ -167,8 +167,8 @@ impl Row {
     }
 }
 
-/// A row: the commands and the origins that have the key, the form of its values, and whether it is
-/// needed.
+/// Makes a row: the commands and the origins that have the key, the form of its values, and whether it is
+/// required.
 macro_rules! row {
     ($commands:ident, $origins:ident, $form:ident, $is_needed:expr) => {
         Row {
@@ -203,14 +203,14 @@ fn row_of(key: Key) -> Row
     }
 }
 
-/// The form of a key's values.
+/// Returns the form of a key's values.
 pub fn form_of(key: Key) -> Form
     ensures { (origin : Origin) (text : List ℕ) → meets result origin text ≡ has_form origin key text }
 {
     row_of(key).form
 }
 
-/// Whether a command has a key in questions of this origin.
+/// Returns true if the command has the key in questions of this origin.
 fn has_key(origin: Origin, command: Command, key: Key) -> bool
     ensures { result ≡ has_key origin command key }
 {
@@ -218,14 +218,14 @@ fn has_key(origin: Origin, command: Command, key: Key) -> bool
     row.has_origin(origin) && row.has_command(command)
 }
 
-/// Whether a command needs a key in questions of this origin.
+/// Returns true if the command requires the key in questions of this origin.
 pub fn is_needed(origin: Origin, command: Command, key: Key) -> bool
     ensures { result ≡ is_needed origin command key }
 {
     row_of(key).is_needed && has_key(origin, command, key)
 }
 
-/// The key that a name names for a command in questions of this origin.
+/// Returns the key called `name` that the command has in questions of this origin.
 pub fn key_named(origin: Origin, command: Command, name: &str) -> Option<Key>
     ensures { result ≡ key_named origin command name.now }
 {

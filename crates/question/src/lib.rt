@@ -1,9 +1,9 @@
-//! What the words of a command line, or the pairs of a web query, ask for.
+//! The question that the arguments of a command line, or the pairs of a web query, make.
 //!
-//! [`pairs_of_words`] cuts words at their first `=`, and [`read_question`] makes a [`Question`] of
-//! such pairs or tells the first thing that is wrong with them. The table of keys that both go by
-//! is in `specs/Keys.antt`; what is known of each question that was read, in `specs/Asked.antt`. A
-//! [`SoundQuestion`] is one of which that is known.
+//! [`pairs_of_words`] splits arguments at their first `=`, and [`read_question`] makes a [`Question`] of
+//! such pairs or returns their first fault. The table of keys for both is in `specs/Keys.antt`, and the
+//! properties of each question that was read are in `specs/Asked.antt`. A [`SoundQuestion`] is one that
+//! is proved to have them.
 #![tactic(auto)]
 
 mod asked;

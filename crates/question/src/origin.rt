@@ -1,9 +1,9 @@
-//! Where a question comes from.
+//! The origin of a question.
 
-/// Where a question comes from.
+/// The origin of a question.
 #[derive(Clone, Copy, Debug, PartialEq, Eq)]
 pub enum Origin {
-    /// The words of a command line.
+    /// The arguments of a command line.
     Line,
     /// The path and the pairs of a web query.
     Query,

@@ -6,15 +6,15 @@ use crate::origin::Origin;
 use decimal_text::Text;
 use std::marker::Model;
 
-/// A key and its value.
+/// A key with its value.
 #[derive(Debug, Drop)]
 pub struct Item {
     pub key: Text,
-    /// None for a word without `=`.
+    /// `None` for an argument without `=`.
     pub value: Option<Text>,
 }
 
-/// A list of items. Contracts see it as the list of them.
+/// A list of items. In contracts its value is the list of them.
 #[derive(Debug, Drop)]
 pub struct Items {
     items: Vec<Item>,
@@ -30,14 +30,14 @@ impl Model for Items {
 }
 
 impl Items {
-    /// The list of a vector's items. It takes no memory.
+    /// Returns the list of the items in `items`. It doesn't allocate.
     pub fn from_vec(items: Vec<Item>) -> Items
         ensures { result ≡ items.items }
     {
         Items { items }
     }
 
-    /// The items, lent.
+    /// Borrows the items as a slice.
     pub fn as_slice(&self) -> &[Item]
         ensures { result.now ≡ self.now }
     {
@@ -45,7 +45,7 @@ impl Items {
     }
 }
 
-/// A command and its items, as they were given.
+/// A command with its items, as they were given.
 #[derive(Debug, Drop)]
 pub struct Pairs {
     pub origin: Origin,

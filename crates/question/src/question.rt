@@ -8,23 +8,24 @@ use decimal_text::{Text, Words};
 pub enum ZoneWord {
     /// Universal time.
     Utc,
-    /// The minutes by which clocks are ahead of universal time, or behind it where they are
-    /// negative: at most 959 either way.
+    /// A fixed offset: the minutes by which clocks are ahead of universal time, negative if they are
+    /// behind, at most 959 either way.
     Fixed(i32),
-    /// The name of a zone's file.
+    /// The name of a zone file.
     Named(Text),
 }
 
-/// How a listing is laid out.
+/// The layout of a listing.
 #[derive(Clone, Copy, Debug, PartialEq, Eq)]
 pub enum Layout {
-    /// Lines for the eye.
+    /// Text in columns.
     Plain,
     /// Comma-separated values.
     Csv,
 }
 
-/// What is asked. A command has only what its keys in the table say, and else what stands for them.
+/// A question: a command with the values of its keys. Keys that the table doesn't give to the command
+/// have their defaults.
 #[derive(Debug, Drop)]
 pub struct Question {
     pub command: Command,
@@ -35,19 +36,19 @@ pub struct Question {
     /// The name of the certificate's file.
     pub certificate: Option<Text>,
     pub station: Option<Text>,
-    /// In minutes since 1970-01-01T00:00Z, in the years from 1 to 9999.
+    /// The begin of the span, in minutes since 1970-01-01T00:00Z, of the years from 1 to 9999.
     pub begin: Option<i64>,
-    /// As `begin`.
+    /// The end of the span, in the same unit and range.
     pub end: Option<i64>,
-    /// In millionths of the station's unit, from -10,000,000,000 to 10,000,000,000.
+    /// The mark in millionths of the station's unit, from -10,000,000,000 to 10,000,000,000.
     pub mark: Option<i64>,
-    /// In minutes, from 1 to 44,640. It is 60 if nothing else is asked.
+    /// The step between heights in minutes, from 1 to 44,640: 60 if it isn't given.
     pub step: i64,
     pub zone: ZoneWord,
     pub layout: Layout,
     pub seed: Option<u64>,
-    /// From 1 to 65,535. It is 8080 if nothing else is asked.
+    /// The port of the web server, from 1 to 65,535: 8080 if it isn't given.
     pub port: u16,
-    /// The names of sheets, each once.
+    /// The names of the sheets, none of them twice.
     pub sheets: Option<Words>,
 }

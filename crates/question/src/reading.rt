@@ -1,4 +1,4 @@
-//! Pairs to questions.
+//! Reading pairs as a question.
 
 ghost use Rattle.std.specs.Prelude.{◌≡◌, ◌+◌, ◌++◌, [], ◌∷◌, length, IfOk};
 ghost use Rattle.decimal_text.specs.Expected.{Gives};
@@ -17,13 +17,24 @@ use crate::said::{is_said, missing_key, text_of};
 use decimal_text::Text;
 use std::alloc::Global;
 
-/// The question that pairs ask.
+/// Returns the question of `pairs`.
 ///
 /// # Errors
-/// The first of these: a command that is missing or unknown; then for each item, from the left, one
-/// without a value, with a key that the command doesn't have in a question of this origin, with a
-/// key that an earlier one has, or with a value that hasn't the key's form; then the first key of
-/// the table that the command needs. [`AskFault::NoMemory`] may come at any time.
+/// The first of these: the command is missing or unknown; then for each item, from the left, it has no
+/// value, a key that the command doesn't have in a question of this origin, the key of an earlier item,
+/// or a value without the key's form; then the first key of the table that the command requires is
+/// missing. [`AskFault::NoMemory`] if memory runs out.
+///
+/// # Examples
+/// ```
+/// let mut words = Vec::new(rt.alloc());
+/// for word in ["predict", "file=pier.txt", "station=Pier"] {
+///     words.push(Text::from_str(rt.alloc(), word)?)?;
+/// }
+/// let pairs = pairs_of_words(rt.alloc(), &Words::from_vec(words))?;
+/// let fault = read_question(rt.alloc(), &pairs).err();
+/// assert_eq!(rt; fault, Some(AskFault::MissingKey(Key::Begin)));
+/// ```
 pub fn read_question(alloc: Global, pairs: &Pairs) -> Result<Question, AskFault>
     ensures exact { Gives wants_memory (question_of pairs.now) result }
     ensures asked { IfOk result IsAsked }
@@ -69,7 +80,7 @@ fn check_items(
     Ok(())
 }
 
-/// Tests an item after those before it.
+/// Checks `item` after the items `earlier`.
 #[tactic(auto, unfolding(crate::specs::Questions::with_item))]
 fn check_item(
     alloc: Global,

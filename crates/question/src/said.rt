@@ -1,4 +1,4 @@
-//! What items say.
+//! The values that items give to keys.
 
 ghost use Rattle.std.specs.Prelude.{◌≡◌, is_some};
 ghost use Rattle.std.specs.Option.{option_copied};
@@ -10,7 +10,7 @@ use crate::key::{KEYS, Key, is_needed};
 use crate::origin::Origin;
 use crate::pairs::Item;
 
-/// The text that items say for a key: that of the last item of the key.
+/// Returns the text that `items` give to `key`: that of the last item with this key.
 pub fn text_for<'a>(items: &'a [Item], key: Key) -> Option<&'a str>
     ensures { option_copied result ≡ said_by items.now key }
 {
@@ -23,7 +23,7 @@ pub fn text_for<'a>(items: &'a [Item], key: Key) -> Option<&'a str>
     text
 }
 
-/// The text of an item's value.
+/// Returns the text of an item's value.
 pub fn text_of<'a>(item: &'a Item) -> Option<&'a str>
     ensures { option_copied result ≡ item.now.value }
 {
@@ -33,14 +33,14 @@ pub fn text_of<'a>(item: &'a Item) -> Option<&'a str>
     }
 }
 
-/// Whether an item has the key and a value.
+/// Returns true if an item has the key and a value.
 pub fn is_said(items: &[Item], key: Key) -> bool
     ensures { result ≡ is_some (said_by items.now key) }
 {
     text_for(items, key).is_some()
 }
 
-/// The first key of the table that the command needs and that no item has.
+/// Returns the first key of the table that the command requires and no item has.
 pub fn missing_key(origin: Origin, command: Command, items: &[Item]) -> Option<Key>
     ensures { result ≡ missing_key origin command (said_by items.now) }
 {

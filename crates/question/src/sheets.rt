@@ -21,14 +21,14 @@ fn are_letters(text: &[u8]) -> bool
     text.iter().all(|byte| byte.is_ascii_lowercase())
 }
 
-/// Whether a word is from 1 to 16 letters.
+/// Returns true if `word` has from 1 to 16 letters, all from a to z.
 fn is_sheet(word: &str) -> bool
     ensures { result ≡ is_sheet word.now }
 {
     !word.is_empty() && word.len() <= 16 && are_letters(word.as_bytes())
 }
 
-/// Whether each word is the name of a sheet, and none stands twice.
+/// Returns true if each of `words` is the name of a sheet, and none occurs twice.
 fn are_sheets(alloc: Global, words: &[&str]) -> Result<bool, AllocError>
     ensures { IfOk result (λ b. b ≡ are_sheets [] (map (λ word. word.now) words.now)) }
 {
@@ -51,7 +51,8 @@ fn texts(alloc: Global, words: &[&str]) -> Result<Vec<Text>, AllocError>
     Ok(texts)
 }
 
-/// Words with single commas between them, if each is the name of a sheet and none stands twice.
+/// Returns the parts of `text` between single commas, if each is the name of a sheet and none occurs
+/// twice.
 #[tactic(auto, unfolding(crate::specs::Forms::sheets_of))]
 pub fn sheets(alloc: Global, text: &str) -> Result<Option<Words>, AllocError>
     ensures { IfOk result (λ words. words ≡ sheets_of text.now) }

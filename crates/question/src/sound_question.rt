@@ -1,4 +1,4 @@
-//! A question that is known to be sound.
+//! A question that is proved to be valid.
 
 ghost use Rattle.std.specs.Prelude.{◌≡◌};
 ghost use Rattle.question.specs.Asked.{IsAsked};
@@ -6,8 +6,8 @@ ghost use Rattle.question.specs.Asked.{IsAsked};
 use crate::question::Question;
 use std::marker::Model;
 
-/// A question that is whole, and whose values lie in the ranges of their keys, lent. Contracts see
-/// it as the question.
+/// A borrowed question that is proved to be complete, with values in the ranges of their keys. In
+/// contracts its value is the question.
 #[derive(Debug, Drop)]
 pub struct SoundQuestion<'a> {
     question: &'a Question,
@@ -26,7 +26,7 @@ impl<'a> Model for SoundQuestion<'a> {
 }
 
 impl<'a> SoundQuestion<'a> {
-    /// A question as the words or the pairs of a query ask it.
+    /// Returns `question` as a valid one; the caller proves that it was read from arguments or a query.
     pub fn new(question: &'a Question) -> SoundQuestion<'a>
         requires { IsAsked question.now }
         ensures { result ≡ question.now }
@@ -34,7 +34,7 @@ impl<'a> SoundQuestion<'a> {
         SoundQuestion { question }
     }
 
-    /// The question, lent.
+    /// Borrows the question.
     pub fn get(&self) -> &'a Question
         ensures exact { result.now ≡ self.now }
         ensures sound { IsAsked self.now }

@@ -1,4 +1,4 @@
-//! The forms of keys' values, and what a value of each says.
+//! The forms of keys' values, and the values of texts in each form.
 
 ghost use Rattle.std.specs.Prelude.{◌≡◌, ◌<◌, ◌≤◌, ◌^◌, nat_lt, true, if◌then◌else◌, length, IfOk, Some, None};
 ghost use Rattle.std.specs.Option.{ForSome};
@@ -18,7 +18,7 @@ use zone_time::read_moment;
 /// The form of a key's values.
 #[derive(Clone, Copy, Debug)]
 pub enum Form {
-    /// Any text but the empty one.
+    /// Any text other than the empty one.
     Text,
     Moment,
     Mark,
@@ -33,7 +33,7 @@ pub enum Form {
 impl Form {
     ghost use Rattle.question.specs.Forms.{meets};
 
-    /// Whether a text is of this form in a question of this origin.
+    /// Returns true if `text` has this form in a question of this origin.
     #[tactic(auto, unfolding(crate::specs::Forms::some_text))]
     pub fn is_met(self, alloc: Global, origin: Origin, text: &str) -> Result<bool, AllocError>
         ensures { IfOk result (λ met. met ≡ meets self origin text.now) }
@@ -52,13 +52,13 @@ impl Form {
     }
 }
 
-/// The places of a mark's decimals.
+/// The decimal places of a mark.
 const MARK_PLACES: u32 = 6;
 
 /// The size of the greatest mark, in millionths.
 const GREATEST_MARK: u128 = 10_000_000_000;
 
-/// A text that isn't empty.
+/// Returns `text`, or `None` if it is empty.
 #[tactic(auto, unfolding(crate::specs::Forms::some_text))]
 pub fn some_text(alloc: Global, text: &str) -> Result<Option<Text>, AllocError>
     ensures { IfOk result (λ value. value ≡ some_text text.now) }
@@ -69,7 +69,7 @@ pub fn some_text(alloc: Global, text: &str) -> Result<Option<Text>, AllocError>
     Ok(Some(Text::from_str(alloc, text)?))
 }
 
-/// The number that digits write, if it has 64 bits.
+/// Returns the number that `digits` write, or `None` if it exceeds 64 bits.
 fn value(digits: &str) -> Option<u64>
     requires some { 0 < length digits.now }
     requires digits { list_all is_ascii_digit digits.now ≡ true }
@@ -78,8 +78,7 @@ fn value(digits: &str) -> Option<u64>
     digits.parse().ok()
 }
 
-/// The number that one digit or more write, if they are no more than `digits` and the number lies
-/// from `least` to `most`.
+/// Returns the number that `text` writes in 1 to `digits` digits, if it is from `least` to `most`.
 #[tactic(auto, unfolding(crate::specs::Forms::number_of))]
 pub fn number(text: &str, digits: usize, least: u64, most: u64) -> Option<u64>
     ensures value { result ≡ number_of digits least most text.now }
@@ -96,14 +95,14 @@ pub fn number(text: &str, digits: usize, least: u64, most: u64) -> Option<u64>
     }
 }
 
-/// A generator's seed.
+/// Returns the seed of a generator, from 0 to 2^64 - 1.
 pub fn seed(text: &str) -> Option<u64>
     ensures { result ≡ seed_of text.now }
 {
     number(text, 20, 0, u64::MAX)
 }
 
-/// A port of the web server.
+/// Returns the port of the web server, from 1 to 65,535.
 pub fn port(text: &str) -> Option<u16>
     ensures { result ≡ port_of text.now }
 {
@@ -111,7 +110,7 @@ pub fn port(text: &str) -> Option<u16>
     Some(number as u16)
 }
 
-/// The minutes from one height to the next.
+/// Returns the minutes from one height to the next, from 1 to 44,640.
 pub fn step(text: &str) -> Option<i64>
     ensures { result ≡ step_of text.now }
 {
@@ -119,7 +118,7 @@ pub fn step(text: &str) -> Option<i64>
     Some(number as i64)
 }
 
-/// A level to mark, in millionths.
+/// Returns a mark in millionths, from -10,000,000,000 to 10,000,000,000.
 #[tactic(auto, unfolding(crate::specs::Forms::mark_of))]
 pub fn mark(text: &str) -> Option<i64>
     ensures { result ≡ mark_of text.now }
@@ -130,7 +129,7 @@ pub fn mark(text: &str) -> Option<i64>
     }
 }
 
-/// How a listing is laid out.
+/// Returns the layout called `text`.
 #[tactic(auto, unfolding(crate::specs::Forms::layout_of))]
 pub fn layout(text: &str) -> Option<Layout>
     ensures { result ≡ layout_of text.now }

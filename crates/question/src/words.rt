@@ -1,4 +1,4 @@
-//! The words of a command line as pairs.
+//! The arguments of a command line as pairs.
 
 ghost use Rattle.std.specs.Prelude.{◌≡◌, IfOk, map};
 ghost use Rattle.question.specs.Words.{item_of, pairs_of};
@@ -8,8 +8,11 @@ use crate::pairs::{Item, Items, Pairs};
 use decimal_text::{Text, Words};
 use std::alloc::{AllocError, Global};
 
-/// The words of a command line as pairs: the first word is the command, and each other one is cut
-/// at its first `=`. A word without `=` is a key with no value.
+/// Returns the arguments of a command line as pairs: the first is the command, and each other one is
+/// split at its first `=`. An argument without `=` is a key without a value.
+///
+/// # Errors
+/// [`AllocError`] if memory runs out.
 pub fn pairs_of_words(alloc: Global, words: &Words) -> Result<Pairs, AllocError>
     ensures { IfOk result (λ pairs. pairs ≡ pairs_of words.now) }
 {

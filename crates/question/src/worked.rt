@@ -1,4 +1,4 @@
-//! Questions that were worked out by hand.
+//! Questions that were computed by hand.
 
 ghost use Rattle.std.specs.Prelude.{◌≡◌, [], ◌∷◌, codes, pos, negsuc, Some, None, Ok, Err};
 ghost use Rattle.question.specs.declared.command.Command.{Command};
@@ -12,7 +12,7 @@ ghost use Rattle.question.specs.Words.{item_of, pairs_of};
 ghost use Rattle.question.specs.Worked.{of_line, of_query, bare};
 ghost use Rattle.question.specs.declared.origin.Origin.{Origin};
 
-/// Questions that can be read, with what stands for the keys that aren't given.
+/// Proves questions that can be read, with the defaults of keys that aren't given.
 #[tactic(auto, unfolding(crate::specs::Questions::question_of, crate::specs::Questions::with_items, crate::specs::Questions::with_item, crate::specs::Forms::some_text, crate::specs::Forms::number_of, crate::specs::Forms::mark_of, crate::specs::Forms::layout_of, crate::specs::Forms::clock_of, crate::specs::Forms::offset_of, crate::specs::Forms::zone_of, crate::specs::Forms::sheets_of, zone_time::specs::Moments::moment_of, zone_time::specs::Moments::has_form, jiff_core::specs::Calendar::days_from_civil, jiff_core::specs::Calendar::day_count, jiff_core::specs::Calendar::days_of_years, jiff_core::specs::Calendar::days_of_months, decimal_text::specs::Decimal::read_of, decimal_text::specs::Decimal::decimal_of, decimal_text::specs::Decimal::after_point, decimal_text::specs::Decimal::made_of, decimal_text::specs::Decimal::scaled_or_bad, decimal_text::specs::Decimal::scaled))]
 pub fn worked_questions()
     ensures predict { of_line (codes "predict file=pier.txt station=Pier begin=2000-01-10T00:00Z end=2000-01-11T00:00Z")
@@ -30,7 +30,7 @@ pub fn worked_questions()
     ensures check_asked { of_query (codes "check") [] ≡ Ok (bare Command.Check) }
 {}
 
-/// What is wrong with the words of a command line.
+/// Proves the faults of some command lines.
 #[tactic(auto, unfolding(crate::specs::Questions::question_of, crate::specs::Questions::with_items, crate::specs::Questions::with_item, crate::specs::Forms::some_text, crate::specs::Forms::number_of, crate::specs::Forms::mark_of, crate::specs::Forms::layout_of, crate::specs::Forms::clock_of, crate::specs::Forms::offset_of, crate::specs::Forms::zone_of, crate::specs::Forms::sheets_of, zone_time::specs::Moments::moment_of, zone_time::specs::Moments::has_form, jiff_core::specs::Calendar::days_from_civil, jiff_core::specs::Calendar::day_count, jiff_core::specs::Calendar::days_of_years, jiff_core::specs::Calendar::days_of_months, decimal_text::specs::Decimal::read_of, decimal_text::specs::Decimal::decimal_of, decimal_text::specs::Decimal::after_point, decimal_text::specs::Decimal::made_of, decimal_text::specs::Decimal::scaled_or_bad, decimal_text::specs::Decimal::scaled))]
 pub fn worked_faults()
     ensures no_words { question_of (pairs_of []) ≡ Err AskFault.NoCommand }
@@ -45,7 +45,7 @@ pub fn worked_faults()
     ensures last_missing { of_line (codes "report file=f station=s begin=2000-01-10T00:00Z end=2000-01-11T00:00Z") ≡ Err (AskFault.MissingKey Key.Sheets) }
 {}
 
-/// What is wrong with the pairs of a query, which names no files.
+/// Proves the faults of some queries, which name no files.
 #[tactic(auto, unfolding(crate::specs::Questions::question_of, crate::specs::Questions::with_items, crate::specs::Questions::with_item, crate::specs::Forms::some_text, crate::specs::Forms::number_of, crate::specs::Forms::mark_of, crate::specs::Forms::layout_of, crate::specs::Forms::clock_of, crate::specs::Forms::offset_of, crate::specs::Forms::zone_of, crate::specs::Forms::sheets_of, zone_time::specs::Moments::moment_of, zone_time::specs::Moments::has_form, jiff_core::specs::Calendar::days_from_civil, jiff_core::specs::Calendar::day_count, jiff_core::specs::Calendar::days_of_years, jiff_core::specs::Calendar::days_of_months, decimal_text::specs::Decimal::read_of, decimal_text::specs::Decimal::decimal_of, decimal_text::specs::Decimal::after_point, decimal_text::specs::Decimal::made_of, decimal_text::specs::Decimal::scaled_or_bad, decimal_text::specs::Decimal::scaled))]
 pub fn worked_query_faults()
     ensures no_path { of_query (codes "serve") [] ≡ Err AskFault.UnknownCommand }
@@ -54,7 +54,7 @@ pub fn worked_query_faults()
     ensures missing { of_query (codes "clock") (codes "zone=UTC" ∷ []) ≡ Err (AskFault.MissingKey Key.Station) }
 {}
 
-/// Values at the edges of their forms.
+/// Proves values at the limits of their forms.
 #[tactic(auto, unfolding(crate::specs::Questions::question_of, crate::specs::Questions::with_items, crate::specs::Questions::with_item, crate::specs::Forms::some_text, crate::specs::Forms::number_of, crate::specs::Forms::mark_of, crate::specs::Forms::layout_of, crate::specs::Forms::clock_of, crate::specs::Forms::offset_of, crate::specs::Forms::zone_of, crate::specs::Forms::sheets_of, decimal_text::specs::Decimal::read_of, decimal_text::specs::Decimal::decimal_of, decimal_text::specs::Decimal::after_point, decimal_text::specs::Decimal::made_of, decimal_text::specs::Decimal::scaled_or_bad, decimal_text::specs::Decimal::scaled))]
 pub fn worked_values()
     ensures seed_too_large { number_of 20 0 18446744073709551615 (codes "18446744073709551616") ≡ None }
@@ -75,7 +75,7 @@ pub fn worked_values()
     ensures no_sheet { sheets_of (codes "a,,b") ≡ None }
 {}
 
-/// Words that are cut.
+/// Proves how arguments are split.
 pub fn worked_words()
     ensures first_sign { item_of (codes "file=a=b") ≡ record { key = codes "file"; value = Some (codes "a=b") } }
     ensures no_value { item_of (codes "file=") ≡ record { key = codes "file"; value = Some [] } }

@@ -1,4 +1,4 @@
-//! The zone in which times are shown.
+//! Reading the zone in which times are shown.
 
 ghost use Rattle.std.specs.Prelude.{◌≡◌, ◌<◌, ◌≤◌, IfOk, pos};
 ghost use Rattle.std.specs.Option.{ForSome, option_copied, option_map};
@@ -9,7 +9,7 @@ use crate::question::ZoneWord;
 use crate::values::{number, some_text};
 use std::alloc::{AllocError, Global};
 
-/// The rest of a text that begins with an ASCII character.
+/// Returns the rest of `text` after `first`, an ASCII character, if it begins with it.
 fn after(text: &str, first: char) -> Option<&str>
     requires { first < 128 }
     ensures { option_copied result ≡ after first text.now }
@@ -27,7 +27,7 @@ fn two_digits(text: &str, most: u64) -> Option<u64>
     number(text, 2, 0, most)
 }
 
-/// The minutes of hours and minutes, as `05:30`.
+/// Returns the minutes of hours and minutes, as `05:30`, at most 15:59.
 #[tactic(auto, unfolding(crate::specs::Forms::clock_of))]
 fn clock(text: &str) -> Option<i32>
     ensures value { result ≡ option_map pos (clock_of text.now) }
@@ -38,7 +38,7 @@ fn clock(text: &str) -> Option<i32>
     Some((60 * hours + minutes) as i32)
 }
 
-/// The minutes by which a zone is ahead of universal time, as `+05:30`, or behind it.
+/// Returns the minutes of an offset from universal time, as `+05:30` or `-05:30`.
 #[tactic(auto, unfolding(crate::specs::Forms::offset_of))]
 fn offset(text: &str) -> Option<i32>
     ensures { result ≡ offset_of text.now }
@@ -59,7 +59,7 @@ fn file_zone(alloc: Global, origin: Origin, name: &str) -> Result<Option<ZoneWor
     Ok(some_text(alloc, name)?.map(|name| ZoneWord::Named(name)))
 }
 
-/// `UTC`, an offset, or in a command line `@` with the name of a zone's file.
+/// Returns the zone of `UTC`, of an offset, or in a command line of `@` with the name of a zone file.
 #[tactic(auto, unfolding(crate::specs::Forms::zone_of))]
 pub fn zone(alloc: Global, origin: Origin, text: &str) -> Result<Option<ZoneWord>, AllocError>
     ensures { IfOk result (λ zone. zone ≡ zone_of origin text.now) }

@@ -1,4 +1,4 @@
--- A cell's stretch names years of the tide.
+-- The years of a cell's stretch are years of the tide.
 use Rattle.std.proofs.Common.{ℕ, ℤ, pos, ◌+ℤ◌}
 use Rattle.year_blend.specs.declared.parts.Stretch.{Stretch}
 use Rattle.year_blend.specs.declared.parts.Stretch.TheVariants.{Within, Across}

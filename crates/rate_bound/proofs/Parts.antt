@@ -1,4 +1,4 @@
--- Sums and products of rates, which fit.
+-- Sums and products of rates, within their types.
 use Rattle.std.proofs.Common.{◌≡◌, ℕ, ◌+◌, ◌*◌, ◌^◌, ◌<◌, ◌≤◌, ap, ◌∙◌, arith, ℤ, pos, ◌+ℤ◌, ◌*ℤ◌, FitsSigned, to_z, of_z}
 use Rattle.std.specs.Prelude.{unsigned_abs}
 use Rattle.std.specs.Int.{int_max}
@@ -10,7 +10,7 @@ use Rattle.station_curve.proofs.Products.{cast_small, abs_times, abs_plus}
 sum_is : (x y : ℤ) (m n : ℕ) → unsigned_abs x ≤ m → unsigned_abs y ≤ n → m + n < 2 ^ 127 → to_z w128 (of_z w128 (x +ℤ y)) ≡ x +ℤ y
 sum_is x y m n h k fits = cast_small w128 (x +ℤ y) (m + n) (abs_plus x y m n h k) fits
 
--- so many times a number, with its size
+-- a multiple of a number, with its size
 pub record IsPart (read value : ℤ) (most : ℕ) : Type 0 where
   pub same : read ≡ value
   pub size : unsigned_abs value ≤ most

@@ -19,7 +19,7 @@ use Rattle.rate_bound.specs.Rates.{plain_slope_rate, plain_level_rate, blended_s
 use Rattle.rate_bound.specs.Meanings.{over_mark, turn_meaning, mark_meaning, predicted_turn, predicted_mark}
 use Rattle.station_curve.proofs.Touched.{touched, touched_in}
 
--- the years that a stretch names come within an hour of the minutes that a tide predicts
+-- the years of a stretch are at most an hour from the minutes that a tide predicts
 abbrev pub NamesTouched : Book → ℤ → ℤ → Stretch → Type 0
 NamesTouched b first last (Within year) = (year < b.years) × (is_touched b first last year ≡ true)
 NamesTouched b first last (Across year) =
@@ -71,7 +71,7 @@ cell_within b first last a n k l within inside =
 minute_within : (b : Book) (first last a : ℤ) (n k : ℕ) → IsWithin b first last a n → k ≤ n → IsWithin b first last (a +ℤ pos k) 0
 minute_within b first last a n k within few = cell_within b first last a n k 0 within (omega (arith, few))
 
--- what agrees in the years that a stretch names gives it one rate
+-- values that agree in the years of a stretch have the same rate there
 AgreeOnYears : Book → ℤ → ℤ → (ℕ → Sums) → (ℕ → Sums) → Type 0
 AgreeOnYears b first last f g = (year : ℕ) → year < b.years → is_touched b first last year ≡ true → f year ≡ g year
 

@@ -1,4 +1,4 @@
--- How large the values of both curves are.
+-- The size of the values of both curves.
 use Rattle.std.proofs.Common.{◌≡◌, length, Bool, true, false, Option, Some, None, Ok, Err, refl, cond, ℤ}
 use Rattle.harmonics_text.specs.declared.book.Station.{Station}
 use Rattle.harmonics_text.specs.declared.book.Book.{Book}

@@ -1,4 +1,4 @@
--- What a curve's rate is by where the cell lies.
+-- The rate of a curve by the stretch of the cell.
 use Rattle.std.proofs.Common.{◌≡◌, ℕ, ◌-◌, Option, Some, None, sym, ap, ◌∙◌, ℤ, ◌*ℤ◌}
 use Rattle.station_curve.specs.Waves.{Tide}
 use Rattle.year_blend.specs.declared.parts.Stretch.TheVariants.{Within, Across}

@@ -1,4 +1,5 @@
--- The curves of a station (this project): its slope, whose sides tell high and low waters, and its level against a mark.
+-- The curves of a station (this project): its slope, whose changes of sign are high and low waters, and
+-- its level less a mark.
 use Rattle.std.specs.Prelude.{◌*◌, ◌^◌, length, Bool, if◌then◌else◌, ℤ, pos, ◌+ℤ◌, ◌-ℤ◌, ◌*ℤ◌}
 use Rattle.curve_law.specs.declared.kind.Kind.TheVariants.{High, Low, FloodBegins, EbbBegins, MarkRising, MarkFalling}
 use Rattle.curve_law.specs.Meaning.{Meaning}
@@ -12,7 +13,7 @@ use Rattle.year_blend.specs.Years.{year_start_of}
 use Rattle.rate_bound.specs.declared.version.Version.{Version}
 use Rattle.rate_bound.specs.Rates.{slope_rate_of, level_rate_of, predicted_slope_rate, predicted_level_rate}
 
--- the slope: it rises past 0 at a low water, and falls to 0 at a high one
+-- the slope: it rises past 0 at a low water, and falls to 0 at a high water
 abbrev pub turn_meaning : Version → Tide → Meaning
 turn_meaning version tide = record {
   first = year_start_of tide.first_year;
@@ -21,12 +22,13 @@ turn_meaning version tide = record {
   rate = slope_rate_of version tide;
 }
 
--- a level of so many times the station's plus some, less a mark; times, plus and mark are in millionths
+-- `times` millionths of the level, plus `plus` millionths of the unit, less `mark` millionths
 abbrev pub over_mark : ℤ → ℤ → ℤ → ℤ → ℤ
 over_mark times plus mark level =
     (times *ℤ level) +ℤ (pos (10 ^ 6 * total_weight * 10 ^ 9) *ℤ (plus -ℤ mark))
 
--- where such a level passes the mark; a slack is where a current's passes 0
+-- the level less a mark, which changes sign at each crossing of the mark; for slacks the level of a
+-- current less 0
 abbrev pub mark_meaning : Version → Tide → ℤ → ℤ → ℤ → Bool → Meaning
 mark_meaning version tide times plus mark slack = record {
   first = year_start_of tide.first_year;
@@ -40,7 +42,7 @@ mark_meaning version tide times plus mark slack = record {
   rate = level_rate_of version times tide;
 }
 
--- both curves by every constituent of a book
+-- the slope by every constituent of a book
 abbrev pub predicted_turn : Version → Book → Station → Meaning
 predicted_turn version b s = record {
   first = year_start_of b.first_year;
@@ -49,6 +51,7 @@ predicted_turn version b s = record {
   rate = predicted_slope_rate version b s;
 }
 
+-- the level less a mark by every constituent of a book
 abbrev pub predicted_mark : Version → Book → Station → ℤ → ℤ → ℤ → Bool → Meaning
 predicted_mark version b s times plus mark slack = record {
   first = year_start_of b.first_year;

@@ -1,5 +1,6 @@
--- How much the slope and the level of a station can change in a minute (this project): in the plain part of a year by its sums,
--- and across a new year by those of both years and by how fast the weight moves from one to the other.
+-- Bounds on the change of the slope and the level of a station in a minute (this project): outside blends
+-- by the year's sums, and across a new year by those of both years and by how fast the weight moves from
+-- one to the other.
 use Rattle.std.specs.Prelude.{ℕ, ◌-◌, ◌*◌, ◌^◌, length, Option, Some, None, ℤ, pos, ◌+ℤ◌, ◌*ℤ◌, int_le, if◌then◌else◌}
 use Rattle.std.specs.Int.{int_max}
 use Rattle.fixed_sine.specs.Circle.{radian}
@@ -17,22 +18,24 @@ use Rattle.year_blend.specs.Weights.{total_weight}
 use Rattle.rate_bound.specs.declared.version.Version.{Version}
 use Rattle.rate_bound.specs.declared.version.Version.TheVariants.{First, Second}
 
--- the most that the weight rises in a minute
+-- the most that the weight changes in a minute
 abbrev pub most_rise : ℕ
 most_rise = 64800000
 
--- the most that its rise changes in a minute
+-- the most that the change of the weight changes in a minute
 abbrev pub most_bend : ℕ
 most_bend = 1663000
 
--- in the plain part of a year
+-- the bound on the slope outside blends
 abbrev pub plain_slope_rate : Sums → ℤ
 plain_slope_rate year = pos total_weight *ℤ year.far
 
+-- the bound on the level outside blends
 abbrev pub plain_level_rate : Sums → ℤ
 plain_level_rate year = pos total_weight *ℤ year.near
 
--- across the new year between two years: as in the quicker of them, and by what the weight moves over from one to the other
+-- the bound on the slope across the new year between two years: the greater of theirs, and the part that
+-- comes from the moving weight
 abbrev pub blended_slope_rate : Sums → Sums → ℤ
 blended_slope_rate earlier later =
     (pos total_weight *ℤ int_max earlier.far later.far)
@@ -40,22 +43,23 @@ blended_slope_rate earlier later =
     +ℤ (pos (most_rise * radian) *ℤ (earlier.near +ℤ later.near))
     +ℤ (pos (most_bend * radian * 10 ^ 9) *ℤ (earlier.amount +ℤ later.amount))
 
+-- the bound on the level across the new year between two years
 abbrev pub blended_level_rate : Sums → Sums → ℤ
 blended_level_rate earlier later =
     (pos total_weight *ℤ int_max earlier.near later.near)
     +ℤ (pos (most_rise * 10 ^ 9) *ℤ (earlier.amount +ℤ later.amount))
 
--- a rate of which 1,024 minutes are too much for a slope is none
+-- a rate, or none if 1,024 minutes of it are too much for a slope
 abbrev pub limited : ℤ → Option ℤ
 limited rate = if int_le rate (pos (4 * 10 ^ 34)) then Some rate else None
 
--- the slope's rate over a stretch; the first version of the rates has none across a new year
+-- the rate of the slope over a stretch; the first version has none across a new year
 abbrev pub slope_rate_in : Version → (ℕ → Sums) → Stretch → Option ℤ
 slope_rate_in version sums (Within year) = Some (plain_slope_rate (sums year))
 slope_rate_in First sums (Across year) = None
 slope_rate_in Second sums (Across year) = limited (blended_slope_rate (sums (year - 1)) (sums year))
 
--- the rate of so many times the level
+-- the rate of `times` times the level over a stretch
 abbrev pub level_rate_in : Version → ℤ → (ℕ → Sums) → Stretch → Option ℤ
 level_rate_in version times sums (Within year) = Some (times *ℤ plain_level_rate (sums year))
 level_rate_in First times sums (Across year) = None
@@ -65,26 +69,28 @@ level_rate_in Second times sums (Across year) = Some (times *ℤ blended_level_r
 abbrev pub tide_sums : Tide → ℕ → Sums
 tide_sums tide year = sums_of (waves_in tide year)
 
--- the same of a book's station, over every constituent
+-- the sums of each year of a station, over every constituent of the book
 abbrev pub book_sums : Book → Station → ℕ → Sums
 book_sums b s year = sums_of (waves_of b s year)
 
--- where n minutes of a tide from a minute on lie
+-- the stretch of the n minutes of a tide from `a` on
 abbrev pub tide_stretch : Tide → ℤ → ℕ → Stretch
 tide_stretch tide a n = stretch_of tide.first_year (length tide.years) a n
 
--- the rate of the slope over a cell of n minutes, and that of so many times the level
+-- the rate of the slope over the cell of n minutes from `a` on
 unfoldable pub slope_rate_of : Version → Tide → ℤ → ℕ → Option ℤ
 slope_rate_of version tide a n = slope_rate_in version (tide_sums tide) (tide_stretch tide a n)
 
+-- the rate of `times` times the level over the cell of n minutes from `a` on
 unfoldable pub level_rate_of : Version → ℤ → Tide → ℤ → ℕ → Option ℤ
 level_rate_of version times tide a n = level_rate_in version times (tide_sums tide) (tide_stretch tide a n)
 
--- by every constituent of the book
+-- the rate of the slope by every constituent of the book
 unfoldable pub predicted_slope_rate : Version → Book → Station → ℤ → ℕ → Option ℤ
 predicted_slope_rate version b s a n =
     slope_rate_in version (book_sums b s) (stretch_of b.first_year b.years a n)
 
+-- the rate of `times` times the level by every constituent of the book
 unfoldable pub predicted_level_rate : Version → ℤ → Book → Station → ℤ → ℕ → Option ℤ
 predicted_level_rate version times b s a n =
     level_rate_in version times (book_sums b s) (stretch_of b.first_year b.years a n)

@@ -1,4 +1,4 @@
-//! What holds of the curves of every station.
+//! Theorems about the curves of every station.
 
 ghost use Rattle.std.specs.Prelude.{◌≡◌, ℕ, ℤ, pos, ◌+ℤ◌, ◌≤ℤ◌, Bool, length, Ok};
 ghost use Rattle.curve_law.specs.Meaning.{AgreeOver, IsLawful};
@@ -14,8 +14,8 @@ ghost use Rattle.rate_bound.specs.Scale.{IsScale};
 ghost use Rattle.rate_bound.specs.Sizes.{slope_limit, mark_limit, IsBelow};
 ghost use Rattle.rate_bound.specs.Meanings.{turn_meaning, mark_meaning, predicted_turn, predicted_mark};
 
-/// The curves of a tide that predicts a station over some minutes say the same of each span of these as
-/// those by every constituent of the book.
+/// Proves that the curves of a tide that predicts a station over some minutes agree, over each span of
+/// these, with those by every constituent of the book.
 pub fn predicted_curves()
     ensures turn { (version : Version) (b : Book) (s : Station) (first last : ℤ) (tide : Tide) (a : ℤ) (n : ℕ) →
         PredictsOver b s first last tide → AreYears b.first_year b.years →
@@ -27,16 +27,16 @@ pub fn predicted_curves()
         AgreeOver (mark_meaning version tide times plus mark slack) (predicted_mark version b s times plus mark slack) a n }
 {}
 
-/// Both curves of a tide within the limits are lawful: a step of a minute within a cell changes the
-/// value by at most the cell's rate.
+/// Proves that both curves of a tide within the limits are lawful: a step of a minute within a cell
+/// changes the value by at most the cell's rate.
 pub fn curves_are_lawful()
     ensures turn { (version : Version) (tide : Tide) → IsGentle tide → IsLawful (turn_meaning version tide) }
     ensures mark { (version : Version) (tide : Tide) (times plus mark : ℤ) (slack : Bool) →
         IsGentle tide → IsScale times plus mark → IsLawful (mark_meaning version tide times plus mark slack) }
 {}
 
-/// A slope is below 10^37 in size, and a level against a mark below 5*10^36, at each minute from the
-/// first to the last: of a tide within the limits, and of a station that has a curve, by every
+/// Proves that each slope is below 10^37 in size, and each level against a mark below 5*10^36, from the
+/// first minute to the last: for a tide within the limits, and for a station that has a curve, by every
 /// constituent of the book.
 pub fn values_are_small()
     ensures turn { (version : Version) (tide : Tide) → IsGentle tide → IsBelow slope_limit (turn_meaning version tide) }

@@ -1,9 +1,9 @@
 //! The curves of a station, with bounds on how fast they change.
 //!
-//! A [`TurnCurve`] is a station's slope, whose sides tell high and low waters, and a [`MarkCurve`] its
-//! level against a mark or a slack. Each is a [`Curve`](curve_law::Curve) over the station's minutes:
-//! it tells a rate for a cell in the plain part of a year, and in the second [`Version`] across a new
-//! year too. Its near values are those by the chords of the sine.
+//! A [`TurnCurve`] is a station's slope, whose changes of sign are high and low waters, and a
+//! [`MarkCurve`] is its level less a mark. Each is a [`Curve`](curve_law::Curve) over the station's
+//! minutes: it has a rate for a cell outside new-year blends, and in the second [`Version`] across a new
+//! year too. Its approximate values are those by the chords of the sine.
 #![tactic(auto)]
 
 mod laws;

@@ -1,4 +1,4 @@
-//! The level of a station against a mark as a curve.
+//! The level of a station less a mark, as a curve.
 
 ghost use Rattle.std.specs.Prelude.{◌≡◌, ◌*◌, pos, true, unsigned_abs};
 ghost use Rattle.std.specs.Bool.{OnTrue};
@@ -16,8 +16,8 @@ use curve_law::{Curve, Kind};
 use station_curve::StationCurve;
 use year_blend::Stretch;
 
-/// A level, `times` millionths of the station's and `plus` millionths of the unit, less a mark: where
-/// it passes 0. No call of it takes memory.
+/// The curve of a level less a mark; the level is `times` millionths of the station's plus `plus`
+/// millionths of the unit. It changes sign at each crossing of the mark. No call allocates.
 #[derive(Debug, Drop)]
 pub struct MarkCurve<'a> {
     station: &'a StationCurve,
@@ -36,7 +36,7 @@ pub struct MarkCurve<'a> {
 impl<'a> MarkCurve<'a> {
     ghost use Rattle.rate_bound.specs.Meanings.{mark_meaning};
 
-    /// The level against a mark with rates in the plain part of one year alone, its numbers as in
+    /// Returns the level less a mark with rates outside new-year blends only. The numbers are as of
     /// [`new`](MarkCurve::new).
     pub fn over(station: &'a StationCurve, times: i64, plus: i64, mark: i64, slack: bool) -> Self
         requires scale { IsScale times plus mark }
@@ -48,7 +48,8 @@ impl<'a> MarkCurve<'a> {
         MarkCurve::new(station, Version::First, times, plus, mark, slack)
     }
 
-    /// The same with rates across a new year too.
+    /// Returns the level less a mark with rates across a new year too. The numbers are as of
+    /// [`new`](MarkCurve::new).
     pub fn blended(station: &'a StationCurve, times: i64, plus: i64, mark: i64, slack: bool) -> Self
         requires scale { IsScale times plus mark }
         requires slack { OnTrue slack (mark ≡ pos 0) }
@@ -59,9 +60,10 @@ impl<'a> MarkCurve<'a> {
         MarkCurve::new(station, Version::Second, times, plus, mark, slack)
     }
 
-    /// The level against a mark, or a current's against 0 where it is a slack, with the rates of the
-    /// version. `times` is from 1 to 100,000,000, `plus` and `mark` are from -10,000,000,000 to
-    /// 10,000,000,000, and the mark of a slack is 0. It was asked for no value yet.
+    /// Returns the level less `mark`, or less 0 if the curve is of a current's slacks (`slack`), with the
+    /// rates of `version`. `times` is from 1 to 100,000,000 millionths, `plus` and `mark` are from
+    /// -10,000,000,000 to 10,000,000,000 millionths, and the mark of a slack is 0. The curve is not yet
+    /// evaluated.
     pub fn new(
         station: &'a StationCurve,
         version: Version,

@@ -1,4 +1,4 @@
-//! A level against a mark.
+//! A level less a mark.
 
 ghost use Rattle.std.specs.Prelude.{◌≡◌, ◌*◌, ◌^◌, ◌≤◌, pos, ◌+ℤ◌, ◌-ℤ◌, ◌*ℤ◌, ◌≤ℤ◌, unsigned_abs};
 ghost use Rattle.year_blend.specs.Weights.{total_weight};
@@ -6,11 +6,10 @@ ghost use Rattle.rate_bound.specs.Meanings.{over_mark};
 
 use year_blend::TOTAL_WEIGHT;
 
-/// What a millionth is in a curve of so many millionths times the level: the whole weight times
-/// 10^15.
+/// A millionth in the unit of a curve of millionths times the level: the total weight times 10^15.
 const MILLIONTH: i128 = TOTAL_WEIGHT as i128 * 1_000_000_000_000_000;
 
-/// A station's level, so many millionths times it and some millionths more, less a mark.
+/// Returns `times` millionths of `level`, plus `plus` millionths, less `mark` millionths.
 pub fn over_mark(times: i64, plus: i64, mark: i64, level: i128) -> i128
     requires times { unsigned_abs times ≤ 10 ^ 8 }
     requires plus { unsigned_abs plus ≤ 10 ^ 10 }
@@ -21,7 +20,7 @@ pub fn over_mark(times: i64, plus: i64, mark: i64, level: i128) -> i128
     scaled(times, level) + raised(plus - mark)
 }
 
-/// So many times a level, or a level's rate.
+/// Returns `times * level`, also for a level's rate.
 pub fn scaled(times: i64, level: i128) -> i128
     requires times { unsigned_abs times ≤ 10 ^ 8 }
     requires level { unsigned_abs level ≤ 10 ^ 29 }
@@ -31,7 +30,7 @@ pub fn scaled(times: i64, level: i128) -> i128
     i128::from(times) * level
 }
 
-/// So many millionths.
+/// Returns `millionths` in the unit of the curve.
 fn raised(millionths: i64) -> i128
     requires { unsigned_abs millionths ≤ 2 * 10 ^ 10 }
     ensures value { result ≡ pos (10 ^ 6 * total_weight * 10 ^ 9) *ℤ millionths }

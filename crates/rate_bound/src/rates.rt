@@ -1,4 +1,4 @@
-//! Rates by the sums of years.
+//! Rates from the sums of years.
 
 ghost use Rattle.std.specs.Prelude.{◌≡◌, ◌*◌, ◌^◌, ◌≤◌, pos, ◌+ℤ◌, ◌*ℤ◌, unsigned_abs};
 ghost use Rattle.std.specs.Int.{int_max};
@@ -11,22 +11,22 @@ use fixed_sine::RADIAN;
 use station_curve::Sums;
 use year_blend::TOTAL_WEIGHT;
 
-/// The whole weight.
+/// The total weight.
 const WEIGHT: i128 = TOTAL_WEIGHT as i128;
 
-/// The most that the weight rises in a minute.
+/// The most that the weight changes in a minute.
 const MOST_RISE: i128 = 64_800_000;
 
-/// The most that its rise changes in a minute.
+/// The most that the change of the weight changes in a minute.
 const MOST_BEND: i128 = 1_663_000;
 
-/// Billionths of a millionth in a millionth.
+/// The ratio of a millionth to a billionth of a millionth.
 const BILLION: i128 = 1_000_000_000;
 
 /// The greatest rate of a slope across a new year.
 const MOST_RATE: i128 = 40_000_000_000_000_000_000_000_000_000_000_000;
 
-/// How much the slope changes at most in a minute of the plain part of a year.
+/// Returns the most that the slope changes in a minute outside blends, from the sums of the year.
 pub fn plain_slope_rate(year: &Sums) -> i128
     requires { AreGentle year.now }
     ensures value { result ≡ plain_slope_rate year.now }
@@ -34,7 +34,7 @@ pub fn plain_slope_rate(year: &Sums) -> i128
     WEIGHT * year.far
 }
 
-/// How much the level changes at most in a minute there.
+/// Returns the most that the level changes in a minute outside blends, from the sums of the year.
 pub fn plain_level_rate(year: &Sums) -> i128
     requires { AreGentle year.now }
     ensures value { result ≡ plain_level_rate year.now }
@@ -43,7 +43,7 @@ pub fn plain_level_rate(year: &Sums) -> i128
     WEIGHT * year.near
 }
 
-/// How much the slope changes at most in a minute across the new year between two years.
+/// Returns the most that the slope changes in a minute across the new year between two years.
 pub fn blended_slope_rate(earlier: &Sums, later: &Sums) -> i128
     requires earlier { AreGentle earlier.now }
     requires later { AreGentle later.now }
@@ -55,7 +55,7 @@ pub fn blended_slope_rate(earlier: &Sums, later: &Sums) -> i128
         + MOST_BEND * RADIAN as i128 * BILLION * (earlier.amount + later.amount)
 }
 
-/// How much the level changes at most in a minute there.
+/// Returns the most that the level changes in a minute across the new year between two years.
 pub fn blended_level_rate(earlier: &Sums, later: &Sums) -> i128
     requires earlier { AreGentle earlier.now }
     requires later { AreGentle later.now }
@@ -65,7 +65,7 @@ pub fn blended_level_rate(earlier: &Sums, later: &Sums) -> i128
     WEIGHT * earlier.near.max(later.near) + MOST_RISE * BILLION * (earlier.amount + later.amount)
 }
 
-/// A rate, where it isn't too great.
+/// Returns `rate`, or `None` if it is too great for a curve.
 pub fn limited(rate: i128) -> Option<i128>
     ensures { result ≡ limited rate }
 {

@@ -1,4 +1,4 @@
-//! Where a cell of a station lies.
+//! The stretch of a cell of a station.
 
 ghost use Rattle.std.specs.Prelude.{◌≡◌, ◌<◌, ◌≤◌, length, pos, ◌+ℤ◌};
 ghost use Rattle.year_blend.specs.declared.spanning.TheConstants.{LONGEST_SPAN};
@@ -9,7 +9,7 @@ ghost use Rattle.rate_bound.specs.Workings.Cells.{NamesYears};
 use station_curve::StationCurve;
 use year_blend::Stretch;
 
-/// Where `n` minutes of a station from `a` on lie, at most `LONGEST_SPAN` of them.
+/// Returns the stretch of the `n` minutes of a station from `a` on, at most `LONGEST_SPAN`.
 pub fn stretch_of(station: &StationCurve, a: i64, n: u32) -> Stretch
     requires first { InDomain station.now.first_year (length station.now.years) a }
     requires last { InDomain station.now.first_year (length station.now.years) (a +ℤ pos n) }

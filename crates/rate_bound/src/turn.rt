@@ -13,8 +13,8 @@ use curve_law::{Curve, Kind};
 use station_curve::StationCurve;
 use year_blend::Stretch;
 
-/// The slope of a station: it rises past 0 at a low water, and falls to 0 at a high one. No call of
-/// it takes memory.
+/// The curve of a station's slope: it rises past 0 at a low water, and falls to 0 at a high water. No
+/// call allocates.
 #[derive(Debug, Drop)]
 pub struct TurnCurve<'a> {
     station: &'a StationCurve,
@@ -28,7 +28,7 @@ pub struct TurnCurve<'a> {
 impl<'a> TurnCurve<'a> {
     ghost use Rattle.rate_bound.specs.Meanings.{turn_meaning};
 
-    /// The slope with rates in the plain part of one year alone. It was asked for no value yet.
+    /// Returns the slope with rates outside new-year blends only. It is not yet evaluated.
     pub fn over(station: &'a StationCurve) -> TurnCurve<'a>
         ensures meaning { ⟦<TurnCurve<'a> as Curve>⟧.meaning result ≡ turn_meaning First station.now }
         ensures count { ⟦<TurnCurve<'a> as Curve>⟧.count result ≡ 0 }
@@ -36,7 +36,7 @@ impl<'a> TurnCurve<'a> {
         TurnCurve::new(station, Version::First)
     }
 
-    /// The slope with rates across a new year too. It was asked for no value yet.
+    /// Returns the slope with rates across a new year too. It is not yet evaluated.
     pub fn blended(station: &'a StationCurve) -> TurnCurve<'a>
         ensures meaning { ⟦<TurnCurve<'a> as Curve>⟧.meaning result ≡ turn_meaning Second station.now }
         ensures count { ⟦<TurnCurve<'a> as Curve>⟧.count result ≡ 0 }
@@ -44,7 +44,7 @@ impl<'a> TurnCurve<'a> {
         TurnCurve::new(station, Version::Second)
     }
 
-    /// The slope with the rates of the version. It was asked for no value yet.
+    /// Returns the slope with the rates of `version`. It is not yet evaluated.
     pub fn new(station: &'a StationCurve, version: Version) -> TurnCurve<'a>
         ensures meaning { ⟦<TurnCurve<'a> as Curve>⟧.meaning result ≡ turn_meaning version station.now }
         ensures count { ⟦<TurnCurve<'a> as Curve>⟧.count result ≡ 0 }

@@ -1,10 +1,11 @@
 //! The versions of the rates.
 
-/// Which cells have a rate. A certificate names the version that its cells go by.
+/// The version of the rates, which determines the cells that have one. A certificate names the version of
+/// its cells.
 #[derive(Clone, Copy, Debug, PartialEq, Eq)]
 pub enum Version {
-    /// Those in the plain part of one year.
+    /// Cells outside new-year blends have a rate.
     First,
-    /// Those across a new year too, where their rate isn't too great.
+    /// Cells across a new year have a rate too, if it isn't too great.
     Second,
 }

@@ -1,5 +1,5 @@
-//! Rates, values and cells that were worked out elsewhere: over half a day's tide at noon and midnight,
-//! 1 high.
+//! Rates, values and cells that were computed elsewhere, for a tide of 12 hours with an amplitude of 1,
+//! highest at noon and midnight.
 
 ghost use Rattle.std.specs.Prelude.{◌≡◌, ◌*◌, ◌^◌, [], ◌∷◌, Some, None, true, false, pos, negsuc};
 ghost use Rattle.curve_law.specs.Cover.{cover};
@@ -13,8 +13,8 @@ ghost use Rattle.rate_bound.specs.declared.version.Version.{Version};
 ghost use Rattle.rate_bound.specs.Rates.{predicted_slope_rate, predicted_level_rate};
 ghost use Rattle.rate_bound.specs.Meanings.{predicted_turn, predicted_mark};
 
-/// Rates of eight minutes in the middle of a year's plain part, and of four from an hour before a new
-/// year on. The steepest tide has none there for its slope.
+/// Proves the rates of eight minutes in the middle of a year, and of four from an hour before a new year
+/// on. The slope of the steepest tide has no rate there.
 pub fn worked_rates()
     ensures plain { predicted_slope_rate Version.First pier_book pier (pos 15791040) 8
         ≡ Some (pos 10857785564160000000000000000000) }
@@ -33,9 +33,9 @@ pub fn worked_rates()
         ≡ Some (pos (2000000 * 165792618547200000000000)) }
 {}
 
-/// The slope's cells. In the first minutes of a day the slope falls from 0, too fast for one quiet
-/// cell of eight minutes, by 0.04 per cent. Across a new year a cell is quiet by the second version
-/// alone.
+/// Proves cells of the slope. In the first minutes of a day the slope falls from 0, by 0.04 per cent too
+/// fast for one quiet cell of eight minutes. Across a new year a cell is quiet by the second version
+/// only.
 pub fn worked_turns()
     ensures from_midnight { cover (predicted_turn Version.First pier_book pier) (pos 15791040) 8
         ≡ Cell.Still ∷ Cell.Still ∷ Cell.Quiet 2 ∷ Cell.Quiet 4 ∷ [] }
@@ -62,8 +62,8 @@ pub fn worked_turns()
         (Cell.Quiet 1024 ∷ []) ≡ Verdict.NotQuiet 1 }
 {}
 
-/// The level's cells against a mark, and a slack's. At two o'clock the level is half the unit, and twice
-/// as much and a half more is one and a half.
+/// Proves cells of the level less a mark, and of a slack. At two o'clock the level is half the unit, and
+/// twice the level plus a half is one and a half.
 pub fn worked_marks()
     ensures highest { (predicted_mark Version.Second pier_book pier (pos 1000000) (pos 0) (pos 0) true).track.value (pos 15791040)
         ≡ pos 4147200000000000000000000000000 }

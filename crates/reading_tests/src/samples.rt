@@ -1,13 +1,13 @@
 use sample_tides::*;
 use std::test::Fail;
 
-/// The line of that number, counted from 1.
+/// Returns line `number` of `text`, counted from 1.
 fn line_at(text: &[u8], number: usize) -> Option<&[u8]> {
     text.split(|byte| *byte == b'\n')
         .nth(number.saturating_sub(1))
 }
 
-/// A number in which each byte and its place count.
+/// Returns a checksum of `text` that depends on each byte and its index.
 fn sum_of(text: &[u8]) -> u64 {
     let mut sum = 0u64;
     for byte in text {

@@ -1,4 +1,4 @@
--- How long the file of a seed is at most.
+-- A bound on the length of the file of a seed.
 use Rattle.std.proofs.Common.{◌≡◌, lit<, ℕ, zero, suc, ◌+◌, ◌*◌, ◌/◌, ◌%◌, ◌^◌, ◌<◌, ◌≤◌, ◌==◌, nat_le, Bool, true, false, if◌then◌else◌, List, [], ◌++◌, length, length-append, ℤ, pos, negsuc, ◌-ℤ◌, refl, arith}
 use Rattle.std.specs.Prelude.{codes, decimal, unsigned_abs}
 use Rattle.std.proofs.Math.Nat.{div-le_self}
@@ -11,7 +11,7 @@ use Rattle.sample_tides.specs.Parts.{Draft, Part, append, line, moved, draw, ◌
 use Rattle.sample_tides.specs.File.{name_of, slowest_of, constituent, hundredths, value, values, table, meridian, level, datum, constants, station, heading, file}
 use Rattle.decimal_text.specs.declared.limits.TheConstants.{MOST_BYTES}
 
--- a part appends at most so many bytes
+-- a part appends at most `most` bytes
 pub record Grows (most : ℕ) (part : Part) : Type 0 where
   pub fits : (draft : Draft) → length (part draft).text ≤ length draft.text + most
 

@@ -1,4 +1,4 @@
--- What parts of a text make, one after the other.
+-- The effect of parts of a text, one after the other.
 use Rattle.std.proofs.Common.{◌≡◌, ℕ, suc, ◌+◌, ◌-◌, ◌≤◌, List, ◌++◌, append_assoc, ap, arith, refl}
 use Rattle.sample_tides.specs.Parts.{Draft, Part, append, each}
 

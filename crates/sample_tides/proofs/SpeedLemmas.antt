@@ -1,10 +1,10 @@
--- A decimal and the same with one place less.
+-- A decimal, and the same decimal with one place less.
 use Rattle.std.proofs.Common.{◌≡◌, ℕ, ◌+◌, ◌/◌, ◌%◌, ◌^◌, ◌<◌, List, [], ◌∷◌, ◌++◌, pos, decimal, append_assoc, arith, sym, ap}
 use Rattle.std.proofs.Math.Nat.{div-div-eq-div-mul, div-one}
 use Rattle.std.proofs.lemmas.Fmt.{decimal_digit}
 use Rattle.decimal_text.specs.Writing.{write_of, last_digits}
 
--- seven places are six places of the tenth part, and one digit more
+-- seven places are six places of a tenth, and one digit more
 pub write_of-seven : (n : ℕ) → write_of (pos (n / 10)) 6 ++ decimal (n % 10) ≡ write_of (pos n) 7
 unfolding write_of last_digits
 write_of-seven n =

@@ -1,9 +1,10 @@
--- A harmonics file of made-up constants: 37 constituents, 30 years from 2000 on and 200 stations (this project).
+-- A harmonics file of made-up constants: 37 constituents, 30 years from 2000 on and 200 stations (this
+-- project).
 use Rattle.std.specs.Prelude.{ℕ, ◌+◌, ◌%◌, ◌==◌, nat_le, if◌then◌else◌, List, [], ◌++◌, pos, ◌-ℤ◌, codes, decimal}
 use Rattle.decimal_text.specs.Writing.{write_of}
 use Rattle.sample_tides.specs.Parts.{Part, append, line, draw, ◌>>=◌, ◌>>◌, each}
 
--- the k-th constituent's name
+-- the name of the k-th constituent
 unfoldable pub name_of : ℕ → List ℕ
 name_of k =
     if k == 1 then codes "M2"
@@ -13,56 +14,57 @@ name_of k =
     else if k == 5 then codes "O1"
     else codes "C" ++ decimal k
 
--- the slowest that a made-up constituent is, in ten-millionths of a degree an hour: two tides a day, or one
+-- the slowest speed of a made-up constituent, in ten-millionths of a degree an hour: about two tides a
+-- day, or one
 abbrev pub slowest_of : ℕ → ℕ
 slowest_of k = if k % 2 == 0 then 270000000 else 130000000
 
--- a made-up constituent: its name and its speed in degrees an hour
+-- the line of a made-up constituent: its name and its speed in degrees an hour
 unfoldable pub constituent : ℕ → Part
 constituent k = do
   more ← draw 40000000
   line (name_of k ++ codes " " ++ write_of (pos (slowest_of k + more)) 7)
 
--- a whole number of hundredths
+-- n / 100 with two decimals
 unfoldable pub hundredths : ℕ → List ℕ
 hundredths n = write_of (pos n) 2
 
--- a decimal with that many places, from the least one on
+-- a drawn decimal: one of `bound` numbers from `least` on, over 10 ^ places
 unfoldable pub value : (least bound places : ℕ) → Part
 value least bound places = do
   more ← draw bound
   append (write_of (pos (least + more)) places)
 
--- a line of a value for each year
+-- a line with one value for each of 30 years
 unfoldable pub values : Part → Part
 values one = do
   one
   each 1 29 (λ year. do append (codes " "); one)
   append (codes "\n")
 
--- each constituent's name and values
+-- a table: the name and the values of each constituent
 unfoldable pub table : Part → Part
 table one = do
   each 1 37 (λ k. do line (name_of k); values one)
   line (codes "*END*")
 
--- how far a station's local time is ahead of universal time, in hours from -12 to 12
+-- a station's meridian: local time less universal time, in hours from -12 to 12
 unfoldable pub meridian : Part
 meridian = do
   hours ← draw 25
   line (write_of (pos hours -ℤ pos 12) 0 ++ codes ":00 :UTC")
 
--- a mean level up to 10 feet
+-- a mean level from 0 to 10 feet
 unfoldable pub level : Part
 level = do
   feet ← draw 1001
   line (hundredths feet ++ codes " feet")
 
--- each fifth station is one of currents
+-- the datum of the i-th station; every fifth is of currents
 unfoldable pub datum : ℕ → Part
 datum i = if i % 5 == 0 then line (codes "0.00 knots") else level
 
--- the amplitude and the epoch of a constituent; a station lacks each seventh
+-- the amplitude and the epoch of the k-th constituent; every seventh is absent
 unfoldable pub constants : ℕ → Part
 constants k =
     if k % 7 == 0 then line (codes "x 0 0")
@@ -79,7 +81,7 @@ station i = do
   datum i
   each 1 37 constants
 
--- the first lines, up to the constituents that are made up
+-- the first lines, before the made-up constituents
 unfoldable pub heading : ℕ → Part
 heading seed = do
   line (codes "# sample tides, seed " ++ decimal seed)
@@ -90,7 +92,7 @@ heading seed = do
   line (codes "K1 15.0410686")
   line (codes "O1 13.9430356")
 
--- the parts of the file: constituents, the first year, the arguments of each year, the factors of each year, stations
+-- the whole file: constituents, first year, equilibrium arguments, node factors, stations
 unfoldable pub file : ℕ → Part
 file seed = do
   heading seed

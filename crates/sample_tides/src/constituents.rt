@@ -8,10 +8,10 @@ ghost use Rattle.sample_tides.specs.Parts.{append};
 use crate::draft::Draft;
 use std::alloc::AllocError;
 
-/// How many constituents a file has.
+/// The number of constituents of the file.
 pub(crate) const CONSTITUENTS: u32 = 37;
 
-/// Appends the name of a constituent, counted from 1.
+/// Appends the name of constituent `number`, counted from 1.
 #[tactic(auto, using(crate::proofs::PartsLemmas::append_twice), unfolding(crate::specs::File::name_of))]
 pub(crate) fn append_name(draft: &mut Draft, number: u32) -> Result<(), AllocError>
     ensures { OnOk result (draft.new ≡ append (name_of number) draft.old) }
@@ -29,7 +29,7 @@ pub(crate) fn append_name(draft: &mut Draft, number: u32) -> Result<(), AllocErr
     }
 }
 
-/// Appends the line of a made-up constituent: its name and its speed.
+/// Appends the line of constituent `number`, from 6 on: its name and a drawn speed in degrees an hour.
 #[tactic(auto, using(crate::proofs::PartsLemmas::append_twice), unfolding(crate::specs::File::constituent))]
 pub(crate) fn append_constituent(draft: &mut Draft, number: u32) -> Result<(), AllocError>
     ensures { OnOk result (draft.new ≡ constituent number draft.old) }
@@ -41,7 +41,7 @@ pub(crate) fn append_constituent(draft: &mut Draft, number: u32) -> Result<(), A
     draft.append(b"\n")
 }
 
-/// Appends a speed in ten-millionths of a degree an hour, as degrees.
+/// Appends `speed`, in ten-millionths of a degree an hour, as degrees an hour.
 fn append_speed(draft: &mut Draft, speed: u32) -> Result<(), AllocError>
     ensures { OnOk result (draft.new ≡ append (write_of (pos speed) 7) draft.old) }
 {

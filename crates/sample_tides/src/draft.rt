@@ -1,4 +1,4 @@
-//! A text that is drawn from a seed.
+//! The text written so far, with the generator of its numbers.
 
 ghost use Rattle.std.specs.Prelude.{◌≡◌, ◌<◌, ◌≤◌, [], IfOk, OnOk, pos, decimal};
 ghost use Rattle.decimal_text.specs.Writing.{write_of};
@@ -11,7 +11,7 @@ use itoa::Buffer;
 use std::alloc::{AllocError, Global};
 use std::marker::Model;
 
-/// The text so far, and the generator of what is still to come.
+/// The text written so far, and the generator of the numbers still to come.
 #[derive(Drop)]
 pub(crate) struct Draft {
     text: Vec<u8>,
@@ -29,7 +29,7 @@ impl Model for Draft {
 impl Draft {
     ghost use Rattle.sample_tides.specs.Parts.{append, line, moved};
 
-    /// No text yet. The generator begins at the seed.
+    /// Returns the empty text, with a generator whose first state is `seed`.
     pub(crate) fn new(alloc: Global, seed: u64) -> Draft
         ensures { result ≡ record { text = []; state = seed } }
     {
@@ -39,7 +39,7 @@ impl Draft {
         }
     }
 
-    /// Draws a number below `bound`.
+    /// Draws a number from 0 to `bound - 1`.
     #[tactic(auto, unfolding(crate::specs::Parts::moved))]
     pub(crate) fn draw(&mut self, bound: u32) -> u32
         requires { 0 < bound }
@@ -50,7 +50,7 @@ impl Draft {
         self.generator.draw(bound)
     }
 
-    /// Appends bytes.
+    /// Appends `text`.
     #[tactic(auto, unfolding(crate::specs::Parts::append))]
     pub(crate) fn append(&mut self, text: &[u8]) -> Result<(), AllocError>
         ensures { OnOk result (self.new ≡ append text.now self.old) }
@@ -58,7 +58,7 @@ impl Draft {
         self.text.extend_from_slice(text)
     }
 
-    /// Appends the last bytes of a line, and ends it.
+    /// Appends `text` and the end of a line.
     #[tactic(auto, using(crate::proofs::PartsLemmas::append_twice))]
     pub(crate) fn line(&mut self, text: &[u8]) -> Result<(), AllocError>
         ensures { OnOk result (self.new ≡ line text.now self.old) }
@@ -67,14 +67,14 @@ impl Draft {
         self.append(b"\n")
     }
 
-    /// Appends the digits of a whole number.
+    /// Appends the digits of `number`.
     pub(crate) fn whole(&mut self, number: u64) -> Result<(), AllocError>
         ensures { OnOk result (self.new ≡ append (decimal number) self.old) }
     {
         self.append(Buffer::new().format(number).as_bytes())
     }
 
-    /// Appends `value / 10^places` with exactly that many decimals.
+    /// Appends `value / 10^places` with exactly `places` decimals, at most 6.
     pub(crate) fn decimal(&mut self, value: u32, places: u32) -> Result<(), AllocError>
         requires { places ≤ 6 }
         ensures { OnOk result (self.new ≡ append (write_of (pos value) places) self.old) }
@@ -82,7 +82,7 @@ impl Draft {
         self.signed(i64::from(value), places)
     }
 
-    /// The same of a value that may be negative.
+    /// Appends `value / 10^places` with exactly `places` decimals, at most 6, and `-` if it is negative.
     pub(crate) fn signed(&mut self, value: i64, places: u32) -> Result<(), AllocError>
         requires { places ≤ 6 }
         ensures { OnOk result (self.new ≡ append (write_of value places) self.old) }
@@ -92,7 +92,7 @@ impl Draft {
         self.append(text.as_str().as_bytes())
     }
 
-    /// The text.
+    /// Returns the text.
     pub(crate) fn into_bytes(self) -> Bytes
         ensures { result ≡ self.text }
     {

@@ -27,11 +27,11 @@ const FACTOR: Quantity = Quantity {
     places: 4,
 };
 
-/// The sample file of a seed: a harmonics file of 8,192 lines, with 37 constituents, 30 years from
-/// 2000 on and 200 stations, each fifth of them one of currents.
+/// Returns the sample file of `seed`: a harmonics file of 8,192 lines, with 37 constituents, 30 years
+/// from 2000 on and 200 stations, every fifth of them of currents.
 ///
 /// # Errors
-/// [`AllocError`] where there is no memory for the text.
+/// [`AllocError`] if memory runs out.
 #[tactic(auto, unfolding(crate::specs::File::sample_of))]
 pub fn sample(alloc: Global, seed: u64) -> Result<Bytes, AllocError>
     ensures exact { IfOk result (λ bytes. bytes ≡ sample_of seed) }

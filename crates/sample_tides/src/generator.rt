@@ -1,4 +1,4 @@
-//! Numbers from a seed.
+//! Pseudorandom numbers from a seed.
 
 ghost use Rattle.std.specs.Prelude.{◌≡◌, ◌<◌, ℕ};
 ghost use Rattle.sample_tides.specs.Generator.{next, scaled_to};
@@ -9,7 +9,7 @@ const MULTIPLIER: u64 = 6_364_136_223_846_793_005;
 
 const INCREMENT: u64 = 1_442_695_040_888_963_407;
 
-/// A linear congruential generator of 64 bits. Contracts see it as its state.
+/// A linear congruential generator of 64 bits. In contracts its value is its state.
 #[derive(Drop)]
 pub(crate) struct Generator {
     state: u64,
@@ -22,14 +22,14 @@ impl Model for Generator {
 }
 
 impl Generator {
-    /// A generator whose first state is the seed.
+    /// Returns a generator whose first state is `seed`.
     pub(crate) fn new(seed: u64) -> Generator
         ensures { result ≡ seed }
     {
         Generator { state: seed }
     }
 
-    /// Moves on, and gives a number below `bound` by the high half of the state.
+    /// Advances the state, and returns a number from 0 to `bound - 1` by the high half of the new state.
     #[tactic(auto, unfolding(crate::specs::Generator::next, crate::specs::Generator::scaled_to))]
     pub(crate) fn draw(&mut self, bound: u32) -> u32
         requires { 0 < bound }
@@ -42,7 +42,7 @@ impl Generator {
     }
 }
 
-/// The high half of a state, scaled to the numbers below `bound`.
+/// Returns the high half of `state`, scaled to the numbers from 0 to `bound - 1`.
 #[tactic(auto, unfolding(crate::specs::Generator::scaled_to))]
 fn scaled(state: u64, bound: u32) -> u32
     requires { 0 < bound }

@@ -1,8 +1,8 @@
 //! A harmonics file of made-up constants, drawn from a seed.
 //!
-//! [`sample`] gives the same file for the same seed, so tests and measurements of a predictor need
-//! no data of their own. Its constants are those of no real place. `specs/File.antt` says line by
-//! line what the file has.
+//! [`sample`] returns the same file for the same seed, so tests and measurements of a predictor need no
+//! data of their own. Its constants are those of no real station. `specs/File.antt` defines the file line
+//! by line.
 #![tactic(auto)]
 
 mod constituents;

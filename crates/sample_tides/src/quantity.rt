@@ -1,8 +1,8 @@
-//! What the values of a table are drawn from.
+//! The range of the values of a table.
 
 ghost use Rattle.std.specs.Prelude.{◌+◌, ◌<◌, ◌≤◌, ◌^◌};
 
-/// Numbers from `least` on, as many as `bound`, over `10^places`.
+/// A range of decimals: `bound` numbers from `least` on, each over `10^places`.
 #[derive(Clone, Copy)]
 pub(crate) struct Quantity {
     pub(crate) least: u32,

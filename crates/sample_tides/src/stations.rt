@@ -8,7 +8,7 @@ use crate::constituents::{CONSTITUENTS, append_name};
 use crate::draft::Draft;
 use std::alloc::AllocError;
 
-/// Appends a station, counted from 1.
+/// Appends station `number`, counted from 1.
 #[tactic(auto, unfolding(crate::specs::File::station))]
 pub(crate) fn append_station(draft: &mut Draft, number: u32) -> Result<(), AllocError>
     ensures { OnOk result (draft.new ≡ station number draft.old) }
@@ -31,7 +31,8 @@ fn append_title(draft: &mut Draft, number: u32) -> Result<(), AllocError>
     draft.append(b"\n")
 }
 
-/// Appends how far the station's clock is ahead, in whole hours.
+/// Appends the station's meridian: its local time less universal time, a drawn number of hours from -12
+/// to 12.
 #[tactic(auto, using(crate::proofs::PartsLemmas::append_twice), unfolding(crate::specs::File::meridian))]
 fn append_meridian(draft: &mut Draft) -> Result<(), AllocError>
     ensures { OnOk result (draft.new ≡ meridian draft.old) }
@@ -42,7 +43,7 @@ fn append_meridian(draft: &mut Draft) -> Result<(), AllocError>
     draft.append(b"\n")
 }
 
-/// Appends the mean level and its unit.
+/// Appends the datum of station `number`: its mean level and the unit.
 #[tactic(auto, unfolding(crate::specs::File::datum))]
 fn append_datum(draft: &mut Draft, number: u32) -> Result<(), AllocError>
     ensures { OnOk result (draft.new ≡ datum number draft.old) }
@@ -64,7 +65,8 @@ fn append_level(draft: &mut Draft) -> Result<(), AllocError>
     draft.append(b"\n")
 }
 
-/// Appends the amplitude and the epoch of a constituent.
+/// Appends the amplitude and the epoch of constituent `constituent`, counted from 1; every seventh is
+/// absent.
 #[tactic(auto, using(crate::proofs::PartsLemmas::append_twice), unfolding(crate::specs::File::constants))]
 fn append_constants(draft: &mut Draft, constituent: u32) -> Result<(), AllocError>
     ensures { OnOk result (draft.new ≡ constants constituent draft.old) }

@@ -1,4 +1,4 @@
-//! The tables of values by year.
+//! Tables with a value for each constituent and year.
 
 ghost use Rattle.std.specs.Prelude.{◌≡◌, OnOk};
 ghost use Rattle.sample_tides.specs.File.{value, values, table};
@@ -10,7 +10,8 @@ use std::alloc::AllocError;
 
 const YEARS: u32 = 30;
 
-/// Appends a value of each constituent for each year.
+/// Appends a table of values drawn from `quantity`: for each constituent its name and a value for each
+/// year.
 #[tactic(auto, unfolding(crate::specs::File::table))]
 pub(crate) fn append_table(draft: &mut Draft, quantity: Quantity) -> Result<(), AllocError>
     ensures { OnOk result (draft.new ≡ table (value quantity.least quantity.bound quantity.places) draft.old) }
@@ -23,7 +24,7 @@ pub(crate) fn append_table(draft: &mut Draft, quantity: Quantity) -> Result<(), 
     draft.line(b"*END*")
 }
 
-/// Appends a line of a value for each year.
+/// Appends a line with a value drawn from `quantity` for each year.
 #[tactic(auto, unfolding(crate::specs::File::values))]
 fn append_values(draft: &mut Draft, quantity: Quantity) -> Result<(), AllocError>
     ensures { OnOk result (draft.new ≡ values (value quantity.least quantity.bound quantity.places) draft.old) }

@@ -1,10 +1,10 @@
-//! Draws and lines that were worked out apart from this program.
+//! Draws and lines that were computed by another program.
 
 ghost use Rattle.std.specs.Prelude.{◌≡◌, ◌-◌, ◌/◌, ◌^◌, [], codes};
 ghost use Rattle.sample_tides.specs.Generator.{next, scaled_to};
 ghost use Rattle.sample_tides.specs.File.{heading, constituent, value, meridian, level, datum, constants};
 
-/// The first draw of the seed 0, and a state that wraps.
+/// Proves the first draw of seed 0, and the state after one that wraps.
 #[tactic(auto, unfolding(crate::specs::Generator::next, crate::specs::Generator::scaled_to))]
 pub fn worked_draws()
     ensures first_state { next 0 ≡ 1442695040888963407 }
@@ -14,8 +14,8 @@ pub fn worked_draws()
     ensures greatest { scaled_to 25 (2 ^ 64 - 1) ≡ 24 }
 {}
 
-/// The first lines of the file of the seed 0, and lines of its tables and its first station by the
-/// states that are reached there. What takes no draw leaves the state.
+/// Proves the first lines of the file of seed 0, and lines of its tables and its first station from the
+/// states reached there. A line without a draw leaves the state unchanged.
 pub fn worked_lines()
     ensures first_lines { (constituent 6 (heading 0 (record { text = []; state = 0 }))).text
         ≡ codes "# sample tides, seed 0\n37\nM2 28.9841042\nS2 30.0000000\nN2 28.4397295\nK1 15.0410686\nO1 13.9430356\nC6 27.3128346\n" }

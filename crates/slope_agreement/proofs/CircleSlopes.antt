@@ -1,4 +1,4 @@
--- The same on the whole circle, with signs.
+-- The bound over one unit on the whole circle, with signs.
 use Rattle.std.proofs.Common.{◌≡◌, ℕ, ◌+◌, ◌-◌, ◌%◌, ◌<◌, ◌≤◌, inl, inr, sym, ap, ◌∙◌, arith, ℤ, pos, neg_ℤ, ◌-ℤ◌, ◌*ℤ◌, unsigned_abs}
 use Rattle.std.proofs.lemmas.Bool.{cases_lt}
 use Rattle.std.proofs.lemmas.Int.{ints}
@@ -51,7 +51,7 @@ fourth_quarter x i h e =
     (ap half_num (let z : i + 162000000000 - 108000000000 ≡ i + 54000000000 = omega arith in z)
     ∙ half_num-second (i + 54000000000) (omega arith) ∙ ap num (omega arith))
 
--- how far a difference, times the units of a radian, is from a slope
+-- the difference between a rise, times the units of a radian, and a slope
 abbrev pub slope_gap : ℤ → ℤ → ℤ → ℕ
 slope_gap later earlier slope = unsigned_abs ((pos 34377467708 *ℤ (later -ℤ earlier)) -ℤ slope)
 

@@ -1,4 +1,4 @@
--- What the sine gains over one unit of the first quarter, without cuts, is near the cosine there.
+-- The rise of the unrounded sine over one unit of the first quarter is close to the cosine there.
 use Rattle.std.proofs.Common.{◌≡◌, ℕ, ◌+◌, ◌-◌, ◌*◌, ◌/◌, ◌%◌, ◌<◌, ◌≤◌, inl, inr, ap, ◌∙◌, arith, get_or, unsigned_abs}
 use Rattle.std.proofs.lemmas.Bool.{cases_lt}
 use Rattle.std.proofs.lemmas.Nat.{mul-le}
@@ -6,12 +6,12 @@ use Rattle.fixed_sine.specs.Table.{sines, correction}
 use Rattle.fixed_sine.proofs.RateLemmas.{formula, num, num-formula, num-step}
 use Rattle.slope_agreement.proofs.TableChecks.{IsNearCosine, near_cosine}
 
--- a value and the one a unit later, whose difference times the units of a radian is that near a slope
+-- two values a unit apart whose difference, times the units of a radian, is that close to a slope
 pub record IsSlope (far later earlier slope : ℕ) : Type 0 where
   pub above : 34377467708 * later ≤ 34377467708 * earlier + slope + far
   pub below : 34377467708 * earlier + slope ≤ 34377467708 * later + far
 
--- no product of two numbers with that sum is over a quarter of the sum's square
+-- a product of two numbers with a given sum is at most a quarter of the sum's square
 ordered_product : (x d : ℕ) → 4 * (x * (x + d)) ≤ (x + (x + d)) * (x + (x + d))
 ordered_product x d = omega arith
 
@@ -28,7 +28,7 @@ greatest_product x y sum =
           let most = rw (whole, ← e) at square in omega (arith, most))
     ]
 
--- the formula by both distances, from the degree's begin and to its end
+-- the formula in terms of the distances from the begin and to the end of the degree
 formula-at : (s u c r p : ℕ) → r + p ≡ 600000000 → formula s u c r ≡ 1440000000000000000 * s + 2400000000 * (r * u) + r * p * c
 unfolding formula
 formula-at s u c r p sum =
@@ -40,8 +40,8 @@ formula-unit : (s u c r q : ℕ) → r + q + 1 ≡ 600000000 → formula s u c (
 formula-unit s u c r q sum =
     omega (arith, formula-at s u c r (q + 1) (omega arith), formula-at s u c (r + 1) q (omega arith))
 
--- between the ends of a degree, r units past the one and p before the other: the slope is linear, and so is the cosine but for its
--- own correction
+-- between the ends of a degree, r units after one and p before the other: the slope is linear, and so is
+-- the cosine but for its own correction
 slope_inside : (r p gain size end more bend later earlier cosine : ℕ) → r + p ≡ 600000000 → IsNearCosine gain size end more → bend ≤ 640000 → later + (r + 1) * size ≡ earlier + 2400000000 * gain + p * size → cosine ≡ 1440000000000000000 * end + 2400000000 * (p * more) + p * r * bend → IsSlope 102240000000000000000000 later earlier cosine
 slope_inside r p gain size end more bend later earlier cosine sum near small rise is =
     let begin_above = mul-le p (34377467708 * (4 * gain + size)) p (2400000000 * (end + more) + 72000000000000) (omega arith) near.begin_above in
@@ -54,7 +54,7 @@ slope_inside r p gain size end more bend later earlier cosine sum near small ris
     let few = near.small in
     record { above = omega arith; below = omega arith }
 
--- of one degree
+-- the bound in one degree
 abbrev in_degree : ℕ → ℕ → ℕ
 in_degree k r = formula (get_or sines k 0) (get_or sines (k + 1) 0 - get_or sines k 0) (unsigned_abs (correction k)) r
 

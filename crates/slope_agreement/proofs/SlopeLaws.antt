@@ -1,4 +1,4 @@
--- The law of the slope: many units round the circle, the cut, and the cosine.
+-- The law of the slope: many units round the circle, rounding, and the cosine.
 use Rattle.std.proofs.Common.{◌≡◌, ℕ, zero, suc, ◌+◌, ◌-◌, ◌*◌, ◌%◌, ◌<◌, ◌≤◌, inl, inr, sym, ap, ◌∙◌, arith, lit<, ℤ, pos, negsuc, neg_ℤ, ◌+ℤ◌, ◌-ℤ◌, ◌*ℤ◌, int_div, unsigned_abs}
 use Rattle.std.proofs.lemmas.Bool.{cases_lt}
 use Rattle.std.proofs.lemmas.Int.{ints, quot-rem, rem_below}
@@ -14,7 +14,7 @@ times-suc : (n : ℕ) (c : ℤ) → pos (suc n) *ℤ c ≡ (pos n *ℤ c) +ℤ c
 times-suc n (pos c) = omega (arith, ints)
 times-suc n (negsuc c) = omega (arith, ints)
 
--- one unit more, where its slope is near the common one
+-- one unit more, if its slope is close to the common one
 one_more : (x y z s c t : ℤ) (far gap m : ℕ) → slope_gap x y s ≤ far → unsigned_abs (s -ℤ c) ≤ gap → slope_gap y z t ≤ m → slope_gap x z (t +ℤ c) ≤ m + (far + gap)
 one_more x y z s c t far gap m here near before = omega (arith, ints, here, near, before)
 
@@ -25,7 +25,7 @@ none (pos x) (negsuc c) = omega (arith, ints)
 none (negsuc x) (pos c) = omega (arith, ints)
 none (negsuc x) (negsuc c) = omega (arith, ints)
 
--- n units further round, where all slopes on the way are near one
+-- n units further round, if all slopes on the way are close to one
 signed_num-slopes : (c : ℤ) (gap n p : ℕ) → p < 216000000000 → ((j : ℕ) → j < n → unsigned_abs (signed_num (((p + j) % 216000000000 + 54000000000) % 216000000000) -ℤ c) ≤ gap) → slope_gap (signed_num ((p + n) % 216000000000)) (signed_num p) (pos n *ℤ c) ≤ n * (103680000000000000000000 + gap)
 signed_num-slopes c gap zero p h near =
     let here : (p + zero) % 216000000000 ≡ p = omega arith in
@@ -38,7 +38,7 @@ signed_num-slopes c gap (suc n) p h near =
     (one_more (signed_num ((q + 1) % 216000000000)) (signed_num q) (signed_num p) (signed_num ((q + 54000000000) % 216000000000)) c (pos n *ℤ c) _ gap _
     (signed_num-slope q (omega arith)) (near n (omega arith)) (signed_num-slopes c gap n p h (λ j below. near j (omega arith))))
 
--- a sine is its number without the cut, but for less than one
+-- a sine differs from its unrounded number by less than one
 cut_gap : (z : ℤ) → unsigned_abs (z -ℤ (pos 1440000000000000000 *ℤ int_div z (pos 1440000000000000000))) ≤ 1440000000000000000
 cut_gap z =
     let parts = quot-rem z (pos 1440000000000000000) in
@@ -48,7 +48,7 @@ cut_gap z =
 sine_gap : (p : ℕ) → p < 216000000000 → unsigned_abs (signed_num p -ℤ (pos 1440000000000000000 *ℤ isin_of p)) ≤ 1440000000000000000
 sine_gap p h = rw (isin_of-num p h) (cut_gap (signed_num p))
 
--- a number near a sine that is near another
+-- a number close to a sine that is close to another
 near_slope : (z a b : ℤ) (step most : ℕ) → unsigned_abs (z -ℤ (pos 1440000000000000000 *ℤ a)) ≤ 1440000000000000000 → unsigned_abs (a -ℤ b) ≤ step → step ≤ most → unsigned_abs (z -ℤ (pos 1440000000000000000 *ℤ b)) ≤ 1440000000000000000 * most + 1440000000000000000
 near_slope z a b step most cut near few = omega (arith, ints, cut, near, few)
 
@@ -71,11 +71,11 @@ scaled_product w s (negsuc c) =
     times_negated w (pos (s * suc c)) ∙ ap (λ n. neg_ℤ (pos n)) (let e : w * (s * suc c) ≡ s * (w * suc c) = omega arith in e)
     ∙ sym (times_negated s (pos (w * suc c)))
 
--- the cuts of both sines
+-- the rounding of both sines
 cut_slope : (x y a b t : ℤ) (m : ℕ) → slope_gap x y (pos 1440000000000000000 *ℤ t) ≤ m → unsigned_abs (x -ℤ (pos 1440000000000000000 *ℤ a)) ≤ 1440000000000000000 → unsigned_abs (y -ℤ (pos 1440000000000000000 *ℤ b)) ≤ 1440000000000000000 → 1440000000000000000 * slope_gap a b t ≤ m + 68754935416 * 1440000000000000000
 cut_slope x y a b t m slope later earlier = omega (arith, ints, slope, later, earlier)
 
--- the whole of it, without the scale
+-- the whole bound without the scale
 within_unit_gap : (gap w step : ℕ) → 1440000000000000000 * gap ≤ w * (103680000000000000000000 + (1440000000000000000 * step + 1440000000000000000)) + 68754935416 * 1440000000000000000 → gap ≤ w * step + 100000 * w + 2 * 34377467708
 within_unit_gap gap w step most = omega (arith, most)
 
@@ -95,7 +95,7 @@ sine_slope w p h =
     let steps = rw (scaled_product w 1440000000000000000 (isin_of y)) at (signed_num-slopes (pos 1440000000000000000 *ℤ isin_of y) (1440000000000000000 * step_of w + 1440000000000000000) w p h near) in
     within_unit_gap _ w (step_of w) (cut_slope (signed_num there) (signed_num p) (isin_of there) (isin_of p) (pos w *ℤ isin_of y) _ steps (sine_gap there (omega arith)) (sine_gap p h))
 
--- and by w times the cosine where the units end
+-- the sine rises by w times the cosine at the end of the units
 sine_slope_before : (w p : ℕ) → p < 216000000000 → slope_gap (isin_of ((p + w) % 216000000000)) (isin_of p) (pos w *ℤ icos_of ((p + w) % 216000000000)) ≤ unit_gap_of w
 unfolding unit_gap_of icos_of
 sine_slope_before w p h =
@@ -128,7 +128,7 @@ isin_of-opposite p h =
           rw (e, isin_of-second p above) (isin_of-first i (omega arith) ∙ sym (twice_negated _)))
     ]
 
--- the cosine's law: it is the sine a quarter further on
+-- the cosine's law: it is the sine of the angle plus a quarter of a turn
 slope_from : (x y z t : ℤ) (m : ℕ) → t ≡ neg_ℤ z → slope_gap x y t ≤ m → unsigned_abs ((pos 34377467708 *ℤ (x -ℤ y)) +ℤ z) ≤ m
 slope_from x y z t m is slope = omega (arith, ints, is, slope)
 
@@ -144,7 +144,7 @@ slope_law w p h =
     let slope = rw turn at (sine_slope w q (omega arith)) in
     slope_from (isin_of (((p + w) % 216000000000 + 54000000000) % 216000000000)) (isin_of q) (pos w *ℤ isin_of p) (pos w *ℤ isin_of ((q + 54000000000) % 216000000000)) (unit_gap_of w) other slope
 
--- the same by the sine where the units end
+-- the law by the sine at the end of the units
 pub slope_law_before : (w : ℕ) → SlopeLawBefore w
 unfolding icos_of
 slope_law_before w p h =

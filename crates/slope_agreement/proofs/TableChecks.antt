@@ -1,4 +1,5 @@
--- How near the sine's slope is to the cosine at both ends of each degree, each by a test that computes over the whole table.
+-- The sine's slope is close to the cosine at both ends of each degree, each by a test that computes over
+-- the whole table.
 use Rattle.std.proofs.Common.{ℕ, ◌+◌, ◌-◌, ◌*◌, ◌<◌, ◌≤◌, Bool, true, nat_le, refl, ap, ◌∙◌, arith, ℤ, ◌≡◌, pos, ◌+ℤ◌, ◌-ℤ◌, ◌*ℤ◌, unsigned_abs, get_or}
 use Rattle.std.proofs.lemmas.Bool.{agree_below_at, leb-true}
 use Rattle.std.proofs.lemmas.Int.{ints}
@@ -7,7 +8,7 @@ use Rattle.fixed_sine.specs.Table.{sines, sine_at, rise, correction}
 use Rattle.fixed_sine.proofs.TableLemmas.{correction-size, sines_rise}
 use Rattle.fixed_sine.proofs.QuarterLemmas.{sine_at-entry, rise-entries}
 
--- where a degree begins
+-- at the begin of a degree
 unfoldable pub begin_gap : ℕ → ℕ
 begin_gap k =
     unsigned_abs ((pos radian *ℤ ((pos 4 *ℤ rise k) -ℤ correction k)) -ℤ (pos (4 * degree) *ℤ sine_at (pos (90 - k))))
@@ -19,7 +20,7 @@ pub begin_gap_bound : (k : ℕ) → k < 90 → begin_gap k ≤ 4 * degree * 3000
 unfolding begins_near begin_gap correction sine_at sines
 begin_gap_bound k h = leb-true _ _ (agree_below_at begins_near (λ _. true) 90 k refl h)
 
--- where it ends
+-- at the end of a degree
 unfoldable pub end_gap : ℕ → ℕ
 end_gap k =
     unsigned_abs ((pos radian *ℤ ((pos 4 *ℤ rise k) +ℤ correction k)) -ℤ (pos (4 * degree) *ℤ sine_at (pos (89 - k))))
@@ -39,8 +40,8 @@ correction_bound : (k : ℕ) → k < 90 → unsigned_abs (correction k) ≤ 6400
 unfolding is_little correction sine_at sines
 correction_bound k h = leb-true _ _ (agree_below_at is_little (λ _. true) 90 k refl h)
 
--- the same without signs: what the sine gains over the degree, the size of its correction, the cosine where the degree ends, and how
--- much more it is where the degree begins
+-- the checks without signs: the rise of the sine over the degree, the size of its correction, the cosine
+-- at the end of the degree, and the excess of the cosine at its begin
 pub record IsNearCosine (gain size end more : ℕ) : Type 0 where
   pub begin_above : 34377467708 * (4 * gain + size) ≤ 2400000000 * (end + more) + 72000000000000
   pub begin_below : 2400000000 * (end + more) ≤ 34377467708 * (4 * gain + size) + 72000000000000
@@ -48,7 +49,7 @@ pub record IsNearCosine (gain size end more : ℕ) : Type 0 where
   pub end_below : 34377467708 * size + 2400000000 * end ≤ 34377467708 * (4 * gain) + 72000000000000
   pub small : size ≤ 640000
 
--- a correction is its size, with the sign turned
+-- a correction is its size with the other sign
 unsigned_near : (gain size end more : ℕ) (z : ℤ) → z +ℤ pos size ≡ pos 0 → unsigned_abs ((pos radian *ℤ ((pos 4 *ℤ pos gain) -ℤ z)) -ℤ (pos 2400000000 *ℤ pos (end + more))) ≤ 72000000000000 → unsigned_abs ((pos radian *ℤ ((pos 4 *ℤ pos gain) +ℤ z)) -ℤ (pos 2400000000 *ℤ pos end)) ≤ 72000000000000 → size ≤ 640000 → IsNearCosine gain size end more
 unsigned_near gain size end more z is at_begin at_end small = record {
   begin_above = omega (arith, ints, is, at_begin);

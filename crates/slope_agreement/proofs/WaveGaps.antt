@@ -1,4 +1,4 @@
--- How far the heights of waves, from a minute to the next, are from going by their falls.
+-- The difference between the change of the heights of waves in a minute and their falls.
 use Rattle.std.proofs.Common.{◌≡◌, ℕ, ◌+◌, ◌*◌, ◌%◌, ◌≤◌, List, [], ◌∷◌, ℤ, pos, ◌+ℤ◌, ◌-ℤ◌, ◌*ℤ◌, ap, ◌∙◌, refl, arith, lit<}
 use Rattle.std.specs.Prelude.{unsigned_abs, fold}
 use Rattle.std.proofs.lemmas.Int.{ints}
@@ -12,7 +12,7 @@ use Rattle.station_curve.proofs.Products.{abs_times, abs_plus}
 use Rattle.slope_agreement.specs.UnitGaps.{unit_gap_of}
 use Rattle.slope_agreement.proofs.SlopeLaws.{slope_law, slope_law_before}
 
--- products with a sum, with so many times a difference, and with another product
+-- products with a sum, with a multiple of a difference, and with another product
 sum_is : (x y : ℤ) → up (x +ℤ y) + down x + down y ≡ down (x +ℤ y) + up x + up y
 sum_is x y = omega (arith, ints)
 
@@ -37,7 +37,7 @@ times_product : (a : ℤ) (w : ℕ) (s : ℤ) → a *ℤ (pos w *ℤ s) ≡ (a *
 times_product a w s =
     omega (arith, ints, ap (λ n. up a * n) (product_is w s), ap (λ n. down a * n) (product_is w s), ap (λ n. n * up s) (steepness_is a w), ap (λ n. n * down s) (steepness_is a w))
 
--- one wave: so large an amplitude times the gap of its cosine
+-- one wave: its amplitude times the gap of its cosine
 wave_slope : (a x y s : ℤ) (w m : ℕ) → unsigned_abs ((pos 34377467708 *ℤ (x -ℤ y)) +ℤ (pos w *ℤ s)) ≤ m → unsigned_abs ((pos 34377467708 *ℤ ((a *ℤ x) -ℤ (a *ℤ y))) +ℤ ((a *ℤ pos w) *ℤ s)) ≤ unsigned_abs a * m
 wave_slope a x y s w m near =
     let rise = pos 34377467708 *ℤ (x -ℤ y) in
@@ -49,7 +49,7 @@ wave_slope a x y s w m near =
 later : (p w t : ℕ) → (p + w * (t + 1)) % circle ≡ ((p + w * t) % circle + w) % circle
 later p w t = omega arith
 
--- the most that one wave's height is from going by its fall
+-- the most that the change of one wave's height differs from its fall
 abbrev pub wave_gap : Harmonic → ℕ
 wave_gap h = unsigned_abs h.amplitude * unit_gap_of h.speed
 

@@ -1,4 +1,4 @@
--- The numbers of a year's bound, which fit.
+-- The numbers of a year's bound, within their types.
 use Rattle.std.proofs.Common.{◌≡◌, ℕ, ◌+◌, ◌*◌, ◌^◌, ◌<◌, ◌≤◌, ap, ◌∙◌, arith, lit<, FitsSigned, ℤ, pos, ◌+ℤ◌, ◌*ℤ◌, to_z, of_z}
 use Rattle.std.specs.Prelude.{unsigned_abs}
 use Rattle.std.proofs.lemmas.Int.{fits_signed_mul}
@@ -9,7 +9,7 @@ use Rattle.station_curve.specs.Limits.{AreGentle}
 use Rattle.station_curve.proofs.Products.{cast_small, abs_times, abs_plus}
 use Rattle.slope_agreement.specs.Agreements.{year_agreement}
 
--- a number that is kept as it is, with its size
+-- a number that a cast leaves unchanged, with its size
 pub record IsKept (read value : ℤ) (most : ℕ) : Type 0 where
   pub same : read ≡ value
   pub size : unsigned_abs value ≤ most
@@ -25,7 +25,7 @@ sum_kept : (p q x y : ℤ) (m n : ℕ) → IsKept p x m → IsKept q y n → m +
 sum_kept p q x y m n first second fits =
     rw (first.same, second.same) (record { same = cast_small w128 (x +ℤ y) (m + n) (abs_plus x y m n first.size second.size) fits; size = abs_plus x y m n first.size second.size })
 
--- a year's sums together, as they are read and as they are
+-- the combination of a year's sums, in machine numbers
 abbrev read_sum : ℤ → ℤ → ℤ → ℤ
 read_sum far steep amount =
     to_z w128 (of_z w128 (to_z w128 (of_z w128 (to_z w128 (of_z w128 far) +ℤ to_z w128 (of_z w128 (pos 100000 *ℤ to_z w128 (of_z w128 steep))))) +ℤ to_z w128 (of_z w128 (pos 68754935416 *ℤ to_z w128 (of_z w128 amount)))))
@@ -43,7 +43,7 @@ sum_of_year s gentle =
     (record { same = cast_small w128 s.far (104724001 * 10 ^ 17) gentle.far (lit< tt); size = gentle.far }) (product_kept 100000 s.steep (10 ^ 17) gentle.steep (lit< tt) (lit< tt)) (lit< tt))
     (product_kept 68754935416 s.amount (10 ^ 9) gentle.amount (lit< tt) (lit< tt)) (lit< tt)
 
--- and times the whole weight
+-- the combination times the total weight
 pub bound_fits : (s : Sums) → AreGentle s → FitsSigned w128 (pos total_weight *ℤ read_sum s.far s.steep s.amount)
 bound_fits s gentle =
     let sum = sum_of_year s gentle in

@@ -1,4 +1,4 @@
--- How far a tide's level, from a minute to the next in the plain part of a year, is from going by its slope.
+-- The difference between the rise of a tide's level in a minute outside blends and its slope.
 use Rattle.std.proofs.Common.{◌≡◌, ℕ, zero, suc, None, ◌+◌, ◌*◌, ◌^◌, ◌<◌, ◌≤◌, length, inl, inr, refl, ap, ◌∙◌, arith, ℤ, pos, neg_ℤ, ◌+ℤ◌, ◌-ℤ◌, ◌*ℤ◌, ◌≤ℤ◌}
 use Rattle.std.specs.Prelude.{unsigned_abs}
 use Rattle.std.specs.Int.{int_max}
@@ -28,7 +28,7 @@ year_slope_from mean a b falls m near = omega (arith, ints, near)
 minutes_onward : (start m : ℤ) → start ≤ℤ m → unsigned_abs (((m +ℤ pos 1) -ℤ start) +ℤ pos 60) ≡ unsigned_abs ((m -ℤ start) +ℤ pos 60) + 1
 minutes_onward start m begun = omega (arith, ints)
 
--- the most that the gap is by a year's waves
+-- the bound by a year's waves
 abbrev pub year_gap : Tide → ℕ → ℕ
 year_gap tide year =
     far_of (waves_in tide year) + 100000 * steepness_of (waves_in tide year) + 68754935416 * amount_of (waves_in tide year)
@@ -49,7 +49,7 @@ year_level_gap_before tide m year begun =
     rw (minutes_onward (start_of tide.first_year year) m begun)
     (year_slope_from (pos (10 ^ 9) *ℤ tide.datum) (heights_of (t + 1) hs) (heights_of t hs) (falls_of (t + 1) hs) (year_gap tide year) (heights_gap_before t hs))
 
--- by the whole weight
+-- times the total weight
 weighted_gap : (a b s : ℤ) (m : ℕ) → unsigned_abs ((pos 34377467708 *ℤ (a -ℤ b)) -ℤ s) ≤ m → unsigned_abs ((pos 34377467708 *ℤ ((pos total_weight *ℤ a) -ℤ (pos total_weight *ℤ b))) -ℤ ((pos total_weight *ℤ s) +ℤ pos 0)) ≤ total_weight * m
 weighted_gap a b s m near = omega (arith, ints, near)
 
@@ -91,7 +91,7 @@ below_all gap most year all small is bound = omega (arith, ints, small, is, boun
 year_agreement-pos : (far steep amount : ℕ) → pos (total_weight * (far + 100000 * steep + 68754935416 * amount)) ≡ pos total_weight *ℤ ((pos far +ℤ (pos 100000 *ℤ pos steep)) +ℤ (pos 68754935416 *ℤ pos amount))
 year_agreement-pos far steep amount = refl
 
--- the greatest bound is that of any gap that keeps to the year's waves
+-- the greatest bound is one for each gap that keeps to the year's waves
 bound_of_year : (tide : Tide) (m : ℤ) (year gap : ℕ) → IsGentle tide → IsPlainMinute tide.first_year (length tide.years) m year → (start_of tide.first_year year ≤ℤ m → gap ≤ total_weight * year_gap tide year) → pos gap ≤ℤ agreement_of tide
 bound_of_year tide m year gap gentle plain keeps =
     let rule = rw plain.here at (place_of-rule tide.first_year (length tide.years) m gentle.years plain.first) in
@@ -109,7 +109,7 @@ tide_gap_before : (tide : Tide) (m : ℤ) (year : ℕ) → IsGentle tide → IsP
 tide_gap_before tide m year gentle plain =
     bound_of_year tide m year (gap_before (level_of tide) (slope_of tide) m) gentle plain (λ begun. plain_gap_before tide m year begun plain.here plain.there)
 
--- of a book's station, by every constituent
+-- the bound of a station, by every constituent of the book
 greatest-same : (f g : ℕ → ℤ) (n : ℕ) → ((year : ℕ) → year < n → f year ≡ g year) → greatest f n ≡ greatest g n
 unfolding greatest
 greatest-same f g zero same = refl

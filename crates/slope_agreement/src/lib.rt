@@ -1,8 +1,8 @@
-//! How far a station's slope is from the steps of its level.
+//! The slope error bound of a station: how far its slope is from the steps of its level.
 //!
-//! Level and slope are sums of cosines and sines in whole numbers, so the slope isn't exactly what
-//! the level gains in a minute. [`unit_gap`] bounds how far both are apart for one wave, by its speed
-//! alone, and [`agreement`] for a station, over all its years.
+//! Level and slope are sums of cosines and sines in whole numbers, so the slope isn't exactly the rise of
+//! the level in a minute. [`unit_gap`] bounds the difference for one wave, by its speed alone, and
+//! [`agreement`] for a station, over all its years.
 #![tactic(auto)]
 
 mod laws;

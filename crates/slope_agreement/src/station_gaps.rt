@@ -1,4 +1,4 @@
-//! How far a station's level, from a minute to the next, is from going by its slope.
+//! The slope error bound of a station.
 
 ghost use Rattle.std.specs.Prelude.{◌≡◌, ℕ, ◌*◌, ◌^◌, ◌≤◌, length, ℤ, pos, ◌≤ℤ◌, unsigned_abs};
 ghost use Rattle.station_curve.specs.Limits.{AreGentle};
@@ -8,12 +8,12 @@ use crate::unit_gaps::{EACH_UNIT, TWO_CUTS};
 use station_curve::{StationCurve, Sums};
 use year_blend::TOTAL_WEIGHT;
 
-/// The whole weight.
+/// The total weight.
 const WEIGHT: i128 = TOTAL_WEIGHT as i128;
 
-/// How far what a station's level gains in a minute is at most from the slope where it begins, over
-/// all minutes that lie in the plain part of a year together with the next one. The greatest bound
-/// of the years, in the slope's unit.
+/// Returns a bound on the difference between the rise of the level of `station` in a minute and the slope
+/// at the begin of that minute, over all minutes that are outside blends together with the next one: the
+/// greatest bound of the years, in the slope's unit.
 pub fn agreement(station: &StationCurve) -> i128
     ensures value { result ≡ agreement_of station.now }
     ensures law { (m : ℤ) (year : ℕ) → IsPlainMinute station.now.first_year (length station.now.years) m year
@@ -29,7 +29,7 @@ pub fn agreement(station: &StationCurve) -> i128
     most
 }
 
-/// The bound of a year by its sums.
+/// Returns the bound of a year by its sums.
 fn year_agreement(year: &Sums) -> i128
     requires { AreGentle year.now }
     ensures value { result ≡ year_agreement year.now }

@@ -1,4 +1,4 @@
-//! How far the cosine's change is from its slope.
+//! The difference between the change of the cosine and its slope.
 
 ghost use Rattle.std.specs.Prelude.{◌≡◌, pos, unsigned_abs};
 ghost use Rattle.fixed_sine.specs.Rate.{IsSpeed};
@@ -6,14 +6,14 @@ ghost use Rattle.slope_agreement.specs.UnitGaps.{unit_gap_of, SlopeLaw};
 
 use fixed_sine::{RADIAN, step};
 
-/// The most that the cosine's change over one unit is from its slope, in billionths.
+/// The most that the change of the cosine over one unit differs from its slope, in billionths.
 pub const EACH_UNIT: u64 = 100_000;
 
-/// What two cuts to whole billionths may come to, times the units of a radian.
+/// The error of rounding twice to whole billionths, times the units of a radian.
 pub const TWO_CUTS: u64 = 2 * RADIAN as u64;
 
-/// How far what the cosine changes by in a minute is at most from its slope, both times the units of
-/// a radian and in billionths, for a wave that turns by `w` units a minute, `w` from 0 to
+/// Returns a bound on the difference between the change of the cosine in a minute and its slope, both
+/// times the units of a radian and in billionths, for a wave of `w` units a minute, from 0 to
 /// 3,600,000,000.
 pub fn unit_gap(w: i64) -> i128
     requires { IsSpeed w }

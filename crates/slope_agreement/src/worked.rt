@@ -1,4 +1,4 @@
-//! Gaps and bounds that were worked out elsewhere.
+//! Gaps and bounds that were computed elsewhere.
 
 ghost use Rattle.std.specs.Prelude.{◌≡◌, ◌*◌, [], ◌∷◌, pos};
 ghost use Rattle.harmonics_text.specs.declared.book.Units.TheVariants.{Feet};
@@ -7,7 +7,7 @@ ghost use Rattle.station_curve.specs.Worked.{small_station, pier_book, pier, har
 ghost use Rattle.slope_agreement.specs.Agreements.{gap_of, predicted_gap, predicted_gap_before, agreement_of, predicted_agreement};
 ghost use Rattle.slope_agreement.specs.UnitGaps.{unit_gap_of};
 
-/// The gaps of waves that stand still, that turn by a unit, by M2's speed, by half a degree and by six
+/// Proves the bounds for waves of speed 0, of one unit, of M2's speed, of half a degree and of six
 /// degrees a minute.
 #[tactic(auto, unfolding(fixed_sine::specs::Rate::step_of, crate::specs::UnitGaps::unit_gap_of))]
 pub fn worked_unit_gaps()
@@ -18,8 +18,9 @@ pub fn worked_unit_gaps()
     ensures six_degrees { unit_gap_of 3600000000 ≡ 377366472354935416 }
 {}
 
-/// Half a day's tide at noon and midnight, 1 high, also with a node factor that is greatest in the
-/// second of three years; a tide of two constituents, larger in the first of two years; and none.
+/// Proves the bounds of stations: a tide of 12 hours with an amplitude of 1, also with a node factor that
+/// is greatest in the second of three years; a tide of two constituents, larger in the first of two
+/// years; and no tide.
 pub fn worked_agreements()
     ensures tide { agreement_of (tide_of pier_book pier) ≡ pos 10982486704628157235200000000000 }
     ensures one_wave { predicted_agreement pier_book pier ≡ pos 10982486704628157235200000000000 }
@@ -29,8 +30,8 @@ pub fn worked_agreements()
     ensures no_tide { predicted_agreement pier_book (small_station (pos 0) Feet) ≡ pos 0 }
 {}
 
-/// The same tides' gaps at single minutes, the first at a high water, and the gap of the minute before
-/// it.
+/// Proves the gaps of these tides at single minutes, the first at a high water, and the gap of the minute
+/// before it.
 pub fn worked_gaps()
     ensures tide { gap_of (tide_of pier_book pier) (pos 15791040) ≡ 4147200000 * 1000000 * 1309093970320640 }
     ensures midnight { predicted_gap pier_book pier (pos 15791040) ≡ 4147200000 * 1000000 * 1309093970320640 }

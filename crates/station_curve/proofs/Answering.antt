@@ -1,4 +1,4 @@
--- What a station's curve is answered by.
+-- The result of making a station's curve.
 use Rattle.std.proofs.Common.{◌≡◌, ℕ, ◌<◌, List, length, get_or, ℤ, subst, true, false, Some, None, Result, Ok, Err, ◌⊎◌, inl, inr}
 use Rattle.std.specs.Prelude.{IfOk, IfSome, slice_get}
 use Rattle.std.proofs.lemmas.Option.{slice_get-get_or}
@@ -30,11 +30,11 @@ fault_answer b s first last (TooLarge year) h (inr found) = fault_found b s firs
 fault_answer b s first last (TooSteep year) h (inl e) = cc
 fault_answer b s first last (TooSteep year) h (inr found) = fault_found b s first last (TooSteep year) h found
 
--- what follows from what holds of a value that there is
+-- a property of an optional value, from a property of the value
 pub ok_too : {T E : Type 0} (P Q : T → Type 0) (result : Result T E) → ((x : T) → P x → Q x) → IfOk result P → IfOk result Q
 ok_too P Q (Ok x) follows holds = follows x holds
 ok_too P Q (Err fault) follows holds = tt
 
--- the station at a place of the book's list
+-- the station with an index of the book's list
 pub at_station : (P : Station → Type 0) (xs : List Station) (i : ℕ) (s : Station) → i < length xs → s ≡ get_or xs i s → P s → IfSome (slice_get xs i) P
 at_station P xs i s in_list is holds = rw (slice_get-get_or xs i s in_list) (subst P is holds)

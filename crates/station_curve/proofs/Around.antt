@@ -1,4 +1,4 @@
--- Minutes far from both ends of their year lie in its plain part.
+-- Minutes at least an hour from both ends of their year are in its plain part.
 use Rattle.std.proofs.Common.{◌≡◌, ℕ, suc, ◌+◌, inl, inr, refl, sym, arith, ℤ, pos, ◌+ℤ◌, ◌≤ℤ◌}
 use Rattle.std.proofs.lemmas.Bool.{cases_lt}
 use Rattle.std.proofs.lemmas.Int.{ints}

@@ -1,4 +1,4 @@
--- How much level and slope change in a minute of a cell: in the plain part of a year, and across a new year.
+-- The change of level and slope in a minute of a cell: outside blends, and across a new year.
 use Rattle.std.proofs.Common.{◌≡◌, ℕ, suc, ◌+◌, ◌*◌, ◌^◌, ◌<◌, ◌≤◌, max, length, ◌⊎◌, inl, inr, refl, ap, ◌∙◌, arith, ℤ, pos, negsuc, ◌+ℤ◌, ◌-ℤ◌, ◌*ℤ◌, ◌≤ℤ◌, ◌<ℤ◌}
 use Rattle.std.specs.Prelude.{unsigned_abs}
 use Rattle.std.proofs.lemmas.Int.{ints, by_lt_z}
@@ -19,7 +19,7 @@ use Rattle.year_blend.proofs.WeightLemmas.{weight_within, slope_within, weight_s
 use Rattle.station_curve.proofs.NearNewYear.{mixed_at, drift_at, IsAround, level_around, slope_around}
 use Rattle.station_curve.proofs.Steps.{mixed_gap, product_gap, sum_gap, difference_gap}
 
--- a step in the plain part of a year
+-- a step outside blends
 pub record IsPlainStep (tide : Tide) (m : ℤ) (year : ℕ) : Type 0 where
   pub here : place_in_tide tide m ≡ Plain year
   pub there : place_in_tide tide (m +ℤ pos 1) ≡ Plain year
@@ -55,13 +55,13 @@ pub record IsBlendStep (tide : Tide) (m : ℤ) (k : ℕ) (x : ℤ) : Type 0 wher
   pub earlier_since : IsSince tide.first_year k m
   pub later_since : IsSince tide.first_year (suc k) m
 
--- the most that the level changes in it
+-- the most that the level changes in such a step
 abbrev pub level_bound : Tide → ℕ → ℕ
 level_bound tide k =
     total_weight * max (near_of (waves_in tide k)) (near_of (waves_in tide (suc k)))
     + 64800000 * (10 ^ 9 * (amount_of (waves_in tide (suc k)) + amount_of (waves_in tide k)))
 
--- and the slope
+-- the most that the slope changes in such a step
 abbrev pub drift_bound : Tide → ℕ → ℕ
 drift_bound tide k =
     64800000 * radian * (near_of (waves_in tide (suc k)) + near_of (waves_in tide k))
@@ -85,7 +85,7 @@ blend_level_gap tide m k x step =
     (max (near_of (waves_in tide k)) (near_of (waves_in tide (suc k)))) 64800000 (10 ^ 9 * (amount_of (waves_in tide (suc k)) + amount_of (waves_in tide k)))
     within.0 within.1 (omega (arith, earlier)) (omega (arith, later)) (weight_step x near step.before) (level_difference tide m (suc k) k))
 
--- how much the moving weight adds
+-- the part of the slope that comes from the moving weight
 weight_turn : (v : ℤ) → pos 0 ≤ℤ v → v ≤ℤ pos 64800000 → unsigned_abs (v *ℤ pos radian) ≤ 64800000 * radian
 weight_turn v least most = abs_times v (pos radian) 64800000 radian (abs_below v 64800000 least most) (omega arith)
 
@@ -120,7 +120,7 @@ blend_slope_gap tide m k x step =
     (mixed_at (x +ℤ pos 1) (year_slope tide next k) (year_slope tide next (suc k))) (drift_at (x +ℤ pos 1) (year_level tide next (suc k) -ℤ year_level tide next k))
     _ (drift_bound tide k) mixed (drift_gap tide m k x step))
 
--- where a step of a cell across a new year is
+-- the position of a step of a cell across a new year
 abbrev pub IsStepOver : Tide → ℤ → ℕ → Type 0
 IsStepOver tide m k = IsPlainStep tide m k ⊎ (IsPlainStep tide m (suc k) ⊎ ((x : ℤ) × IsBlendStep tide m k x))
 
@@ -176,7 +176,7 @@ step_over tide a n k i are first last short over inside =
     moved : (m s : ℤ) → (m -ℤ s) +ℤ pos 1 ≡ (m +ℤ pos 1) -ℤ s
     moved m s = omega (arith, ints)
 
--- a plain step changes by no more than any step may
+-- a step outside blends changes by at most as much as any step may
 pub over_level_gap : (tide : Tide) (m : ℤ) (k : ℕ) → IsStepOver tide m k → unsigned_abs (level_of tide (m +ℤ pos 1) -ℤ level_of tide m) ≤ level_bound tide k
 over_level_gap tide m k (inl plain) = let gap = plain_level_gap tide m k plain in omega (arith, gap)
 over_level_gap tide m k (inr (inl plain)) = let gap = plain_level_gap tide m (suc k) plain in omega (arith, gap)

@@ -1,4 +1,4 @@
--- How a phase goes on from an hour before a year.
+-- The phase t minutes after an hour before a year.
 use Rattle.std.proofs.Common.{◌≡◌, ℕ, suc, ◌+◌, ◌-◌, ◌*◌, ◌%◌, ◌<◌, ◌≤◌, ℤ, pos, negsuc, ◌+ℤ◌, ◌-ℤ◌, ◌*ℤ◌, ◌≤ℤ◌, get_or, inl, inr, refl, sym, ap, ◌∙◌, arith, lit<}
 use Rattle.std.specs.Prelude.{unsigned_abs}
 use Rattle.std.specs.Int.{int_rem_euclid}
@@ -39,7 +39,7 @@ times_plus v t (negsuc n) =
     over_sum : (v a b : ℕ) → v * (a + b) ≡ v * a + v * b
     over_sum v a b = omega arith
 
--- the remainder after some more
+-- the remainder of a sum
 lifted : (z : ℤ) (n : ℕ) → 0 < n → pos 0 ≤ℤ (z +ℤ pos (unsigned_abs z * n))
 lifted z n some =
     let most = mul-le (unsigned_abs z) 1 (unsigned_abs z) n (omega arith) some in

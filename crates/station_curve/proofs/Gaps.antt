@@ -1,4 +1,4 @@
--- How far products and sums of signed numbers are apart.
+-- The difference of products and sums of signed numbers.
 use Rattle.std.proofs.Common.{◌≡◌, ℕ, suc, ◌+◌, ◌*◌, ◌≤◌, List, [], ◌∷◌, ℤ, pos, negsuc, neg_ℤ, ◌+ℤ◌, ◌-ℤ◌, ◌*ℤ◌, arith}
 use Rattle.std.specs.Prelude.{unsigned_abs, fold}
 use Rattle.std.proofs.lemmas.Int.{ints}
@@ -6,7 +6,7 @@ use Rattle.std.proofs.lemmas.Nat.{mul-le}
 use Rattle.station_curve.specs.Waves.{Harmonic}
 use Rattle.station_curve.proofs.Products.{abs_plus}
 
--- products with numbers that are near each other
+-- the difference of two products
 gap_times : (x : ℕ) (b c : ℤ) (m : ℕ) → unsigned_abs (b -ℤ c) ≤ m → unsigned_abs ((pos x *ℤ b) -ℤ (pos x *ℤ c)) ≤ x * m
 gap_times x (pos p) (pos q) m near =
     let up = mul-le x p x (q + m) (omega arith) (omega (arith, ints)) in
@@ -35,7 +35,7 @@ scaled_gap (pos x) b c m near = gap_times x b c m near
 scaled_gap (negsuc x) b c m near =
     rw (turned x b, turned x c) (turned_gap (pos (suc x) *ℤ b) (pos (suc x) *ℤ c) (suc x * m) (gap_times (suc x) b c m near))
 
--- sums whose parts are near each other
+-- the difference of two sums whose parts differ by little
 pub regrouped : (a x b y : ℤ) → (a +ℤ x) -ℤ (b +ℤ y) ≡ (a -ℤ b) +ℤ (x -ℤ y)
 regrouped a x b y = omega (arith, ints)
 
@@ -45,7 +45,7 @@ sums_gap f g rate each (h ∷ hs) a b c near =
     sums_gap f g rate each hs (a +ℤ f h) (b +ℤ g h) (c + rate h)
     (rw (regrouped a (f h) b (g h)) (abs_plus (a -ℤ b) (f h -ℤ g h) c (rate h) near (each h)))
 
--- a sum is at most so many times the sum of its parts' sizes, where each part is
+-- a sum is at most a multiple of the sum of its parts' sizes, if each part is
 pub sums_size : (most : ℕ) (f : Harmonic → ℤ) (size : Harmonic → ℕ) → ((h : Harmonic) → unsigned_abs (f h) ≤ most * size h) → (hs : List Harmonic) (a : ℤ) (c : ℕ) → unsigned_abs a ≤ most * c → unsigned_abs (fold (λ sum h. sum +ℤ f h) a hs) ≤ most * fold (λ sum h. sum + size h) c hs
 sums_size most f size each [] a c small = small
 sums_size most f size each (h ∷ hs) a c small =

@@ -24,7 +24,7 @@ use Rattle.station_curve.proofs.BookValues.{speed_small}
 use Rattle.station_curve.proofs.WavesOf.{none_fault, length-waves_of, get_or-waves_of}
 use Rattle.station_curve.proofs.YearChanges.{near_bound, far_bound}
 
--- a sum over the waves that are present is that over all, where absent ones add nothing
+-- a sum over the present waves is that over all, if absent ones add nothing
 with_first : {B : Type 0} (add : B → Harmonic → B) → ((a : B) (h : Harmonic) → h.amplitude ≡ pos 0 → add a h ≡ a) → (a : B) (h : Harmonic) (hs : List Harmonic) → ((x : B) → fold add x (filter is_present hs) ≡ fold add x hs) → (absent : Bool) → nat_eq (unsigned_abs h.amplitude) 0 ≡ absent → fold add a (filter is_present (h ∷ hs)) ≡ fold add a (h ∷ hs)
 with_first add none a h hs rest false e = rw e (rest (add a h))
 with_first add none a h hs rest true e =
@@ -77,7 +77,7 @@ pub waves_in-tide_over : (b : Book) (s : Station) (first last : ℤ) (k : ℕ) (
 unfolding tide_over
 waves_in-tide_over b s first last k d below = get_or-map-range_with_len (waves_over b s first last) 0 b.years k k d below (omega arith)
 
--- what holds of a year's waves and of none
+-- a property of a year's waves and of no waves
 by_touch : (P : List Harmonic → Type 0) (touched : Bool) (hs : List Harmonic) → P [] → P hs → P (cond touched hs [])
 by_touch P true hs none all = all
 by_touch P false hs none all = none
@@ -86,7 +86,7 @@ pub over-either : (P : List Harmonic → Type 0) (b : Book) (s : Station) (first
 unfolding waves_over
 over-either P b s first last year none all = by_touch P (is_touched b first last year) (filter is_present (waves_of b s year)) none all
 
--- the same of a year that is asked for or isn't
+-- the property of a year that is needed or isn't
 pub asked-over : (b : Book) (s : Station) (first last : ℤ) (year : ℕ) (asked : Bool) → is_touched b first last year ≡ asked → cond asked (filter is_present (waves_of b s year)) [] ≡ waves_over b s first last year
 unfolding waves_over
 asked-over b s first last year asked is = rw is refl
@@ -108,7 +108,7 @@ slow b s year book k d below =
     let in_list : k < length b.constituents = omega (arith, below, length-waves_of b s year) in
     rw (get_or-waves_of b s year k d in_list) (speed_small b k book in_list)
 
--- the tide's first year and mean level, and what holds of the waves of each year
+-- the tide's first year and mean level, and the properties of the waves of each year
 pub first-tide_over : (b : Book) (s : Station) (first last : ℤ) → (tide_over b s first last).first_year ≡ b.first_year
 unfolding tide_over
 first-tide_over b s first last = refl
@@ -134,7 +134,7 @@ gentle_over b s first last book station none =
           (λ k below. All-filter is_present (λ h. h.speed ≤ 3600000000) (waves_of b s k) (slow b s k book));
     }
 
--- the waves of a year of a tide within the limits, which are none beyond its years
+-- the waves of a year of a tide within the limits; no waves beyond its years
 pub waves_small : (P : List Harmonic → Type 0) → P [] → (years : List (List Harmonic)) → All P years → (k : ℕ) → P (get_or years k [])
 waves_small P none years all k =
     elim (cases_lt k (length years)) [
@@ -163,7 +163,7 @@ gentle_sums tide year gentle =
       far = omega (arith, far_bound hs quick, steep);
     }
 
--- the tide that is kept
+-- the tide of the stored years
 pub same_list : (xs ys : List (List Harmonic)) → length xs ≡ length ys → ((k : ℕ) (d : List Harmonic) → k < length xs → get_or xs k d ≡ get_or ys k d) → xs ≡ ys
 same_list [] [] e h = refl
 same_list [] (y ∷ ys) e h = absurd (omega (arith, e))

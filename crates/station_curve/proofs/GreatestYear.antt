@@ -42,7 +42,7 @@ pub greatest-most : (value : List Harmonic → ℕ) (years : List (List Harmonic
 unfolding greatest_of
 greatest-most value years most all = fold-most value years 0 most (omega arith) all
 
--- over the years as they are kept
+-- the greatest value over the stored years
 unfoldable pub greatest_so_far : (List Harmonic → ℕ) → List Year → ℕ
 greatest_so_far value years = fold (λ most y. max most (value y.waves.items)) 0 years
 
@@ -64,7 +64,7 @@ greatest-more value years i y most here more inside at is_most is_here is_more =
     let last : value (get_or years i y).waves.items ≡ value y.waves.items = ap (λ (y : Year). value y.waves.items) (sym at) in
     omega (arith, ints, clamps, step, last, is_most, is_here, is_more)
 
--- an error by the greatest value as it is kept
+-- an error by the stored greatest value
 pub greatest-kept_size : (value : List Harmonic → ℕ) (years : List (List Harmonic)) (greatest : ℤ) (most : ℕ) → All (λ hs. value hs ≤ most) years
     → most ≤ 10 ^ 17 → greatest ≡ pos (greatest_of value years) → unsigned_abs (to_z w128 (of_z w128 greatest)) ≤ most
 greatest-kept_size value years greatest most all few is =

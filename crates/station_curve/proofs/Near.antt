@@ -1,4 +1,4 @@
--- A minute is near the years that its place names.
+-- A minute is at most an hour from the years of its position.
 use Rattle.std.proofs.Common.{◌≡◌, ℕ, suc, ◌+◌, ◌-◌, ℤ, pos, ◌+ℤ◌, ◌-ℤ◌, ◌≤ℤ◌, ◌<ℤ◌, ◌⊎◌, inl, inr, arith}
 use Rattle.std.proofs.lemmas.Int.{ints}
 use Rattle.year_blend.specs.Years.{year_start_of}

@@ -10,14 +10,14 @@ use Rattle.year_blend.specs.Weights.{total_weight, weight_of, weight_slope_of, I
 use Rattle.year_blend.proofs.PlaceLemmas.{start_of-later, place_of-only}
 use Rattle.year_blend.proofs.StretchLemmas.{plain_inside}
 
--- two values by their weights, and what the moving weight adds
+-- two values by their weights, and the part that comes from the moving weight
 abbrev pub mixed_at : ℤ → ℤ → ℤ → ℤ
 mixed_at x earlier later = ((pos total_weight -ℤ weight_of x) *ℤ earlier) +ℤ (weight_of x *ℤ later)
 
 abbrev pub drift_at : ℤ → ℤ → ℤ
 drift_at x change = (weight_slope_of x *ℤ pos radian) *ℤ change
 
--- at both ends one of them counts alone, and the weight stands still
+-- at both ends one value counts alone, and the slope of the weight is 0
 mixed_at-end : (a b : ℤ) → pos total_weight *ℤ b ≡ mixed_at (pos 60) a b
 unfolding weight_of
 mixed_at-end a b = omega (arith, ints)

@@ -1,4 +1,4 @@
--- How far levels and slopes by chords are from those of a tide.
+-- The errors of levels and slopes by chords.
 use Rattle.std.proofs.Common.{◌≡◌, ℕ, ◌*◌, ◌<◌, ◌≤◌, List, [], ◌∷◌, length, ◌+◌, sym, ap, ◌^◌, ℤ, pos, ◌+ℤ◌, ◌-ℤ◌, ◌*ℤ◌, arith, refl, lit<}
 use Rattle.std.specs.Prelude.{unsigned_abs, fold}
 use Rattle.std.proofs.lemmas.Int.{ints, unsigned_abs-mul}
@@ -66,7 +66,7 @@ year_slope_near tide m year near =
     turned_gap (near_falls_of t hs) (falls_of t hs) (chord_error * steepness_of hs)
     (sums_near chord_error (near_fall_at t) (fall_at t) (λ h. unsigned_abs h.amplitude * h.speed) (near_fall_gap t (few_minutes tide m year near)) hs (pos 0) (pos 0) 0 (omega arith))
 
--- by the place of a minute
+-- by the position of a minute
 pub near_level_of-plain : (tide : Tide) (m : ℤ) (year : ℕ) → Plain year ≡ place_in_tide tide m → near_level_of tide m ≡ pos total_weight *ℤ near_year_level tide m year
 unfolding near_level_of
 near_level_of-plain tide m year at = ap (sooner (near_year_level tide m) (level_of tide m)) (sym at)
@@ -83,14 +83,14 @@ pub near_slope_of-blend : (tide : Tide) (m : ℤ) (year : ℕ) (x : ℤ) → Ble
 unfolding near_slope_of
 near_slope_of-blend tide m year x at = ap (sooner (near_year_slope tide m) (slope_of tide m)) (sym at)
 
--- an error of a year within the greatest one, by all of the weight
+-- an error of a year is at most the greatest one, times the total weight
 in_error : (near exact : ℤ) (size most : ℕ) → unsigned_abs (near -ℤ exact) ≤ chord_error * size → size ≤ most
     → unsigned_abs ((pos total_weight *ℤ near) -ℤ (pos total_weight *ℤ exact)) ≤ total_weight * (chord_error * most)
 in_error near exact size most close small =
     let gap = scaled_gap (pos total_weight) near exact (chord_error * size) close in
     omega (arith, gap, small)
 
--- the exact value is near itself
+-- the exact value is within any error of itself
 pub no_gap : (value exact : ℤ) (n : ℕ) → value ≡ exact → unsigned_abs (value -ℤ exact) ≤ n
 no_gap value exact n same = omega (arith, ints, same)
 
@@ -110,7 +110,7 @@ slope_near tide m (Plain year) at near =
     (in_error (near_year_slope tide m year) (year_slope tide m year) (steepness_of (waves_in tide year)) (greatest_of steepness_of tide.years) (year_slope_near tide m year near.1) (greatest-each steepness_of tide.years year [] near.0))
 slope_near tide m (Blend year x) at near = no_gap (near_slope_of tide m) (slope_of tide m) _ (near_slope_of-blend tide m year x at)
 
--- a near value of a year by all of the weight, as it is told
+-- an approximate value of a year times the total weight
 pub full_weight : (near told : ℤ) → unsigned_abs near ≤ 2 * 10 ^ 26 → told ≡ pos total_weight *ℤ to_z w128 (of_z w128 near) → to_z w128 (of_z w128 told) ≡ pos total_weight *ℤ near
 full_weight near told small is =
     let kept = cast_small w128 near (2 * 10 ^ 26) small (lit< tt) in

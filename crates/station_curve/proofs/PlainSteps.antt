@@ -1,4 +1,4 @@
--- The minutes of a cell, and its steps where it lies in the plain part of one year.
+-- The minutes of a cell, and its steps if it is in the plain part of one year.
 use Rattle.std.proofs.Common.{◌≡◌, ℕ, suc, ◌<◌, ◌≤◌, length, arith, ℤ, pos, ◌+ℤ◌, ◌-ℤ◌, ◌≤ℤ◌}
 use Rattle.std.proofs.lemmas.Int.{ints}
 use Rattle.station_curve.specs.Waves.{Tide}

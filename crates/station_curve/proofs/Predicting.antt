@@ -1,4 +1,4 @@
--- The kept tide has the level and the slope that every constituent of the book gives.
+-- The stored tide has the level and the slope by every constituent of the book.
 use Rattle.std.proofs.Common.{◌≡◌, ℕ, ◌-◌, ◌*◌, ◌^◌, ◌<◌, true, List, [], ◌∷◌, length, ℤ, pos, negsuc, neg_ℤ, ◌+ℤ◌, ◌-ℤ◌, ◌*ℤ◌, ◌≤ℤ◌, refl, ap, ◌∙◌, zero-add, arith}
 use Rattle.std.specs.Prelude.{unsigned_abs, filter, fold, All}
 use Rattle.std.specs.List.{range_with_len}
@@ -41,7 +41,7 @@ each_below u v n same k d h =
     let below : k < n = omega (arith, h, length-range_with_len 0 n) in
     rw (get_or-range_with_len 0 n k d below, zero-add k) (same k below)
 
--- a constituent's part, from the year's wave
+-- a constituent's part is that of its wave
 part_of_level : (b : Book) (s : Station) (year k : ℕ) (m : ℤ) → IsBook b → k < length b.constituents → IsNear b.first_year year m → height_at (minutes_into b.first_year year m) (wave_of b s year k) ≡ amplitude_of b s year k *ℤ icos_of (phase_of b s year m k)
 part_of_level b s year k m book in_list near =
     ap (λ p. amplitude_of b s year k *ℤ icos_of p) (phase_onward b s year m k (unsigned_abs (speed_of b k)) (speed_pos b k book in_list) near)
@@ -98,7 +98,7 @@ year_slope_same b s first last m year book below touched near =
     ap (λ hs. neg_ℤ (falls_of (minutes_into b.first_year year m) hs)) (waves_touched b s first last year below touched)
     ∙ ap neg_ℤ (falls_same b s year m book near)
 
--- what agrees in the years of a place is blended alike
+-- values that agree in the years of a position have the same blend
 AgreeAt : (ℕ → ℤ) → (ℕ → ℤ) → Place → Type 0
 AgreeAt f g (Plain year) = f year ≡ g year
 AgreeAt f g (Blend year x) = (f year ≡ g year) × (f (year - 1) ≡ g (year - 1))
@@ -123,7 +123,7 @@ drift_same f g (Blend year x) e =
     ap (λ v. (weight_slope_of x *ℤ pos radian) *ℤ (v -ℤ f (year - 1))) e.0
     ∙ ap (λ v. (weight_slope_of x *ℤ pos radian) *ℤ (g year -ℤ v)) e.1
 
--- a minute that the curve is asked for
+-- a minute for which the curve is requested
 record IsAsked (b : Book) (first last m : ℤ) : Type 0 where
   within : InDomain b.first_year b.years m
   from : first ≤ℤ m

@@ -1,4 +1,5 @@
--- The waves of a year by the constituents that are present: each absent one would be a wave without amplitude.
+-- The waves of a year by the constituents with an amplitude: each absent one would be a wave without
+-- amplitude.
 use Rattle.std.proofs.Common.{◌≡◌, ℕ, ◌+◌, ◌*◌, ◌<◌, ◌≤◌, Bool, true, false, List, [], ◌∷◌, ◌++◌, length, nat_eq, append-nil, get_or, take, ℤ, pos, refl, sym, ap, ◌∙◌, arith}
 use Rattle.std.specs.Prelude.{unsigned_abs, not, filter, map, cond, All}
 use Rattle.std.proofs.Math.Seq.{take-length}
@@ -17,14 +18,14 @@ use Rattle.station_curve.specs.Workings.Prepared.{has_amplitude, present_in}
 use Rattle.station_curve.proofs.BookValues.{no_amplitude}
 use Rattle.station_curve.proofs.Gentle.{amount-present, steepness-present}
 
--- the waves of the constituents at these places
+-- the waves of the constituents with these indices
 abbrev pub waves_at : Book → Station → ℕ → List ℕ → List Harmonic
 waves_at b s year places = map (wave_of b s year) places
 
 zero_size : (z : ℤ) → unsigned_abs z ≡ 0 → z ≡ pos 0
 zero_size z h = omega (arith, ints, h)
 
--- ---- the places
+-- ---- the indices
 
 pub place-in_book : (b : Book) (s : Station) (places : List ℕ) (i : ℕ) → places ≡ present_in b s → i < length places → get_or places i 0 < length b.constituents
 place-in_book b s places i is in_list =

@@ -1,4 +1,4 @@
--- What a station's curve that is ready says of its tide.
+-- Facts about the tide that follow from a curve's invariant.
 use Rattle.std.proofs.Common.{◌≡◌, ℕ, suc, ◌<◌, ◌≤◌, [], length, get_or, sym, ap, subst, ◌∙◌, arith}
 use Rattle.std.proofs.lemmas.List.{get_or-map, length-map}
 use Rattle.year_blend.specs.Places.{start_of}
@@ -10,7 +10,7 @@ use Rattle.station_curve.specs.Workings.Inside.{tide_in, IsReady}
 use Rattle.station_curve.specs.Levels.{waves_in}
 use Rattle.station_curve.specs.Sums.{sums_of}
 
--- a year as it is kept beside the tide's
+-- a stored year is that of the tide
 pub record IsYearOf (tide : Tide) (year : ℕ) (y : Year) : Type 0 where
   pub start : y.start ≡ start_of tide.first_year year
   pub end : y.end ≡ start_of tide.first_year (suc year)

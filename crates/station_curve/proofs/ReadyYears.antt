@@ -1,4 +1,4 @@
--- One more year that is ready.
+-- One more year is stored.
 use Rattle.std.proofs.Common.{◌≡◌, ℤ, ℕ, zero, suc, ◌+◌, ◌-◌, ◌<◌, ◌≤◌, ◌^◌, unsigned_abs, List, [], ◌∷◌, ◌++◌, length, get_or, length-append, Some, None, inl, inr, refl, ap, subst, ◌∙◌, add-one, add-zero, add-suc, arith, lit<}
 use Rattle.std.proofs.lemmas.List.{get_or_append_left}
 use Rattle.std.proofs.Math.Seq.{get_or-append_seam}
@@ -17,7 +17,7 @@ use Rattle.station_curve.proofs.Products.{cast_small, abs_within}
 use mir.Syntax.{w32, w64}
 use mir.Val.{to_z, of_z}
 
--- a year of the calendar, and its begin, as the machine has them
+-- a calendar year and its start, as machine numbers
 pub calendar_cast : (y : ℤ) → IsYearInReach y → to_z w32 (of_z w32 y) ≡ y
 calendar_cast y reach = cast_small w32 y 9300 (abs_within y 2 9300 reach.least reach.most) (lit< tt)
 
@@ -62,7 +62,7 @@ ready_none b s first last = record {
   within = refl;
 }
 
--- what holds of the years so far and of the last one holds of all
+-- a property of the years so far and of the last one is one of all
 last_too : (P : ℕ → Year → Type 0) (years : List Year) (y : Year) (count : ℕ) → length years ≡ count → ((k : ℕ) (d : Year) → k < count → P k (get_or years k d)) → P count y → (k : ℕ) (d : Year) → k < count + 1 → P k (get_or (years ++ y ∷ []) k d)
 last_too P years y count counted before last k d h =
     elim (cases_lt k count) [

@@ -1,4 +1,4 @@
--- How much weighted values change in a step.
+-- The change of weighted values in a step.
 use Rattle.std.proofs.Common.{◌≡◌, ℕ, ◌+◌, ◌*◌, ◌≤◌, ℤ, pos, ◌+ℤ◌, ◌-ℤ◌, ◌*ℤ◌, ◌≤ℤ◌, ap, arith}
 use Rattle.std.specs.Prelude.{unsigned_abs}
 use Rattle.std.proofs.lemmas.Int.{ints}
@@ -19,7 +19,7 @@ minus_times : (a b c : ℤ) → (a -ℤ b) *ℤ c ≡ (a *ℤ c) -ℤ (b *ℤ c)
 minus_times a b c =
     omega (arith, ints, ap (λ n. n * up c) (difference_is a b), ap (λ n. n * down c) (difference_is a b))
 
--- two values by their weights: each by its later weight, and by what the weight moved
+-- the change of two weighted values: each by its later weight, and by the change of the weight
 
 regrouped : (ta wa wb sa ua ub va vb : ℤ) → ((ta -ℤ wa) +ℤ wb) -ℤ ((sa -ℤ ua) +ℤ ub) ≡ (((ta -ℤ wa) -ℤ (sa -ℤ va)) +ℤ (wb -ℤ vb)) +ℤ ((vb -ℤ ub) -ℤ (va -ℤ ua))
 regrouped ta wa wb sa ua ub va vb = omega (arith, ints)

@@ -1,4 +1,4 @@
--- The years that tell a minute come within an hour of it.
+-- The years that are needed for a minute are at most an hour from it.
 use Rattle.std.proofs.Common.{◌≡◌, ℕ, zero, suc, ◌-◌, Bool, true, ◌&&◌, int_le, sym, ℤ, pos, ◌+ℤ◌, ◌≤ℤ◌, inl, inr, arith}
 use Rattle.std.proofs.lemmas.Int.{ints}
 use Rattle.std.proofs.lemmas.Bool.{and_from}
@@ -18,12 +18,12 @@ unfolding is_touched
 touched b first last year begun ongoing =
     and_from _ _ (le_test (start_of b.first_year year) (last +ℤ pos 60) begun) (le_test first (start_of b.first_year (suc year) +ℤ pos 60) ongoing)
 
--- as the code tells it of a year's begin and end
+-- the code's test of a year's start and end
 pub touched_by_ends : (b : Book) (first last start end : ℤ) (year : ℕ) (told : Bool) → start ≡ start_of b.first_year year → end ≡ start_of b.first_year (suc year) → told ≡ (int_le start (last +ℤ pos 60) && int_le first (end +ℤ pos 60)) → is_touched b first last year ≡ told
 unfolding is_touched
 touched_by_ends b first last start end year told begun ended is = sym (rw (begun, ended) at is)
 
--- the year that a minute lies in
+-- the year that contains a minute
 pub touched_in : (b : Book) (first last m : ℤ) (year : ℕ) → first ≤ℤ m → m ≤ℤ last → IsInYear b.first_year b.years m year → is_touched b first last year ≡ true
 touched_in b first last m year from until in_year =
     let begun = in_year.begun in
@@ -33,7 +33,7 @@ touched_in b first last m year from until in_year =
     ] in
     touched b first last year (omega (arith, ints)) (omega (arith, ints))
 
--- both years beside a new year that a minute is near
+-- both years beside a new year at most an hour from a minute
 pub touched_after : (b : Book) (first last m : ℤ) (year : ℕ) (x : ℤ) → pos 2 ≤ℤ b.first_year → first ≤ℤ m → m ≤ℤ last → IsInBlend b.first_year b.years m year x → is_touched b first last year ≡ true
 touched_after b first last m year x low from until blend =
     let above = blend.above in
@@ -50,7 +50,7 @@ touched_before b first last m year x low from until blend =
     let steps = start_of-later b.first_year year (suc year) low (omega arith) in
     touched b first last year (omega (arith, ints)) (omega (arith, ints))
 
--- the years that a place names
+-- the years of a position
 abbrev pub AreTouched : Book → ℤ → ℤ → Place → Type 0
 AreTouched b first last (Plain year) = is_touched b first last year ≡ true
 AreTouched b first last (Blend year x) = (is_touched b first last year ≡ true) × (is_touched b first last (year - 1) ≡ true)

@@ -1,4 +1,4 @@
--- How parts of a turn go on with the minutes.
+-- The phase as a fraction of a turn after some minutes.
 use Rattle.std.proofs.Common.{◌≡◌, ℕ, ◌+◌, ◌-◌, ◌*◌, ◌/◌, ◌%◌, ◌^◌, ◌<◌, ◌≤◌, sym, ap, ◌∙◌, arith, lit<}
 use Rattle.std.proofs.lemmas.Nat.{mul-le, mod_below}
 use Rattle.fixed_sine.specs.Circle.{circle}
@@ -8,11 +8,11 @@ use Rattle.fixed_sine.proofs.CircleLemmas.{icos_of-ahead}
 use Rattle.station_curve.specs.Waves.{Harmonic, phase_at}
 use Rattle.station_curve.specs.Near.{turn_after, turn_ahead}
 
--- a part that lies within a unit, however many whole turns it has
+-- a fraction within a unit, with any number of whole turns
 unwound : (x z e : ℕ) → x * 216000000000 ≡ z * 18446744073709551616 + e → e < 18446744073709551616 → x % 18446744073709551616 * 216000000000 / 18446744073709551616 ≡ z % 216000000000
 unwound x z e h small = omega arith
 
--- how far past its unit a part stands after some minutes
+-- a bound on how far a fraction is past its unit after some minutes
 pub drifted : (phase speed t : ℕ) → t ≤ 600000 → units_of ((turn_of phase + turn_of speed * t) % 2 ^ 64) ≡ (phase + speed * t) % circle
 drifted phase speed t few =
     let p = phase * 18446744073709551616 / 216000000000 in
@@ -28,11 +28,11 @@ drifted phase speed t few =
     omega (arith, each, most) in
     unwound (p + 1 + (q + 1) * t) (phase + speed * t) _ past (omega (arith, most))
 
--- a phase is the unit that its part lies in
+-- a phase is the unit that contains its fraction
 pub units_of-turn_of : (phase : ℕ) → phase < circle → units_of (turn_of phase) ≡ phase
 units_of-turn_of phase h = omega arith
 
--- the sine and the cosine of a wave by its parts of a turn
+-- the sine and the cosine of a wave by its fractions of a turn
 pub sine_after : (h : Harmonic) (t : ℕ) → t ≤ 600000 → isin_of (units_of (turn_after h t)) ≡ isin_of (phase_at h t)
 sine_after h t few = ap isin_of (drifted h.phase h.speed t few)
 

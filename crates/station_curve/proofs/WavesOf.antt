@@ -1,4 +1,4 @@
--- The waves of a year by the constituents' places.
+-- The waves of a year by the constituents' indices.
 use Rattle.std.proofs.Common.{◌≡◌, ℕ, ◌*◌, ◌<◌, ◌≤◌, Bool, true, false, length, get_or, Some, None, ℤ, pos, ◌+ℤ◌, ◌-ℤ◌, refl, ap, ◌∙◌, arith}
 use Rattle.std.specs.Prelude.{unsigned_abs, nat_lt, cond}
 use Rattle.std.proofs.lemmas.Bool.{lt-ltb, le-ltb, ltb-false}

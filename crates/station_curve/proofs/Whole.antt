@@ -69,7 +69,7 @@ predicts_tide b s book = subst (Predicts b s) (whole_tide b s book) (whole_predi
 pub gentle_tide : (b : Book) (s : Station) → IsBook b → IsStation (length b.constituents) s → first_fault b s b.years ≡ None → IsGentle (tide_of b s)
 gentle_tide b s book station none = subst IsGentle (whole_tide b s book) (gentle_over b s (first_of b) (last_of b) book station none)
 
--- what predicts all minutes predicts some
+-- a prediction of all minutes is one of some
 pub predicts_within : (b : Book) (s : Station) (first last : ℤ) (tide : Tide) → Predicts b s tide → PredictsOver b s first last tide
 predicts_within b s first last tide predicts = record {
   first_year = predicts.first_year;

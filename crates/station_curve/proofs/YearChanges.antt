@@ -1,4 +1,4 @@
--- How large level and slope are by one year's constants, and how much they change in a minute.
+-- The size of level and slope by one year's constants, and their change in a minute.
 use Rattle.std.proofs.Common.{◌≡◌, ℕ, ◌+◌, ◌*◌, ◌/◌, ◌%◌, ◌^◌, ◌≤◌, List, [], ◌∷◌, ℤ, pos, neg_ℤ, ◌+ℤ◌, ◌-ℤ◌, ◌*ℤ◌, ◌≤ℤ◌, ap, ◌∙◌, arith, lit<}
 use Rattle.std.specs.Prelude.{unsigned_abs, fold, All}
 use Rattle.std.proofs.lemmas.Int.{ints, unsigned_abs-mul}
@@ -32,7 +32,7 @@ fall_gap t h =
     rw (phase_onward h t) (rate_law h.speed (phase_at h t) (mod_below (h.phase + h.speed * t) circle (lit< tt))) in
     rw (unsigned_abs-mul h.amplitude (pos h.speed)) at (scaled_gap (h.amplitude *ℤ pos h.speed) (isin_of (phase_at h (t + 1))) (isin_of (phase_at h t)) (step_of h.speed) sine)
 
--- the cosine is the sine a quarter further on
+-- the cosine is the sine of the angle plus a quarter of a turn
 a_quarter_on : (n w : ℕ) → ((n % circle + w) % circle + circle / 4) % circle ≡ ((n % circle + circle / 4) % circle + w) % circle
 a_quarter_on n w = omega arith
 
@@ -115,7 +115,7 @@ year_level_size tide m year =
     let parts = abs_plus (pos (10 ^ 9) *ℤ tide.datum) (heights_of t (waves_in tide year)) (10 ^ 9 * unsigned_abs tide.datum) (10 ^ 9 * amount_of (waves_in tide year)) mean (heights_size t (waves_in tide year)) in
     omega (arith, parts)
 
--- two years' levels at one minute: the mean level falls out
+-- the difference of two years' levels at one minute: the mean level cancels
 pub level_difference : (tide : Tide) (m : ℤ) (year other : ℕ) → unsigned_abs (year_level tide m year -ℤ year_level tide m other) ≤ 10 ^ 9 * (amount_of (waves_in tide year) + amount_of (waves_in tide other))
 unfolding year_level
 level_difference tide m year other =

@@ -1,14 +1,14 @@
--- How large a tide may be (this project): a station beyond one of the two limits has no curve.
+-- The limits on a tide (this project): a station beyond one of the two has no curve.
 use Rattle.std.specs.Prelude.{ℕ, ◌*◌, ◌^◌, ◌≤◌, length, unsigned_abs, All}
 use Rattle.year_blend.specs.Places.{AreYears}
 use Rattle.station_curve.specs.declared.year_sums.Sums.{Sums}
 use Rattle.station_curve.specs.Waves.{Tide, amount_of, steepness_of}
 
--- the most that the amplitudes of a year may sum to, in millionths of the unit
+-- the greatest sum of the amplitudes of a year, in millionths of the unit
 abbrev pub most_amount : ℕ
 most_amount = 10 ^ 9
 
--- the most that the amplitudes times the speeds of a year may sum to
+-- the greatest sum of the amplitudes times the speeds of a year
 abbrev pub most_steepness : ℕ
 most_steepness = 10 ^ 17
 
@@ -20,7 +20,7 @@ pub record IsGentle (tide : Tide) : Type 0 where
   pub steepnesses : All (λ hs. steepness_of hs ≤ most_steepness) tide.years
   pub speeds : All (All (λ h. h.speed ≤ 3600000000)) tide.years
 
--- the sums of a year of such a tide
+-- the sums of a year of a tide within the limits
 pub record AreGentle (s : Sums) : Type 0 where
   pub amount : unsigned_abs s.amount ≤ most_amount
   pub steep : unsigned_abs s.steep ≤ most_steepness

@@ -1,5 +1,6 @@
--- The prediction from a station's constants, h(t) = H0 + sum of f H cos(a t + (V0 + u) - kappa), with f and V0 + u tabled for
--- each year (Schureman, Special Publication 98); the use of the meridian is this project's.
+-- The prediction from a station's constants, h(t) = H0 + sum of f H cos(a t + (V0 + u) - kappa), with f
+-- and V0 + u tabled for each year (Schureman, Special Publication 98); the use of the meridian is this
+-- project's.
 use Rattle.std.specs.Prelude.{ℕ, ◌+◌, ◌*◌, ◌^◌, List, length, map, fold, ℤ, pos, neg_ℤ, ◌+ℤ◌, ◌-ℤ◌, ◌*ℤ◌, unsigned_abs, slice_index_or}
 use Rattle.std.specs.Int.{int_rem_euclid}
 use Rattle.std.specs.List.{range_with_len}
@@ -12,46 +13,51 @@ use Rattle.year_blend.specs.Places.{start_of, place_of}
 use Rattle.year_blend.specs.Weights.{total_weight}
 use Rattle.station_curve.specs.Levels.{blended, drift}
 
--- the places of a book's constituents, which the sums go over
+-- the indices of a book's constituents
 abbrev pub constituents_of : Book → List ℕ
 constituents_of b = range_with_len 0 (length b.constituents)
 
--- units of the circle a minute
+-- the speed of constituent k, in units of the circle a minute
 abbrev pub speed_of : Book → ℕ → ℤ
 speed_of b k = slice_index_or (map (λ c. c.speed) b.constituents) k (pos 0)
 
--- the amplitude times the year's node factor, in whole millionths
+-- the amplitude of constituent k times the year's node factor, in whole millionths
 abbrev pub amplitude_of : Book → Station → ℕ → ℕ → ℤ
 amplitude_of b s year k =
     rounded_of (slice_index_or s.amplitude k (pos 0) *ℤ slice_index_or b.factors (k * b.years + year) (pos 0)) 1000000
 
--- the angle of the cosine at a minute: minutes since the year began and of the meridian, the year's argument, the epoch
+-- the angle of the cosine at minute m: from the speed, the minutes since the year began, the meridian,
+-- the year's equilibrium argument and the epoch
 abbrev pub angle_of : Book → Station → ℕ → ℤ → ℕ → ℤ
 angle_of b s year m k =
     (speed_of b k *ℤ ((m -ℤ start_of b.first_year year) +ℤ s.meridian))
     +ℤ (pos 60 *ℤ (slice_index_or b.angles (k * b.years + year) (pos 0) -ℤ slice_index_or s.epoch k (pos 0)))
 
--- its place on the circle
+-- the angle reduced to the circle
 abbrev pub phase_of : Book → Station → ℕ → ℤ → ℕ → ℕ
 phase_of b s year m k = unsigned_abs (int_rem_euclid (angle_of b s year m k) (pos circle))
 
--- by one year's constants, in billionths of a millionth
+-- the level at minute m by the constants of one year, in billionths of a millionth
 unfoldable pub predicted_year_level : Book → Station → ℤ → ℕ → ℤ
 predicted_year_level b s m year =
     (pos (10 ^ 9) *ℤ s.datum)
     +ℤ fold (λ sum k. sum +ℤ (amplitude_of b s year k *ℤ icos_of (phase_of b s year m k))) (pos 0) (constituents_of b)
 
+-- the slope at minute m by the constants of one year
 unfoldable pub predicted_year_slope : Book → Station → ℤ → ℕ → ℤ
 predicted_year_slope b s m year =
     neg_ℤ (fold (λ sum k. sum +ℤ ((amplitude_of b s year k *ℤ speed_of b k) *ℤ isin_of (phase_of b s year m k))) (pos 0) (constituents_of b))
 
+-- the level at minute m, in billionths of a millionth times the total weight
 unfoldable pub predicted_level : Book → Station → ℤ → ℤ
 predicted_level b s m = blended (predicted_year_level b s m) (place_of b.first_year b.years m)
 
+-- the slope at minute m: the change of the level a minute, times the units of a radian
 unfoldable pub predicted_slope : Book → Station → ℤ → ℤ
 predicted_slope b s m =
     blended (predicted_year_slope b s m) (place_of b.first_year b.years m)
     +ℤ drift (predicted_year_level b s m) (place_of b.first_year b.years m)
 
+-- the level at minute m in whole millionths of the station's unit
 unfoldable pub predicted_millionths : Book → Station → ℤ → ℤ
 predicted_millionths b s m = rounded_of (predicted_level b s m) (total_weight * 10 ^ 9)

@@ -1,26 +1,27 @@
--- What the waves of a year sum to: how large they are, and how much they change in a minute (this project, by the sine's rate law).
+-- Sums over the waves of a year: bounds on their size, and on their change in a minute (this project, by
+-- the sine's rate law).
 use Rattle.std.specs.Prelude.{ℕ, ◌*◌, List, pos, unsigned_abs, sum_by}
 use Rattle.fixed_sine.specs.Rate.{step_of}
 use Rattle.station_curve.specs.declared.year_sums.Sums.{Sums}
 use Rattle.station_curve.specs.Waves.{Harmonic, amount_of, steepness_of}
 
--- the most that a wave's height changes by in a minute
+-- the most that a wave's height changes in a minute
 abbrev pub height_rate_of : Harmonic → ℕ
 height_rate_of h = unsigned_abs h.amplitude * step_of h.speed
 
--- the most that a wave's fall changes by in a minute
+-- the most that a wave's fall changes in a minute
 abbrev pub fall_rate_of : Harmonic → ℕ
 fall_rate_of h = unsigned_abs h.amplitude * h.speed * step_of h.speed
 
--- the sum of how much each height may change
+-- the most that the sum of the heights changes in a minute
 abbrev pub near_of : List Harmonic → ℕ
 near_of hs = sum_by height_rate_of hs
 
--- the sum of how much each fall may change
+-- the most that the sum of the falls changes in a minute
 abbrev pub far_of : List Harmonic → ℕ
 far_of hs = sum_by fall_rate_of hs
 
--- the four sums
+-- the four sums of a year
 abbrev pub sums_of : List Harmonic → Sums
 sums_of hs = record {
   amount = pos (amount_of hs);

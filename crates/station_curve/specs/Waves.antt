@@ -3,32 +3,36 @@ use Rattle.std.specs.Prelude.{ℕ, ◌+◌, ◌*◌, ◌%◌, List, ℤ, pos, �
 use Rattle.fixed_sine.specs.Circle.{circle}
 use Rattle.fixed_sine.specs.Sine.{isin_of, icos_of}
 
--- a constituent in one year at one station: its amplitude in millionths of the station's unit, the units of the circle
--- that it advances a minute, and where on the circle it stands an hour before the year begins
+-- a wave, a constituent in one year at one station: its amplitude in millionths of the station's unit,
+-- its speed in units of the circle a minute, and its phase an hour before the year begins, in units of
+-- the circle
 pub record Harmonic : Type 0 where
   pub amplitude : ℤ
   pub speed : ℕ
   pub phase : ℕ
 
--- where it stands t minutes later
+-- the phase t minutes later
 abbrev pub phase_at : Harmonic → ℕ → ℕ
 phase_at h t = (h.phase + h.speed * t) % circle
 
--- its part of the level, in billionths of a millionth
+-- the wave's part of the level, in billionths of a millionth
 abbrev pub height_at : ℕ → Harmonic → ℤ
 height_at t h = h.amplitude *ℤ icos_of (phase_at h t)
 
--- what it takes off the level a minute, in the same unit, times the units of a radian
+-- the wave's part of the slope with the other sign: in billionths of a millionth a minute, times the
+-- units of a radian
 abbrev pub fall_at : ℕ → Harmonic → ℤ
 fall_at t h = (h.amplitude *ℤ pos h.speed) *ℤ isin_of (phase_at h t)
 
+-- the sum of the heights
 abbrev pub heights_of : ℕ → List Harmonic → ℤ
 heights_of t hs = fold (λ sum h. sum +ℤ height_at t h) (pos 0) hs
 
+-- the sum of the falls
 abbrev pub falls_of : ℕ → List Harmonic → ℤ
 falls_of t hs = fold (λ sum h. sum +ℤ fall_at t h) (pos 0) hs
 
--- the sum of the amplitudes' sizes
+-- the sum of the sizes of the amplitudes
 abbrev pub amount_of : List Harmonic → ℕ
 amount_of hs = sum_by (λ h. unsigned_abs h.amplitude) hs
 
@@ -36,7 +40,7 @@ amount_of hs = sum_by (λ h. unsigned_abs h.amplitude) hs
 abbrev pub steepness_of : List Harmonic → ℕ
 steepness_of hs = sum_by (λ h. unsigned_abs h.amplitude * h.speed) hs
 
--- the waves of each year from the first on, and the mean level in millionths of the unit
+-- a tide: the waves of each year from the first on, and the mean level in millionths of the unit
 pub record Tide : Type 0 where
   pub first_year : ℤ
   pub datum : ℤ

@@ -1,4 +1,4 @@
--- Small books and their stations, whose tides are worked out elsewhere (this project).
+-- Small books and their stations, whose tides were computed elsewhere (this project).
 use Rattle.std.specs.Prelude.{[], ◌∷◌, codes, ℤ, pos, negsuc}
 use Rattle.harmonics_text.specs.declared.book.Units.{Units}
 use Rattle.harmonics_text.specs.declared.book.Units.TheVariants.{Feet}
@@ -6,7 +6,8 @@ use Rattle.harmonics_text.specs.declared.book.Station.{Station}
 use Rattle.harmonics_text.specs.declared.book.Book.{Book}
 use Rattle.station_curve.specs.Waves.{Harmonic}
 
--- one constituent and three years from 1999 on: its speed, and its argument from the second year on
+-- a book of one constituent with this speed and three years from 1999 on; its argument is 0 in the first
+-- year
 abbrev pub small_book : ℤ → ℤ → Book
 small_book speed argument = record {
   constituents = record { name = codes "S2"; speed = speed } ∷ [];
@@ -17,6 +18,7 @@ small_book speed argument = record {
   stations = [];
 }
 
+-- a station of small_book with this amplitude, mean level 0, at Greenwich
 abbrev pub small_station : ℤ → Units → Station
 small_station amplitude units = record {
   name = codes "Pier";
@@ -28,22 +30,23 @@ small_station amplitude units = record {
   epoch = pos 0 ∷ [];
 }
 
--- a wave of the unit's whole amplitude that turns by half a degree a minute, from its top on
+-- a wave with an amplitude of one unit and half a degree a minute, with phase 0
 abbrev pub small_wave : Harmonic
 small_wave = record { amplitude = pos 1000000; speed = 300000000; phase = 0 }
 
--- half a day's tide at noon and midnight, the same in all years
+-- a tide of 12 hours, highest at noon and midnight, the same in all years
 abbrev pub pier_book : Book
 pier_book = small_book (pos 300000000) (pos 0)
 
--- the same, but 60 degrees further on from the second year on
+-- the tide of pier_book, but 60 degrees further on from the second year on
 abbrev pub shifted_book : Book
 shifted_book = small_book (pos 300000000) (pos 600000000)
 
+-- the station of pier_book, with an amplitude of one foot
 abbrev pub pier : Station
 pier = small_station (pos 1000000) Feet
 
--- two constituents over 2000 and 2001, and a station west of Greenwich with a mean level
+-- two constituents for 2000 and 2001
 abbrev pub harbour_book : Book
 harbour_book = record {
   constituents = record { name = codes "M2"; speed = pos 289841042 } ∷ record { name = codes "S2"; speed = pos 300000000 } ∷ [];
@@ -54,6 +57,7 @@ harbour_book = record {
   stations = [];
 }
 
+-- the station of harbour_book, west of Greenwich and with a mean level
 abbrev pub harbour : Station
 harbour = record {
   name = codes "Harbour";

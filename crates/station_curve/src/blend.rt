@@ -1,4 +1,4 @@
-//! How the values of two years make one in a blend.
+//! The mixture of the values of two years in a blend.
 
 ghost use Rattle.std.specs.Prelude.{◌≡◌, ◌*◌, ◌^◌, ◌≤◌, pos, ◌+ℤ◌, ◌-ℤ◌, ◌*ℤ◌, ◌≤ℤ◌, unsigned_abs};
 ghost use Rattle.fixed_sine.specs.Circle.{radian};
@@ -8,7 +8,7 @@ ghost use Rattle.year_blend.specs.Weights.{total_weight, weight_slope_of, IsNear
 use fixed_sine::{CHORD_ERROR, RADIAN};
 use year_blend::{TOTAL_WEIGHT, weight_slope};
 
-/// A value by its weight.
+/// Returns `weight * value`.
 pub fn weighted(weight: i64, value: i128) -> i128
     requires value { unsigned_abs value ≤ 10 ^ 26 }
     requires least { pos 0 ≤ℤ weight }
@@ -19,7 +19,7 @@ pub fn weighted(weight: i64, value: i128) -> i128
     i128::from(weight) * value
 }
 
-/// The values of the earlier and the later year by the weight of the later.
+/// Returns the values of the earlier and the later year, mixed by the `weight` of the later.
 pub fn mixed(earlier: i128, later: i128, weight: i64) -> i128
     requires earlier { unsigned_abs earlier ≤ 10 ^ 26 }
     requires later { unsigned_abs later ≤ 10 ^ 26 }
@@ -31,7 +31,8 @@ pub fn mixed(earlier: i128, later: i128, weight: i64) -> i128
     weighted(TOTAL_WEIGHT - weight, earlier) + weighted(weight, later)
 }
 
-/// What the moving weight adds to the slope, by how much higher the later year's level is.
+/// Returns the part of the slope that comes from the moving weight, `x` minutes from the new year;
+/// `change` is the later year's level less the earlier year's.
 pub fn drift(change: i64, x: i64) -> i128
     requires change { unsigned_abs change ≤ 2 * 10 ^ 18 }
     requires near { IsNearNewYear x }
@@ -41,7 +42,7 @@ pub fn drift(change: i64, x: i64) -> i128
     i128::from(weight_rise(x)) * i128::from(change)
 }
 
-/// How much the weight rises a minute, times the units of a radian.
+/// Returns the change of the weight a minute, times the units of a radian.
 fn weight_rise(x: i64) -> i64
     requires { IsNearNewYear x }
     ensures value { result ≡ weight_slope_of x *ℤ pos radian }
@@ -50,7 +51,7 @@ fn weight_rise(x: i64) -> i64
     weight_slope(x) * RADIAN
 }
 
-/// A value by all of the weight.
+/// Returns `value` times the whole weight.
 pub fn by_full_weight(value: i128) -> i128
     requires { unsigned_abs value ≤ 2 * 10 ^ 26 }
     ensures { result ≡ pos total_weight *ℤ value }
@@ -58,8 +59,8 @@ pub fn by_full_weight(value: i128) -> i128
     i128::from(TOTAL_WEIGHT) * value
 }
 
-/// How far a sum of chords may be from the sum of the sines, by the sum of the sizes that they are
-/// multiplied by, in the unit of a blend.
+/// Returns the most that a sum of chord sines differs from the sum of sines, in the unit of a blend;
+/// `size` is the sum of the sizes of their factors.
 pub fn error_of(size: i128) -> i128
     requires { unsigned_abs size ≤ 10 ^ 17 }
     ensures { result ≡ pos (total_weight * chord_error) *ℤ size }

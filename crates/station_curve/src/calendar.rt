@@ -1,11 +1,11 @@
-//! Where a minute lies by the calendar, for the few near the end of a year.
+//! The year of a minute by the calendar, for the minutes near the end of a year.
 
 ghost use Rattle.year_blend.specs.Places.{AreYears, InDomain};
 ghost use Rattle.station_curve.specs.Workings.Nearness.{IsPlainYear};
 
 use year_blend::{Place, place};
 
-/// The year in whose plain part a minute lies, or none in a blend.
+/// Returns the year whose plain part contains minute `m`, or `None` in a blend.
 #[cold]
 #[inline(never)]
 pub fn calendar_year_of(first_year: i32, years: u32, m: i64) -> Option<u32>

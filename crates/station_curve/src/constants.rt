@@ -19,13 +19,13 @@ use fixed_sine::reduce;
 use harmonics_text::{SoundBook, Station};
 use std::alloc::{AllocError, Global};
 
-/// The most that the amplitudes of a year may sum to.
+/// The greatest sum of the amplitudes of a year, in millionths of the unit.
 const MOST_AMOUNT: u64 = 1_000_000_000;
 
-/// The most that the amplitudes times the speeds of a year may sum to.
+/// The greatest sum of the amplitudes times the speeds of a year.
 const MOST_STEEPNESS: u128 = 100_000_000_000_000_000;
 
-/// The places of the constituents that a station has an amplitude for.
+/// Returns the indices of the constituents that have an amplitude at `station`.
 pub fn present_places(
     alloc: Global,
     book: &SoundBook<'_>,
@@ -44,7 +44,11 @@ pub fn present_places(
     Ok(places)
 }
 
-/// Whether a year is within the limits, by the constituents that are present.
+/// Checks that year `year`, counted from 0, is within the limits; `present` are the indices of the
+/// constituents with an amplitude.
+///
+/// # Errors
+/// [`CurveFault::TooLarge`], then [`CurveFault::TooSteep`].
 pub fn check_year(
     book: &SoundBook<'_>,
     station: &Station,
@@ -70,7 +74,7 @@ pub fn check_year(
     Ok(())
 }
 
-/// A year's number in the calendar, also that of the year after the last.
+/// Returns the calendar year of year `year`, counted from 0; also of the year after the last.
 pub fn calendar_year(book: &SoundBook<'_>, year: u32) -> i32
     requires { year ≤ book.now.years }
     ensures value { result ≡ book.now.first_year +ℤ pos year }
@@ -79,7 +83,7 @@ pub fn calendar_year(book: &SoundBook<'_>, year: u32) -> i32
     book.get().first_year + year as i32
 }
 
-/// How many constituents a book has.
+/// Returns the number of constituents of the book.
 fn count(book: &SoundBook<'_>) -> usize
     ensures value { result ≡ length book.now.constituents }
     ensures few { result ≤ 500 }
@@ -87,7 +91,7 @@ fn count(book: &SoundBook<'_>) -> usize
     book.get().constituents.as_slice().len()
 }
 
-/// The sum of the amplitudes' sizes in a year, and of each size times the speed.
+/// Returns the sum of the sizes of the amplitudes in a year, and the sum of each size times the speed.
 fn sums(book: &SoundBook<'_>, station: &Station, present: &[usize], year: u32) -> (u64, u128)
     requires station { IsStation (length book.now.constituents) station.now }
     requires present { present.now ≡ present_in book.now station.now }
@@ -107,7 +111,7 @@ fn sums(book: &SoundBook<'_>, station: &Station, present: &[usize], year: u32) -
     (amount, steepness)
 }
 
-/// The waves of a year that is asked for, and none of another one.
+/// Returns the waves of a year that is needed for the requested minutes, and none of another one.
 pub fn waves_if_asked(
     alloc: Global,
     book: &SoundBook<'_>,
@@ -129,7 +133,7 @@ pub fn waves_if_asked(
     }
 }
 
-/// The waves of a year within the limits, those without amplitude left out.
+/// Returns the waves of a year within the limits, without those of no amplitude.
 fn year_waves(
     alloc: Global,
     book: &SoundBook<'_>,
@@ -154,7 +158,7 @@ fn year_waves(
     Ok(waves)
 }
 
-/// A constituent's amplitude in a year, in millionths.
+/// Returns the amplitude of constituent `k` in a year, with its node factor, in millionths.
 fn amplitude(book: &SoundBook<'_>, station: &Station, year: u32, k: usize) -> i64
     requires station { IsStation (length book.now.constituents) station.now }
     requires year { year < book.now.years }
@@ -170,7 +174,7 @@ fn amplitude(book: &SoundBook<'_>, station: &Station, year: u32, k: usize) -> i6
     effective(amplitude, factor)
 }
 
-/// An amplitude times a node factor, in millionths.
+/// Returns `amplitude` times the node factor `factor`, in millionths.
 fn effective(amplitude: i64, factor: i64) -> i64
     requires amplitude { unsigned_abs amplitude ≤ 10 ^ 10 }
     requires factor { unsigned_abs factor ≤ 10 ^ 7 }
@@ -180,7 +184,7 @@ fn effective(amplitude: i64, factor: i64) -> i64
     rounded_short(amplitude * factor, 1_000_000)
 }
 
-/// Where a table of all years has a constituent's value of a year.
+/// Returns the index of the value of constituent `k` in year `year` in a table of all years.
 fn place_in_table(book: &SoundBook<'_>, year: u32, k: usize) -> usize
     requires year { year < book.now.years }
     requires place { k < length book.now.constituents }
@@ -190,7 +194,7 @@ fn place_in_table(book: &SoundBook<'_>, year: u32, k: usize) -> usize
     k * book.get().years as usize + year as usize
 }
 
-/// A constituent's speed, in units of the circle a minute.
+/// Returns the speed of constituent `k`, in units of the circle a minute.
 fn speed(book: &SoundBook<'_>, k: usize) -> u64
     requires place { k < length book.now.constituents }
     ensures value { pos result ≡ speed_of book.now k }
@@ -200,7 +204,7 @@ fn speed(book: &SoundBook<'_>, k: usize) -> u64
     constituent.speed as u64
 }
 
-/// Where on the circle a constituent stands an hour before a year.
+/// Returns the phase of constituent `k` an hour before a year, in units of the circle.
 fn phase(book: &SoundBook<'_>, station: &Station, year: u32, k: usize) -> u64
     requires station { IsStation (length book.now.constituents) station.now }
     requires year { year < book.now.years }
@@ -215,7 +219,8 @@ fn phase(book: &SoundBook<'_>, station: &Station, year: u32, k: usize) -> u64
     reduce(i128::from(angle)) as u64
 }
 
-/// The angle of a constituent by its speed, the minutes, the year's argument and the epoch.
+/// Returns the angle of a constituent, by its speed, the minutes, the year's equilibrium argument and the
+/// epoch.
 fn angle(speed: i64, minutes: i64, argument: i64, epoch: i64) -> i64
     requires speed { unsigned_abs speed ≤ 3600000000 }
     requires minutes { unsigned_abs minutes ≤ 1100 }

@@ -23,11 +23,11 @@ use std::alloc::{AllocError, Global};
 use std::marker::Model;
 use year_blend::{Place, Stretch, TOTAL_WEIGHT, place, stretch, weight, year_start};
 
-/// The level and the slope of a station at each minute of a book's years.
+/// The predicted tide of a station: its level and slope at each minute of a book's years.
 ///
-/// Levels are in billionths of a millionth of the station's unit, times the weights of a blend
-/// ([`TOTAL_WEIGHT`]); slopes are how much such a level rises in a minute, times the units of a
-/// radian. No call but `new` and `over` takes memory.
+/// Minutes are counted from 1970-01-01T00:00Z. Levels are in billionths of a millionth of the station's
+/// unit, times the total weight of a blend ([`TOTAL_WEIGHT`]); slopes are the change of such a level in a
+/// minute, times the units of a radian. Only `new` and `over` allocate.
 #[derive(Debug, Drop)]
 pub struct StationCurve {
     first_year: i32,
@@ -36,7 +36,7 @@ pub struct StationCurve {
     greatest: Greatest,
 }
 
-/// The whole minutes of a mean year of the calendar.
+/// The whole minutes of a mean calendar year.
 const MEAN_YEAR: u64 = 525_949;
 
 impl Model for StationCurve {
@@ -63,10 +63,24 @@ impl StationCurve {
     ghost use Rattle.station_curve.specs.Sums.{sums_of};
     ghost use Rattle.station_curve.specs.Levels.{minutes_into, waves_in, place_in_tide, year_level, year_slope, level_of, slope_of, millionths_of};
 
-    /// The curve of a station by its place in the book's list.
+    /// Returns the curve of the station with index `station` in the book's list.
     ///
-    /// A hydraulic current has none. Then the years are gone through in order, and the first one
-    /// beyond a limit is named: a year too large before a year too steep.
+    /// # Errors
+    /// [`CurveFault::Hydraulic`] for a hydraulic current; otherwise the fault of the first year beyond a
+    /// limit, in which [`CurveFault::TooLarge`] precedes [`CurveFault::TooSteep`];
+    /// [`CurveFault::NoMemory`] if memory runs out.
+    ///
+    /// # Examples
+    /// ```
+    /// let text =
+    ///     b"1\nS2 30\n1999\n1\nS2\n0\n*END*\n1\nS2\n1\n*END*\nPier\n0:00 :UTC\n0 feet\nS2 1 0\n";
+    /// let book = read_book(rt.alloc(), text)?;
+    /// assert_eq!(rt; book.stations.as_slice().len(), 1);
+    /// let curve = StationCurve::new(rt.alloc(), &book, 0)?;
+    /// let (first, last) = (curve.first(), curve.last());
+    /// assert!(rt; first < last);
+    /// assert_eq!(rt; curve.millionths(first), 1_000_000);
+    /// ```
     pub fn new(alloc: Global, book: &Book, station: u32) -> Result<StationCurve, CurveFault>
         requires book { IsBook book.now }
         requires station { station < length book.now.stations }
@@ -79,10 +93,14 @@ impl StationCurve {
         StationCurve::of_station(alloc, &book, station, all_minutes(&book))
     }
 
-    /// The curve of a station for the minutes from `first` to `last`, which are at most 10^12 in size.
+    /// Returns the curve of the station with index `station` for the minutes from `first` to `last`,
+    /// which are at most 10^12 in size.
     ///
-    /// A year that doesn't come within an hour of these has no waves, so at other minutes it is no
-    /// prediction. It is made sooner than the curve of all minutes, and refused where that one is.
+    /// A year that is more than an hour from these minutes has no waves, so the curve predicts nothing at
+    /// other minutes. It is made faster than the curve of all minutes.
+    ///
+    /// # Errors
+    /// As of [`StationCurve::new`]: each year of the book counts.
     pub fn over(
         alloc: Global,
         book: &Book,
@@ -102,7 +120,7 @@ impl StationCurve {
         StationCurve::of_station(alloc, &SoundBook::new(book), station, Reach { first, last })
     }
 
-    /// The curve of a station for the minutes that are asked.
+    /// Returns the curve of `station` for the minutes of `reach`.
     fn of_station(
         alloc: Global,
         book: &SoundBook<'_>,
@@ -124,7 +142,7 @@ impl StationCurve {
         }
     }
 
-    /// The curve of a station with the waves of the years that tell the minutes that are asked.
+    /// Returns the curve of `station` with the waves of `years`.
     fn of_years(
         book: &SoundBook<'_>,
         station: &Station,
@@ -145,35 +163,35 @@ impl StationCurve {
         }
     }
 
-    /// The first minute of its years.
+    /// Returns the first minute of the book's years.
     pub fn first(&self) -> i64
         ensures { result ≡ year_start_of self.now.first_year }
     {
         year_start(self.first_year)
     }
 
-    /// The first minute after its years, which is the last one that has a level.
+    /// Returns the first minute after the book's years, which is the last one that has a level.
     pub fn last(&self) -> i64
         ensures { result ≡ year_start_of (self.now.first_year +ℤ pos (length self.now.years)) }
     {
         year_start(self.first_year + self.years.len() as i32)
     }
 
-    /// The book's first year.
+    /// Returns the first year of the book.
     pub fn first_year(&self) -> i32
         ensures { result ≡ self.now.first_year }
     {
         self.first_year
     }
 
-    /// How many years the book has.
+    /// Returns the number of years of the book.
     pub fn years(&self) -> u32
         ensures { result ≡ length self.now.years }
     {
         self.years.len() as u32
     }
 
-    /// What the constants of a year sum to, counted from 0.
+    /// Returns the sums over the waves of year `year`, counted from 0.
     pub fn sums(&self, year: u32) -> Sums
         requires { year < length self.now.years }
         ensures value { result ≡ sums_of (waves_in self.now year) }
@@ -182,14 +200,14 @@ impl StationCurve {
         self.years[year as usize].sums
     }
 
-    /// Nothing: it tells a proof that the curve is within the limits.
+    /// Does nothing; its contract shows a proof that the curve is within the limits.
     pub fn known(&self)
         ensures { IsGentle self.now }
     {
         let _first_year = self.first_year;
     }
 
-    /// The level at a minute, from the first to the last.
+    /// Returns the level at minute `m`, from the first to the last.
     pub fn level(&self, m: i64) -> i128
         requires { InDomain self.now.first_year (length self.now.years) m }
         ensures value { result ≡ level_of self.now m }
@@ -205,7 +223,7 @@ impl StationCurve {
         }
     }
 
-    /// The slope at a minute, from the first to the last.
+    /// Returns the slope at minute `m`, from the first to the last.
     pub fn slope(&self, m: i64) -> i128
         requires { InDomain self.now.first_year (length self.now.years) m }
         ensures value { result ≡ slope_of self.now m }
@@ -224,8 +242,9 @@ impl StationCurve {
         }
     }
 
-    /// A level found sooner, at most [`level_error`](StationCurve::level_error) from that at a
-    /// minute, from the first to the last: by chords of the sine, and exactly at a new year.
+    /// Returns an approximation of the level at minute `m`, from the first to the last, within
+    /// [`level_error`](StationCurve::level_error) of it. It is faster than the level: by chords of the
+    /// sine outside blends, and exact in a blend.
     pub fn near_level(&self, m: i64) -> i128
         requires { InDomain self.now.first_year (length self.now.years) m }
         ensures value { result ≡ near_level_of self.now m }
@@ -238,8 +257,9 @@ impl StationCurve {
         }
     }
 
-    /// A slope found sooner, at most [`slope_error`](StationCurve::slope_error) from that at a
-    /// minute, from the first to the last: by chords of the sine, and exactly at a new year.
+    /// Returns an approximation of the slope at minute `m`, from the first to the last, within
+    /// [`slope_error`](StationCurve::slope_error) of it. It is faster than the slope: by chords of the
+    /// sine outside blends, and exact in a blend.
     pub fn near_slope(&self, m: i64) -> i128
         requires { InDomain self.now.first_year (length self.now.years) m }
         ensures value { result ≡ near_slope_of self.now m }
@@ -252,7 +272,7 @@ impl StationCurve {
         }
     }
 
-    /// How far a level found sooner may be from the level, in the level's unit.
+    /// Returns the most that an approximate level differs from the level, in the level's unit.
     pub fn level_error(&self) -> i128
         ensures value { result ≡ pos (level_error_of self.now) }
         ensures size { unsigned_abs result ≤ 10 ^ 24 }
@@ -260,7 +280,7 @@ impl StationCurve {
         error_of(self.greatest.amount)
     }
 
-    /// How far a slope found sooner may be from the slope, in the slope's unit.
+    /// Returns the most that an approximate slope differs from the slope, in the slope's unit.
     pub fn slope_error(&self) -> i128
         ensures value { result ≡ pos (slope_error_of self.now) }
         ensures size { unsigned_abs result ≤ 10 ^ 32 }
@@ -268,7 +288,8 @@ impl StationCurve {
         error_of(self.greatest.steepness)
     }
 
-    /// The level at a minute in whole millionths of the station's unit, a half away from 0.
+    /// Returns the level at minute `m` in whole millionths of the station's unit, a half rounded away
+    /// from 0.
     pub fn millionths(&self, m: i64) -> i64
         requires { InDomain self.now.first_year (length self.now.years) m }
         ensures value { result ≡ millionths_of self.now m }
@@ -277,8 +298,9 @@ impl StationCurve {
         rounded(self.level(m), TOTAL_WEIGHT as u64 * 1_000_000_000) as i64
     }
 
-    /// Where the minutes from `m` to `m + n` lie, both included and told: in the plain part of one
-    /// year, or across one new year. `n` is at most [`LONGEST_SPAN`](year_blend::LONGEST_SPAN).
+    /// Returns the stretch of the minutes from `m` to `m + n`, both included and from the first to the
+    /// last: the plain part of one year, or across one new year. `n` is at most
+    /// [`LONGEST_SPAN`](year_blend::LONGEST_SPAN).
     pub fn stretch(&self, m: i64, n: u32) -> Stretch
         requires first { InDomain self.now.first_year (length self.now.years) m }
         requires last { InDomain self.now.first_year (length self.now.years) (m +ℤ pos n) }
@@ -292,7 +314,7 @@ impl StationCurve {
         }
     }
 
-    /// The place of a minute among the years.
+    /// Returns the position of minute `m` among the years.
     fn place(&self, m: i64) -> Place
         requires { InDomain self.now.first_year (length self.now.years) m }
         ensures value { result ≡ place_in_tide self.now m }
@@ -304,7 +326,7 @@ impl StationCurve {
         }
     }
 
-    /// The year in whose plain part a minute lies, or none in a blend.
+    /// Returns the year whose plain part contains minute `m`, or `None` in a blend.
     fn plain_year(&self, m: i64) -> Option<u32>
         requires { InDomain self.now.first_year (length self.now.years) m }
         ensures { IsPlainYear self.now.first_year (length self.now.years) m result }
@@ -315,7 +337,8 @@ impl StationCurve {
         }
     }
 
-    /// The year that minutes lie in, where it is the likely one and they are far from its ends.
+    /// Returns the likely year of the minutes from `first` to `last`, if they are all at least an hour
+    /// from both its ends.
     fn year_around(&self, first: i64, last: i64) -> Option<u32>
         requires first { InDomain self.now.first_year (length self.now.years) first }
         requires last { InDomain self.now.first_year (length self.now.years) last }
@@ -329,7 +352,7 @@ impl StationCurve {
         }
     }
 
-    /// The year that a minute would be in if all years had one length.
+    /// Returns the year that would contain minute `m` if all years had the same length.
     fn likely_year(&self, m: i64) -> u32
         ensures { result < length self.now.years }
     {
@@ -337,7 +360,7 @@ impl StationCurve {
         ended.min(self.years.len() as u64 - 1) as u32
     }
 
-    /// The level by one year's constants.
+    /// Returns the level by the constants of year `year`.
     fn year_level(&self, year: u32, m: i64) -> i128
         requires year { year < length self.now.years }
         requires near { IsNear self.now.first_year year m }
@@ -347,7 +370,7 @@ impl StationCurve {
         mean_level(self.datum) + i128::from(self.year_heights(year, m))
     }
 
-    /// The level by one year's constants nearly, by chords.
+    /// Returns the approximate level by the constants of year `year`, by chords.
     fn near_year_level(&self, year: u32, m: i64) -> i128
         requires year { year < length self.now.years }
         requires near { IsNear self.now.first_year year m }
@@ -358,7 +381,7 @@ impl StationCurve {
         mean_level(self.datum) + i128::from(near_heights(year.waves.as_slice(), year.minutes_to(m)))
     }
 
-    /// The slope by one year's constants nearly, by chords.
+    /// Returns the approximate slope by the constants of year `year`, by chords.
     fn near_year_slope(&self, year: u32, m: i64) -> i128
         requires year { year < length self.now.years }
         requires near { IsNear self.now.first_year year m }
@@ -369,7 +392,7 @@ impl StationCurve {
         -near_falls(year.waves.as_slice(), year.minutes_to(m))
     }
 
-    /// The slope by one year's constants.
+    /// Returns the slope by the constants of year `year`.
     fn year_slope(&self, year: u32, m: i64) -> i128
         requires year { year < length self.now.years }
         requires near { IsNear self.now.first_year year m }
@@ -380,7 +403,7 @@ impl StationCurve {
         -falls(year.waves.as_slice(), year.minutes_to(m))
     }
 
-    /// The sum of one year's waves.
+    /// Returns the sum of the heights of the waves of year `year`.
     fn year_heights(&self, year: u32, m: i64) -> i64
         requires year { year < length self.now.years }
         requires near { IsNear self.now.first_year year m }

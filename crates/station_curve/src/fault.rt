@@ -1,4 +1,4 @@
-//! Why a station has no curve.
+//! The reasons why a station has no curve.
 
 ghost use Rattle.std.specs.Prelude.{◌≡◌};
 ghost use Rattle.station_curve.specs.Curves.{is_hydraulic};
@@ -7,17 +7,18 @@ use harmonics_text::Units;
 use std::alloc::{AllocError, AllocFailed};
 use thiserror::Error;
 
-/// Why a station has no curve.
+/// The reason why a station has no curve.
 #[derive(Clone, Copy, Debug, PartialEq, Eq, Error)]
 pub enum CurveFault {
-    /// Its unit is `knots^2`.
+    /// The unit is `knots^2`.
     #[error("a hydraulic current")]
     Hydraulic,
-    /// The sizes of the amplitudes sum to more than 1,000,000,000 in that calendar year, and in none
-    /// before it.
+    /// The sizes of the amplitudes sum to more than 1,000,000,000 millionths in the calendar year `year`,
+    /// and in none before it.
     #[error("too large in {year}")]
     TooLarge { year: i32 },
-    /// The sizes times the speeds sum to more than 10^17 in that calendar year, and in none before it.
+    /// The sizes of the amplitudes times the speeds sum to more than 10^17 in the calendar year `year`,
+    /// and in none before it.
     #[error("too steep in {year}")]
     TooSteep { year: i32 },
     #[error("no memory")]
@@ -46,7 +47,8 @@ impl<T: Drop> From<AllocFailed<T>> for CurveFault {
     }
 }
 
-/// Whether a current's speed is the root of what the constants give.
+/// Returns true if `units` is that of a hydraulic current, whose speed is the square root of the
+/// predicted value.
 pub fn is_hydraulic(units: Units) -> bool
     ensures { result ≡ is_hydraulic units }
 {

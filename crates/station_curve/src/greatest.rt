@@ -8,16 +8,16 @@ ghost use Rattle.station_curve.specs.Sums.{sums_of};
 
 use crate::years::Year;
 
-/// The greatest sums of any year, 0 where there is no year.
+/// The greatest sums of any year: 0 if there is no year.
 #[derive(Clone, Copy, Debug)]
 pub struct Greatest {
-    /// The sizes of the amplitudes, in millionths of the station's unit.
+    /// The sum of the sizes of the amplitudes, in millionths of the station's unit.
     pub amount: i128,
-    /// Each size times the speed.
+    /// The sum of each size times the speed.
     pub steepness: i128,
 }
 
-/// The greatest sums of the years.
+/// Returns the greatest sums of `years`.
 pub fn greatest_of_years(years: &[Year]) -> Greatest
     requires { (k : ℕ) (d : Year) → k < length years.now
         → (slice_index_or years.now k d).sums ≡ sums_of (slice_index_or years.now k d).waves.items }

@@ -1,4 +1,4 @@
-//! Rows that show what the definitions mean.
+//! Examples of the definitions.
 
 ghost use Rattle.std.specs.Prelude.{◌≡◌, ◌-◌, ◌*◌, ◌^◌, true, false, [], ◌∷◌, Ok, Err, pos, negsuc};
 ghost use Rattle.harmonics_text.specs.declared.book.Units.TheVariants.{Feet, KnotsSquared};
@@ -11,7 +11,7 @@ ghost use Rattle.station_curve.specs.Errors.{level_error_of, slope_error_of};
 ghost use Rattle.station_curve.specs.Sums.{sums_of};
 ghost use Rattle.station_curve.specs.Worked.{small_book, small_station, small_wave, pier_book, shifted_book, pier, harbour_book, harbour};
 
-/// A wave that turns by half a degree a minute: its height, and what it takes off the level.
+/// Proves heights and falls of a wave that turns by half a degree a minute.
 pub fn worked_waves()
     ensures top { heights_of 0 (small_wave ∷ []) ≡ pos (10 ^ 15) }
     ensures sixty_degrees { heights_of 120 (small_wave ∷ []) ≡ pos (5 * 10 ^ 14) }
@@ -21,7 +21,7 @@ pub fn worked_waves()
     ensures steepest { falls_of 180 (small_wave ∷ []) ≡ pos (3 * 10 ^ 23) }
 {}
 
-/// Where a station has a curve, and why not.
+/// Proves examples of stations that have a curve, and of each fault.
 pub fn worked_limits()
     ensures steepest { curve_of (small_book (pos 300000000) (pos 0)) (small_station (pos 333333333) Feet)
         ≡ Ok (tide_of (small_book (pos 300000000) (pos 0)) (small_station (pos 333333333) Feet)) }
@@ -35,8 +35,8 @@ pub fn worked_limits()
         ≡ Err Hydraulic }
 {}
 
-/// Which of three years tell minutes from an hour after a new year to an hour before the next one, and
-/// from a minute later or to a minute earlier.
+/// Proves which of three years are needed for minutes from an hour after a new year to an hour before the
+/// next one, and for minutes from one later or to one earlier.
 pub fn worked_reach()
     ensures hour_after { is_touched pier_book (pos 15778140) (pos 16305060) 0 ≡ true }
     ensures between { is_touched pier_book (pos 15778140) (pos 16305060) 1 ≡ true }
@@ -46,7 +46,7 @@ pub fn worked_reach()
     ensures no_waves { waves_over pier_book pier (pos 15778141) (pos 16305060) 0 ≡ [] }
 {}
 
-/// Amplitudes and phases by the constants of a year: a phase of 75.5 and one of 60 degrees.
+/// Proves amplitudes and phases by the constants of a year: a phase of 75.5 degrees and one of 60.
 pub fn worked_constants()
     ensures first_year { amplitude_of harbour_book harbour 0 0 ≡ pos 1215490 }
     ensures second_year { amplitude_of harbour_book harbour 1 0 ≡ pos 1249234 }
@@ -56,7 +56,7 @@ pub fn worked_constants()
     ensures a_minute_later { phase_of harbour_book harbour 0 (pos 15778381) 1 ≡ 36300000000 }
 {}
 
-/// Levels in the plain parts of years and across a new year, as another program computed them.
+/// Proves levels outside blends and across a new year that another program computed.
 pub fn worked_levels()
     ensures noon { predicted_millionths pier_book pier (pos 15791759) ≡ pos 999962 }
     ensures two_hours_before { predicted_millionths shifted_book pier (pos 15777960) ≡ pos 500000 }
@@ -70,7 +70,7 @@ pub fn worked_levels()
     ensures harbour_2001 { predicted_millionths harbour_book harbour (pos 16390080) ≡ pos 1303827 }
 {}
 
-/// Slopes there.
+/// Proves slopes outside blends and across a new year that another program computed.
 pub fn worked_slopes()
     ensures before_noon { predicted_slope pier_book pier (pos 15791759) ≡ pos 10857205785600000000000000000000 }
     ensures noon { predicted_slope pier_book pier (pos 15791760) ≡ pos 0 }
@@ -81,7 +81,7 @@ pub fn worked_slopes()
     ensures harbour_2001 { predicted_slope harbour_book harbour (pos 16390080) ≡ pos 802828425453686744053872844800000 }
 {}
 
-/// What one wave, no wave, and the two waves of a year come to.
+/// Proves the sums of one wave, of no wave, and of the two waves of a year.
 pub fn worked_sums()
     ensures one_wave { sums_of (small_wave ∷ [])
         ≡ record { amount = pos 1000000; steep = pos (3 * 10 ^ 14); near = pos 8727001000000; far = pos 2618100300000000000000 } }
@@ -92,8 +92,8 @@ pub fn worked_sums()
         ≡ record { amount = pos 1449234; steep = pos 422079284261828; near = pos 12278286689384; far = pos 3576482855350780498128 } }
 {}
 
-/// Levels by chords a minute before noon and at noon, the exact one in a blend, and levels of two
-/// waves, below and above the exact ones.
+/// Proves approximate levels: a minute before noon and at noon, one in a blend, which is exact, and
+/// levels of two waves, below and above the exact ones.
 pub fn worked_near_levels()
     ensures before_noon { near_level_of (tide_of pier_book pier) (pos 15791759) ≡ pos 4146884178278400000000000 }
     ensures noon { near_level_of (tide_of pier_book pier) (pos 15791760) ≡ pos 4147200000000000000000000 }
@@ -102,7 +102,8 @@ pub fn worked_near_levels()
     ensures harbour_2001 { near_level_of (tide_of harbour_book harbour) (pos 16390080) ≡ pos 5407345547725158604800000 }
 {}
 
-/// Slopes there.
+/// Proves approximate slopes: a minute before noon and at noon, one in a blend, which is exact, and
+/// slopes of two waves.
 pub fn worked_near_slopes()
     ensures before_noon { near_slope_of (tide_of pier_book pier) (pos 15791759) ≡ pos 10856792724480000000000000000000 }
     ensures noon { near_slope_of (tide_of pier_book pier) (pos 15791760) ≡ pos 0 }
@@ -111,7 +112,8 @@ pub fn worked_near_slopes()
     ensures harbour_2001 { near_slope_of (tide_of harbour_book harbour) (pos 16390080) ≡ pos 802806795183784473007950643200000 }
 {}
 
-/// How far they may be off: for one wave, and for two by the year that has the larger ones.
+/// Proves the errors of approximate levels and slopes: for one wave, and for two waves by the year with
+/// the larger ones.
 pub fn worked_errors()
     ensures pier_level { level_error_of (tide_of pier_book pier) ≡ 158008320000000000000 }
     ensures pier_slope { slope_error_of (tide_of pier_book pier) ≡ 47402496000000000000000000000 }

@@ -1,10 +1,9 @@
-//! The tide of a station: level and slope at each minute of a book's years.
+//! The predicted tide of a station: level and slope at each minute of a book's years.
 //!
-//! A [`StationCurve`] is made of a book and the place of one of its stations. It is the sum of
-//! waves that Schureman's Special Publication 98 predicts by, in whole numbers: one wave for each
-//! constituent, by the constants of the year, and a smooth blend of both years at a new year. Where
-//! a level or a slope needn't be exact, a near one is found sooner, and how far it may be off is
-//! known.
+//! A [`StationCurve`] is made from a book and the index of one of its stations. It is the sum of waves of
+//! Schureman's Special Publication 98, in whole numbers: one wave for each constituent, by the constants
+//! of the year, and a smooth blend of both years at a new year. If a level or a slope needn't be exact,
+//! an approximate one is faster, with a known bound on its error.
 #![tactic(auto)]
 
 mod blend;

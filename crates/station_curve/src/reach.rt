@@ -1,4 +1,4 @@
-//! The minutes that a curve is asked for.
+//! The minutes for which a curve is requested.
 
 ghost use Rattle.std.specs.Prelude.{◌≡◌, ◌^◌, ◌≤◌, ◌&&◌, pos, ◌+ℤ◌, int_le, unsigned_abs};
 ghost use Rattle.year_blend.specs.Years.{year_start_of};
@@ -8,7 +8,7 @@ use crate::years::HOUR;
 use harmonics_text::SoundBook;
 use year_blend::year_start;
 
-/// Minutes from one to another that a curve is asked for.
+/// The minutes from `first` to `last` for which a curve is requested.
 #[derive(Clone, Copy)]
 pub struct Reach {
     pub first: i64,
@@ -16,7 +16,7 @@ pub struct Reach {
 }
 
 impl Reach {
-    /// Whether a year comes within an hour of them.
+    /// Returns true if a year from `start` to `end` is at most an hour from these minutes.
     pub fn touches(self, start: i64, end: i64) -> bool
         requires last { unsigned_abs self.last ≤ 10 ^ 12 }
         requires end { unsigned_abs end ≤ 10 ^ 12 }
@@ -26,7 +26,7 @@ impl Reach {
     }
 }
 
-/// Whether a minute comes at most an hour after another one.
+/// Returns true if `minute` is at most an hour after `other`.
 fn is_within_hour(minute: i64, other: i64) -> bool
     requires { unsigned_abs other ≤ 10 ^ 12 }
     ensures { result ≡ int_le minute (other +ℤ pos 60) }
@@ -34,7 +34,7 @@ fn is_within_hour(minute: i64, other: i64) -> bool
     minute <= other + HOUR
 }
 
-/// All minutes of a book's years, and the first one after them.
+/// Returns all minutes of a book's years, and the first one after them.
 pub fn all_minutes(book: &SoundBook<'_>) -> Reach
     ensures first { result.first ≡ year_start_of book.now.first_year }
     ensures last { result.last ≡ year_start_of (book.now.first_year +ℤ pos book.now.years) }

@@ -1,4 +1,4 @@
-//! What holds of levels and slopes found sooner.
+//! Theorems about approximate levels and slopes.
 
 ghost use Rattle.std.specs.Prelude.{◌≤◌, length, ℤ, ◌-ℤ◌, unsigned_abs};
 ghost use Rattle.year_blend.specs.Places.{AreYears, InDomain};
@@ -7,7 +7,7 @@ ghost use Rattle.station_curve.specs.Levels.{level_of, slope_of};
 ghost use Rattle.station_curve.specs.Near.{near_level_of, near_slope_of};
 ghost use Rattle.station_curve.specs.Errors.{level_error_of, slope_error_of};
 
-/// How far they may be from the level and the slope of a tide, at each minute of its years.
+/// Proves that the approximate level and slope are within their errors at each minute of a tide's years.
 pub fn near_values()
     ensures level { (tide : Tide) (m : ℤ) → AreYears tide.first_year (length tide.years)
         → InDomain tide.first_year (length tide.years) m

@@ -6,10 +6,10 @@ ghost use Rattle.station_curve.specs.Near.{near_heights_of, near_falls_of};
 
 use crate::wave::Wave;
 
-/// Billionths of a millionth in a millionth.
+/// The ratio of a millionth to a billionth of a millionth.
 const BILLION: i128 = 1_000_000_000;
 
-/// The sum of the waves' heights.
+/// Returns the sum of the waves' heights, `minutes` after an hour before the year.
 pub fn heights(waves: &[Wave], minutes: u64) -> i64
     requires time { minutes ≤ 600000 }
     requires amount { amount_of waves.now ≤ 10 ^ 9 }
@@ -23,7 +23,7 @@ pub fn heights(waves: &[Wave], minutes: u64) -> i64
     sum
 }
 
-/// The sum of the waves' falls.
+/// Returns the sum of the waves' falls, `minutes` after an hour before the year.
 pub fn falls(waves: &[Wave], minutes: u64) -> i128
     requires time { minutes ≤ 600000 }
     requires steepness { steepness_of waves.now ≤ 10 ^ 17 }
@@ -37,7 +37,7 @@ pub fn falls(waves: &[Wave], minutes: u64) -> i128
     sum
 }
 
-/// The sum of the waves' heights nearly, by chords.
+/// Returns the sum of the waves' approximate heights, by chords, `minutes` after an hour before the year.
 pub fn near_heights(waves: &[Wave], minutes: u64) -> i64
     requires time { minutes ≤ 600000 }
     requires amount { amount_of waves.now ≤ 10 ^ 9 }
@@ -51,7 +51,7 @@ pub fn near_heights(waves: &[Wave], minutes: u64) -> i64
     sum
 }
 
-/// The sum of the waves' falls nearly, by chords.
+/// Returns the sum of the waves' approximate falls, by chords, `minutes` after an hour before the year.
 pub fn near_falls(waves: &[Wave], minutes: u64) -> i128
     requires time { minutes ≤ 600000 }
     requires steepness { steepness_of waves.now ≤ 10 ^ 17 }
@@ -65,7 +65,7 @@ pub fn near_falls(waves: &[Wave], minutes: u64) -> i128
     sum
 }
 
-/// The mean level of every minute, in billionths of a millionth.
+/// Returns the mean level `datum`, in millionths, in billionths of a millionth.
 pub fn mean_level(datum: i64) -> i128
     requires { unsigned_abs datum ≤ 10 ^ 10 }
     ensures value { result ≡ pos (10 ^ 9) *ℤ datum }

@@ -10,20 +10,20 @@ use crate::year_sums::Sums;
 use fixed_sine::{QUARTER_TURN, chord_sine, step, turn_of, turn_sine};
 use std::marker::Model;
 
-/// A constituent in one year at one station.
+/// A constituent in one year at one station: a wave.
 #[derive(Debug, Drop)]
 pub struct Wave {
-    /// In millionths of the station's unit.
+    /// The amplitude in millionths of the station's unit.
     amplitude: i64,
-    /// In units of the circle a minute.
+    /// The speed in units of the circle a minute.
     speed: u64,
     /// The amplitude times the speed.
     steepness: i64,
-    /// How far it turns a minute, as a part of a turn.
+    /// The speed as a fraction of a turn a minute.
     pace: u64,
-    /// The part of a turn where it stands an hour before the year begins.
+    /// The phase an hour before the year begins, as a fraction of a turn.
     start: u64,
-    /// The part a quarter of a turn further on, where the sine is the cosine at `start`.
+    /// `start` plus a quarter of a turn: the sine there is the cosine at `start`.
     ahead: u64,
 }
 
@@ -40,7 +40,7 @@ impl Model for Wave {
 }
 
 impl Wave {
-    /// A constituent by its amplitude, its speed, and its phase an hour before the year.
+    /// Returns the wave of a constituent with this amplitude, speed, and phase an hour before the year.
     pub fn new(amplitude: i64, speed: u64, phase: u64) -> Wave
         requires amplitude { unsigned_abs amplitude ≤ 10 ^ 9 }
         requires speed { speed ≤ 3600000000 }
@@ -59,7 +59,8 @@ impl Wave {
         }
     }
 
-    /// Its part of the level, `minutes` after an hour before the year.
+    /// Returns the wave's part of the level, `minutes` after an hour before the year, in billionths of a
+    /// millionth.
     pub fn height(&self, minutes: u64) -> i64
         requires { minutes ≤ 600000 }
         ensures value { result ≡ height_at minutes self.now }
@@ -68,7 +69,8 @@ impl Wave {
         self.by_amplitude(turn_sine(self.turn_ahead(minutes)))
     }
 
-    /// What it takes off the level a minute, `minutes` after an hour before the year.
+    /// Returns the wave's fall, `minutes` after an hour before the year: its part of the slope with the
+    /// other sign.
     pub fn fall(&self, minutes: u64) -> i128
         requires { minutes ≤ 600000 }
         ensures value { result ≡ fall_at minutes self.now }
@@ -78,7 +80,7 @@ impl Wave {
         self.by_steepness(turn_sine(self.turn_after(minutes)))
     }
 
-    /// Its part of the level nearly, found sooner: by a chord.
+    /// Returns the approximate height of the wave by a chord of the sine.
     pub fn near_height(&self, minutes: u64) -> i64
         requires { minutes ≤ 600000 }
         ensures value { result ≡ near_height_at minutes self.now }
@@ -87,7 +89,7 @@ impl Wave {
         self.by_amplitude(chord_sine(self.turn_ahead(minutes)))
     }
 
-    /// What it takes off the level a minute nearly, found sooner: by a chord.
+    /// Returns the approximate fall of the wave by a chord of the sine.
     pub fn near_fall(&self, minutes: u64) -> i128
         requires { minutes ≤ 600000 }
         ensures value { result ≡ near_fall_at minutes self.now }
@@ -97,7 +99,7 @@ impl Wave {
         self.by_steepness(chord_sine(self.turn_after(minutes)))
     }
 
-    /// What it adds to each sum of its year.
+    /// Returns the wave's part of each sum of its year.
     pub fn sums(&self) -> Sums
         ensures amount { result.amount ≡ pos (unsigned_abs self.now.amplitude) }
         ensures steep { result.steep ≡ pos (unsigned_abs self.now.amplitude * self.now.speed) }
@@ -118,7 +120,7 @@ impl Wave {
         }
     }
 
-    /// The amplitude times a sine.
+    /// Returns the amplitude times `sine`.
     fn by_amplitude(&self, sine: i64) -> i64
         requires { unsigned_abs sine ≤ 1000038100 }
         ensures value { result ≡ self.now.amplitude *ℤ sine }
@@ -128,7 +130,7 @@ impl Wave {
         self.amplitude * sine
     }
 
-    /// The amplitude times the speed and a sine.
+    /// Returns the amplitude times the speed times `sine`.
     fn by_steepness(&self, sine: i64) -> i128
         requires { unsigned_abs sine ≤ 1000038100 }
         ensures value { result ≡ (self.now.amplitude *ℤ pos self.now.speed) *ℤ sine }
@@ -138,7 +140,7 @@ impl Wave {
         i128::from(self.steepness) * i128::from(sine)
     }
 
-    /// The part of a turn where it stands, `minutes` after an hour before the year.
+    /// Returns the phase `minutes` after an hour before the year, as a fraction of a turn.
     fn turn_after(&self, minutes: u64) -> u64
         requires { minutes ≤ 600000 }
         ensures { result ≡ turn_after self.now minutes }
@@ -146,7 +148,8 @@ impl Wave {
         self.start.wrapping_add(self.pace.wrapping_mul(minutes))
     }
 
-    /// The part a quarter of a turn further on.
+    /// Returns the phase `minutes` after an hour before the year plus a quarter of a turn, as a fraction
+    /// of a turn.
     fn turn_ahead(&self, minutes: u64) -> u64
         requires { minutes ≤ 600000 }
         ensures { result ≡ turn_ahead self.now minutes }

@@ -1,4 +1,4 @@
-//! What the waves of one year sum to.
+//! Sums over the waves of one year.
 
 ghost use Rattle.std.specs.Prelude.{◌≡◌, ◌^◌, ◌≤◌};
 ghost use Rattle.station_curve.specs.Waves.{amount_of, steepness_of};
@@ -6,22 +6,23 @@ ghost use Rattle.station_curve.specs.Sums.{sums_of};
 
 use crate::wave::Wave;
 
-/// What the waves of one year sum to: how large they are together, and how fast they can change. No
-/// sum is negative.
+/// Sums over the waves of one year: bounds on their size, and on their change in a minute. None is
+/// negative.
 #[derive(Clone, Copy, Debug, PartialEq, Eq)]
 pub struct Sums {
-    /// The sizes of the amplitudes, in millionths of the station's unit. The level by the year's
-    /// waves is at most so many billions from the mean one.
+    /// The sum of the sizes of the amplitudes, in millionths of the station's unit. The level of the year
+    /// differs from the mean one by at most 10^9 times this sum.
     pub amount: i128,
-    /// Each size times the speed. The slope is at most so many billions in size.
+    /// The sum of each size times the speed. The slope is at most 10^9 times this sum in size.
     pub steep: i128,
-    /// Each size times the sine's step over a minute: the most that the level changes by in one.
+    /// The sum of each size times the sine's step over a minute: the most that the level changes in a
+    /// minute.
     pub near: i128,
-    /// Each size times the speed and that step: the most that the slope changes by in a minute.
+    /// The sum of each size times the speed times that step: the most that the slope changes in a minute.
     pub far: i128,
 }
 
-/// The sums of a year's waves.
+/// Returns the sums over `waves`, those of one year.
 pub fn sums_of_waves(waves: &[Wave]) -> Sums
     requires amount { amount_of waves.now ≤ 10 ^ 9 }
     requires steepness { steepness_of waves.now ≤ 10 ^ 17 }

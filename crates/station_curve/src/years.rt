@@ -15,23 +15,23 @@ use harmonics_text::{SoundBook, Station};
 use std::alloc::Global;
 use year_blend::year_start;
 
-/// Half of a blend.
+/// Half the minutes of a blend.
 pub const HOUR: i64 = 60;
 
 /// The waves of one year.
 #[derive(Debug, Drop)]
 pub struct Year {
-    /// Its first minute.
+    /// The first minute of the year.
     pub start: i64,
     /// The first minute of the next year.
     pub end: i64,
     pub waves: Vec<Wave>,
-    /// What its waves sum to.
+    /// The sums over the waves.
     pub sums: Sums,
 }
 
 impl Year {
-    /// The minutes since an hour before it began.
+    /// Returns the minutes from an hour before the year to minute `m`.
     pub fn minutes_to(&self, m: i64) -> u64
         requires least { pos 0 ≤ℤ ((m -ℤ self.now.start) +ℤ pos 60) }
         requires most { ((m -ℤ self.now.start) +ℤ pos 60) ≤ℤ pos 600000 }
@@ -41,7 +41,8 @@ impl Year {
         (m - self.start + HOUR) as u64
     }
 
-    /// Whether minutes from one to another lie in it, an hour or more from both its ends.
+    /// Returns true if the minutes from `first` to `last` are in the year, at least an hour from both its
+    /// ends.
     pub fn surrounds(&self, first: i64, last: i64) -> bool
         requires first { unsigned_abs first ≤ 4000000000 }
         requires last { unsigned_abs last ≤ 4000000000 }
@@ -52,8 +53,8 @@ impl Year {
     }
 }
 
-/// Each year with its waves, where all years are within the limits. One that tells none of the minutes
-/// that are asked for has no waves.
+/// Returns each year with its waves, if all years are within the limits. A year that isn't needed for the
+/// minutes of `reach` has no waves.
 pub fn years_of(
     alloc: Global,
     book: &SoundBook<'_>,

@@ -5,14 +5,14 @@ use Rattle.std.specs.Str.{bytes_eq}
 use Rattle.std.proofs.lemmas.List.{drop_all, drop_more}
 use Rattle.csv.specs.Records.{field_at}
 
--- a field that may not be there
+-- a field that may be missing
 pub get_or-field_at : (fields : List (List ℕ)) (i : ℕ) → get_or fields i [] ≡ unwrap_or (field_at fields i) []
 unfolding field_at
 get_or-field_at [] i = refl
 get_or-field_at (f ∷ fs) zero = refl
 get_or-field_at (f ∷ fs) (suc i) = get_or-field_at fs i
 
--- the first field of what is left decides, or leaves it to those after it
+-- the first of the remaining fields decides, or leaves it to those after it
 pub left_step : (fs ns : List (List ℕ)) (i : ℕ) → i < length fs → i < length ns
     → pointwise bytes_eq (drop i fs) (drop i ns) ≡ bytes_eq (get_or fs i []) (get_or ns i []) && pointwise bytes_eq (drop (i + 1) fs) (drop (i + 1) ns)
 left_step fs ns i in_fields in_names = rw (drop_more fs i [] in_fields, drop_more ns i [] in_names) refl

@@ -1,4 +1,4 @@
--- What is opened to compute this crate's reading of a literal.
+-- The definitions to unfold to compute this crate's reading of a literal.
 use lib.Utf8.{encode}
 use Rattle.std.specs.Prelude.{⊤}
 use Rattle.std.specs.Str.{chars, is_utf8}

@@ -1,4 +1,4 @@
--- The records that a reader has given of a text, and those of the whole text.
+-- The records that a reader has returned of a text, and those of the whole text.
 use Rattle.std.proofs.Common.{◌≡◌, ◌∙◌, ℕ, zero, suc, ◌+◌, ◌-◌, ◌<◌, ◌≤◌, Bool, true, false, cond, List, [], ◌∷◌, ◌++◌, length, Option, Some, None, ◌⊎◌, inl, inr, refl, sym, ap, arith}
 use Rattle.std.proofs.lemmas.List.{append-nil}
 use Rattle.csv.specs.Machine.{Read, next_record, step, ends_at_end, is_end, fields_after, field_after}
@@ -9,7 +9,7 @@ use Rattle.csv.specs.declared.parser.State.TheVariants as st
 use Rattle.csv.proofs.ReadFacts.{rows-end, rows-more}
 use Rattle.station_table.specs.Workings.Records.{Records, held, HasGiven}
 
--- ---- how many records a text can have
+-- ---- a bound on the number of records of a text
 
 if_some : (b : Bool) (x p : Read) → cond b (Some x) None ≡ Some p → x ≡ p
 if_some true x p e = cc
@@ -26,7 +26,7 @@ ends_with_text cfg s fields field p e =
     let is = if_some (ends_at_end s) (fields ++ (field ∷ []), st.StartRecord, []) p e in
     (sym (ap (λ (q : Read). q.1) is), sym (ap (λ (q : Read). q.2) is))
 
--- a record takes a byte, where there is one
+-- a record has at least one byte, if there is one
 takes_byte : (cfg : Config) (s : State) (fields : List (List ℕ)) (field xs : List ℕ) (p : Read)
     → next_record cfg s fields field xs ≡ Some p → length p.2 ≤ length xs - 1
 unfolding next_record
@@ -46,7 +46,7 @@ none_at_end cfg s s2 xs ys [] start empty h = (refl, ap length (sym h.1 ∙ empt
 none_at_end cfg s s2 xs ys (r ∷ rows) start empty h =
     let none : next_record cfg st.StartRecord [] [] [] ≡ Some h.0 = rw (start, empty) at h.1 in absurd (cc none)
 
--- as many as the text has bytes, and one more
+-- at most as many records as bytes, and one more
 pub few_records : (cfg : Config) (s s2 : State) (xs ys : List ℕ) (rows : List (List (List ℕ)))
     → Reached cfg s xs rows s2 ys → length rows + length ys ≤ length xs + 1
 unfolding Reached
@@ -114,7 +114,7 @@ pub given_all : (text : List ℕ) (rows : List (List (List ℕ))) (a b : Records
 given_all text rows a b h read =
     records_all default_config a.rdr.state (strip_bom text) h.rest rows h.reached (rows-end held a.rdr b.rdr [] default_config h.rest h.config h.source read)
 
--- some that may follow
+-- some records may follow
 pub given_front : (text : List ℕ) (rows : List (List (List ℕ))) (a : Records) → HasGiven text rows a
     → (more : List (List (List ℕ))) × (records default_config (strip_bom text) ≡ rows ++ more)
 given_front text rows a h = (_, records_begin default_config a.rdr.state (strip_bom text) h.rest rows h.reached)

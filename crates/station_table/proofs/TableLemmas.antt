@@ -13,12 +13,12 @@ use Rattle.station_table.specs.Table.{at_row, header_of, offsets_of, rows_from, 
 use Rattle.station_table.specs.Workings.Records.{Records, HasGiven, GivesHeader}
 use Rattle.station_table.proofs.RecordLemmas.{given_front}
 
--- both steps went well
+-- both steps succeeded
 bind_ok : {A B E : Type 0} (r : Result A E) (next : A → Result B E) (y : B) → (r >>= next) ≡ Ok y → (x : A) × (r ≡ Ok x) × (next x ≡ Ok y)
 bind_ok (Ok x) next y e = (x, refl, e)
 bind_ok (Err fault) next y e = absurd (cc e)
 
--- what is given after the first row
+-- the result after the first row
 abbrev with_first : Header → ℕ → List (List (List ℕ)) → Offsets → Result (List Offsets) OffsetFault
 with_first header row more first = rows_from header (row + 1) more >>= λ rest. Ok (first ∷ rest)
 
@@ -82,7 +82,7 @@ pub whole_table : (text : List ℕ) (names : List (List ℕ)) (header : Header) 
 unfolding table_of table_in
 whole_table text names header seen table is first rows = rw (is, first) rows
 
--- what is certain isn't excused
+-- an error that is certain isn't excused
 pub certain : (expected : Result (List Offsets) OffsetFault) (fault : OffsetFault) → expected ≡ Err fault → Excused (wants_memory fault) expected fault
 certain expected NoMemory is = tt
 certain expected (At row why) is = is
@@ -94,7 +94,7 @@ header_given text names records (Err fault) given is =
     let more = given_front text (names ∷ []) records given in
     certain (table_of text) fault (bad_header text names more.0 fault more.1 (sym is))
 
--- what a row's fault says of the table's
+-- a row's fault determines the table's
 at_row_err : {A : Type 0} (row : ℕ) (r : Result A OffsetWhy) (fault : OffsetFault) → at_row row r ≡ Err fault → (why : OffsetWhy) × (r ≡ Err why) × (At row why ≡ fault)
 at_row_err row (Ok x) fault e = absurd (cc e)
 at_row_err row (Err why) fault e = (why, refl, cc)

@@ -1,4 +1,4 @@
--- The fields of an offset table, and what each of them stands for (this project).
+-- The fields of an offset table, and their values (this project).
 use Rattle.std.specs.Prelude.{ℕ, ◌+◌, ◌*◌, ◌-◌, ◌==◌, nat_le, ℤ, pos, negsuc, int_lt, ◌&&◌, ◌||◌, if◌then◌else◌, List, [], ◌∷◌, length, Option, Some, None, Result, Ok, Err}
 use Rattle.std.specs.Char.{is_ascii_digit}
 use Rattle.std.specs.List.{list_all}
@@ -12,26 +12,28 @@ use Rattle.decimal_text.specs.declared.fault.DecimalFault.TheVariants as decimal
 use Rattle.station_table.specs.declared.fault.OffsetWhy.{OffsetWhy}
 use Rattle.station_table.specs.declared.fault.OffsetWhy.TheVariants.{BadNumber, TooFine, OutOfRange, NotUtf8, BadName}
 
--- the text of a field, whose bytes have to be UTF-8
+-- the text of a field, whose bytes must be UTF-8
 unfoldable pub text_of : List ℕ → Result (List ℕ) OffsetWhy
 text_of field = if is_utf8 field then Ok field else Err NotUtf8
 
 -- ---- names
 
+-- a text that is a name: from 1 to 400 bytes, none of them a control byte
 unfoldable pub name_in : List ℕ → Result (List ℕ) OffsetWhy
 name_in text =
     if nat_le 1 (length text) && nat_le (length text) 400 && list_all is_name_byte text then Ok text else Err BadName
 
+-- the name in a field
 unfoldable pub name_of : List ℕ → Result (List ℕ) OffsetWhy
 name_of field = text_of field >>= name_in
 
 -- ---- numbers
 
--- an empty field has the usual value, and any other one is read by the rule
+-- an empty field has the value `usual`, and any other one is read by the rule
 unfoldable pub value_of : ℤ → (List ℕ → Result ℤ OffsetWhy) → List ℕ → Result ℤ OffsetWhy
 value_of usual rule field = text_of field >>= λ text. if length text == 0 then Ok usual else rule text
 
--- from least to most, both included
+-- z, if it is from `least` to `most`, both included
 unfoldable pub within : ℤ → ℤ → ℤ → Result ℤ OffsetWhy
 within least most z = if int_lt z least || int_lt most z then Err OutOfRange else Ok z
 
@@ -40,12 +42,13 @@ abbrev pub pair_of : ℕ → ℕ → Option ℕ
 pair_of tens ones =
     if is_ascii_digit tens && is_ascii_digit ones then Some (10 * (tens - 48) + (ones - 48)) else None
 
+-- an hour and a minute below 60, in minutes
 abbrev pub minutes_of : Option ℕ → Option ℕ → Option ℕ
 minutes_of None minute = None
 minutes_of (Some hour) None = None
 minutes_of (Some hour) (Some minute) = if nat_le minute 59 then Some (60 * hour + minute) else None
 
--- the minutes of `H:MM` or `HH:MM`, with a colon (58) and a minute below 60
+-- the minutes of `H:MM` or `HH:MM`, with a colon (58) and minutes below 60
 unfoldable pub clock_of : List ℕ → Option ℕ
 clock_of (h ∷ colon ∷ m ∷ n ∷ []) = if colon == 58 then minutes_of (pair_of 48 h) (pair_of m n) else None
 clock_of (g ∷ h ∷ colon ∷ m ∷ n ∷ []) = if colon == 58 then minutes_of (pair_of g h) (pair_of m n) else None
@@ -55,32 +58,33 @@ abbrev pub or_bad_number : Option ℕ → Result ℕ OffsetWhy
 or_bad_number None = Err BadNumber
 or_bad_number (Some n) = Ok n
 
--- minutes with a sign, at most a day either way
+-- the minutes of a clock time with a sign, at most a day either way
 unfoldable pub minutes_in : List ℕ → Result ℤ OffsetWhy
 minutes_in text =
     or_bad_number (clock_of (without_leading_sign text))
     >>= λ n. within (negsuc 1439) (pos 1440) (signed (starts_with_minus text) n)
 
--- where there is no decimal: a bad form and too many digits come before too many places
+-- the decimal, or its fault: a bad form and too many digits are reported before too many places
 abbrev pub decimal_from : Result ℤ DecimalFault → Result ℤ OffsetWhy
 decimal_from (Ok n) = Ok n
 decimal_from (Err decimals.TooFine) = Err TooFine
 decimal_from (Err decimals.BadForm) = Err BadNumber
 decimal_from (Err decimals.TooLong) = Err BadNumber
 
+-- a decimal in millionths, from `least` to `most`
 unfoldable pub millionths_in : ℤ → ℤ → List ℕ → Result ℤ OffsetWhy
 millionths_in least most text = decimal_from (read_of text 6) >>= within least most
 
 -- ---- the columns
 
--- minutes later, 0 where the field is empty
+-- the minutes added to a time: 0 for an empty field
 unfoldable pub add_of : List ℕ → Result ℤ OffsetWhy
 add_of field = value_of (pos 0) minutes_in field
 
--- a factor, in millionths: 1 where the field is empty, and at most 100
+-- the factor on a level, in millionths: 1 for an empty field, and at most 100
 unfoldable pub times_of : List ℕ → Result ℤ OffsetWhy
 times_of field = value_of (pos 1000000) (millionths_in (pos 1) (pos 100000000)) field
 
--- what is added to a level, in millionths: 0 where the field is empty, and at most 10,000 either way
+-- the level added to a level, in millionths: 0 for an empty field, and at most 10,000 either way
 unfoldable pub plus_of : List ℕ → Result ℤ OffsetWhy
 plus_of field = value_of (pos 0) (millionths_in (negsuc 9999999999) (pos 10000000000)) field

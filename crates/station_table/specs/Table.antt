@@ -1,4 +1,5 @@
--- The offset table of a CSV file: its header, and a station in each row after it (this project; RFC 4180 for the records).
+-- The offset table of a CSV file: its header, and a station in each row after it (this project; RFC 4180
+-- for the records).
 use Rattle.std.specs.Prelude.{ℕ, ◌+◌, ◌==◌, Bool, true, false, if◌then◌else◌, List, [], ◌∷◌, ◌++◌, length, Option, Some, None, Result, Ok, Err, codes, slice_index_or}
 use Rattle.std.specs.Cmp.Lexicographic.{pointwise}
 use Rattle.std.specs.Str.{bytes_eq}
@@ -16,19 +17,22 @@ use Rattle.station_table.specs.Fields.{name_of, add_of, times_of, plus_of}
 
 -- ---- the header
 
+-- the columns of each table
 abbrev pub plain_columns : List (List ℕ)
 plain_columns =
     codes "name" ∷ codes "reference" ∷ codes "high_add" ∷ codes "low_add"
     ∷ codes "high_times" ∷ codes "low_times" ∷ codes "high_plus" ∷ codes "low_plus" ∷ []
 
--- the columns under each header
+-- the columns of each header
 abbrev pub columns_of : Header → List (List ℕ)
 columns_of Plain = plain_columns
 columns_of WithSlack = plain_columns ++ codes "flood_add" ∷ codes "ebb_add" ∷ []
 
+-- the fields are the names of the header's columns
 abbrev pub has_columns : Header → List (List ℕ) → Bool
 has_columns header fields = pointwise bytes_eq fields (columns_of header)
 
+-- the header that a record is
 unfoldable pub header_of : List (List ℕ) → Result Header OffsetFault
 header_of fields =
     if has_columns Plain fields then Ok Plain
@@ -44,12 +48,13 @@ field_of fields column = slice_index_or fields column []
 abbrev pub is_empty : List ℕ → Bool
 is_empty field = length field == 0
 
--- both times of slack water, or neither
+-- both times of slack water, or none if both fields are empty
 abbrev pub both_or_none : Bool → Bool → Slack → Result (Option Slack) OffsetWhy
 both_or_none true true slack = Ok None
 both_or_none false false slack = Ok (Some slack)
 both_or_none _ _ slack = Err HalfSlack
 
+-- the times of slack water of a row
 unfoldable pub slack_of : Header → List (List ℕ) → Result (Option Slack) OffsetWhy
 slack_of Plain fields = Ok None
 slack_of WithSlack fields = do
@@ -57,10 +62,11 @@ slack_of WithSlack fields = do
   ebb_add ← add_of (field_of fields 9)
   both_or_none (is_empty (field_of fields 8)) (is_empty (field_of fields 9)) (record { flood_add = flood_add; ebb_add = ebb_add })
 
+-- the number of fields is that of the columns
 abbrev pub counted : Header → List (List ℕ) → Result (Unit {0}) OffsetWhy
 counted header fields = if length fields == length (columns_of header) then Ok tt else Err FieldCount
 
--- the count of fields is tested first, then each field from left to right
+-- the station of a row: the number of fields is tested first, then each field from left to right
 unfoldable pub offsets_of : Header → List (List ℕ) → Result Offsets OffsetWhy
 offsets_of header fields = do
   all ← counted header fields
@@ -83,12 +89,12 @@ offsets_of header fields = do
 
 -- ---- the table
 
--- a row's fault with its number
+-- a row's value, or its fault with the row's number
 abbrev pub at_row : {A : Type 0} → ℕ → Result A OffsetWhy → Result A OffsetFault
 at_row row (Ok value) = Ok value
 at_row row (Err why) = Err (At row why)
 
--- the rows from that number on, or the first that breaks a rule
+-- the stations of the rows from number `row` on, or the first fault
 unfoldable pub rows_from : Header → ℕ → List (List (List ℕ)) → Result (List Offsets) OffsetFault
 rows_from header row [] = Ok []
 rows_from header row (fields ∷ more) = do
@@ -96,7 +102,7 @@ rows_from header row (fields ∷ more) = do
   rest ← rows_from header (row + 1) more
   Ok (first ∷ rest)
 
--- the first record is the header
+-- the table of the records, of which the first is the header
 unfoldable pub table_in : List (List (List ℕ)) → Result (List Offsets) OffsetFault
 table_in [] = Err (At 1 BadHeader)
 table_in (names ∷ rows) = header_of names >>= λ header. rows_from header 2 rows

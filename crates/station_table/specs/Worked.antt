@@ -1,4 +1,4 @@
--- A small table, what it holds, and its faults where one field is another (this project).
+-- A small table, its stations, and the faults of changed rows (this project).
 use Rattle.std.specs.Prelude.{ℕ, pos, negsuc, List, [], ◌∷◌, ◌++◌, codes, Some, None, slice_set}
 use Rattle.station_table.specs.declared.fault.OffsetWhy.{OffsetWhy}
 use Rattle.station_table.specs.declared.fault.OffsetWhy.TheVariants.{BadNumber, TooFine, OutOfRange, NotUtf8, BadName, HalfSlack}
@@ -6,27 +6,33 @@ use Rattle.station_table.specs.declared.offset.Offset.{Offset}
 use Rattle.station_table.specs.declared.offsets.Offsets.{Offsets}
 use Rattle.station_table.specs.Bases.{usual}
 
+-- the header without times of slack water
 abbrev pub plain_header : List ℕ
 plain_header = codes "name,reference,high_add,low_add,high_times,low_times,high_plus,low_plus"
 
+-- the header with times of slack water
 abbrev pub slack_header : List ℕ
 slack_header = plain_header ++ codes ",flood_add,ebb_add"
 
--- two stations of the pier, and one of a place that isn't there
+-- a file with two stations that follow the pier, and one whose reference the book doesn't have
 abbrev pub dock_file : List ℕ
 dock_file =
     plain_header ++ codes "\nDock,Pier,0:30,-0:10,1.1,0.9,0.1,0\nOuter,Pier,0:30,0:30,2,2,0.5,0.5\n"
     ++ codes "Lost,Nowhere,0:00,0:00,1,1,0,0\n"
 
+-- the offset of the dock's highs
 abbrev pub dock_high : Offset
 dock_high = record { add = pos 30; times = pos 1100000; plus = pos 100000 }
 
+-- the offset of the dock's lows
 abbrev pub dock_low : Offset
 dock_low = record { add = negsuc 9; times = pos 900000; plus = pos 0 }
 
+-- the offset of the outer station's highs and lows
 abbrev pub outer : Offset
 outer = record { add = pos 30; times = pos 2000000; plus = pos 500000 }
 
+-- the stations of that file
 abbrev pub dock_rows : List Offsets
 dock_rows =
     record { name = codes "Dock"; reference = codes "Pier"; high = dock_high; low = dock_low; slack = None }
@@ -34,12 +40,13 @@ dock_rows =
     ∷ record { name = codes "Lost"; reference = codes "Nowhere"; high = usual; low = usual; slack = None }
     ∷ []
 
--- a row whose slack waters have times of their own
+-- a row with times of slack water
 abbrev pub gate_fields : List (List ℕ)
 gate_fields =
     codes "Gate" ∷ codes "Pier" ∷ codes "0:30" ∷ codes "-0:10" ∷ codes "1.1" ∷ codes "0.9" ∷ codes "0.1" ∷ codes "0"
     ∷ codes "0:05" ∷ codes "-0:05" ∷ []
 
+-- the station of that row
 abbrev pub gate_row : Offsets
 gate_row = record {
   name = codes "Gate";
@@ -49,7 +56,7 @@ gate_row = record {
   slack = Some (record { flood_add = pos 5; ebb_add = negsuc 4 });
 }
 
--- another text for a field, and the reason that comes of it
+-- another text for one field, and the fault of the changed row
 pub record Change : Type 0 where
   pub column : ℕ
   pub text : List ℕ
@@ -58,9 +65,11 @@ pub record Change : Type 0 where
 abbrev pub change : ℕ → List ℕ → OffsetWhy → Change
 change column text why = record { column = column; text = text; why = why }
 
+-- the row with one field changed
 abbrev pub gate_with : Change → List (List ℕ)
 gate_with c = slice_set gate_fields c.column c.text
 
+-- a changed field for each fault of a row
 abbrev pub changes : List Change
 changes =
     change 0 [] BadName

@@ -1,18 +1,18 @@
-//! What the waters of a name are made of.
+//! The basis of a station: a station of the book, and offsets.
 
 use crate::offset::{Offset, Slack};
 
-/// A station of a book, and the offsets from it. A reference station has the usual ones: nothing
-/// added, times 1,000,000.
+/// A station of a book, with the offsets of another station from it. A reference station has the offsets
+/// that change nothing: nothing added, times 1,000,000 millionths.
 #[derive(Clone, Copy, Debug, PartialEq, Eq)]
 pub struct Basis {
-    /// The place of the station in the book's list.
+    /// The index of the station in the book's list.
     pub station: u32,
-    /// The place of the row in the table's list. `None` for a reference station.
+    /// The index of the row in the table's list. `None` for a reference station.
     pub row: Option<u32>,
     pub high: Offset,
     pub low: Offset,
-    /// `None` where the slack waters have no times of their own.
+    /// `None` if the table has no times of slack water for the station.
     pub slack: Option<Slack>,
 }
 
@@ -20,7 +20,7 @@ impl Basis {
     ghost use Rattle.std.specs.Prelude.{◌≡◌, ◌↔◌, None, IsTrue};
     ghost use Rattle.station_table.specs.Bases.{is_equal, is_plain, usual};
 
-    /// Whether highs and lows have the same offsets.
+    /// Returns true if highs and lows have the same offsets.
     pub fn equal(&self) -> bool
         ensures exact { result ≡ is_equal self.now }
         ensures same { IsTrue result ↔ (self.now.high ≡ self.now.low) }
@@ -28,8 +28,8 @@ impl Basis {
         self.high == self.low
     }
 
-    /// Whether each event is the reference's: the offsets are the usual ones, and no slack water has
-    /// a time of its own.
+    /// Returns true if each event is the reference's: the offsets change nothing, and there are no times
+    /// of slack water.
     pub fn plain(&self) -> bool
         ensures exact { result ≡ is_plain self.now }
     {

@@ -1,9 +1,9 @@
-//! Hours and minutes.
+//! Clock times of hours and minutes.
 
 ghost use Rattle.std.specs.Prelude.{◌≡◌, ◌≤◌, ◌==◌, None, IfSome, if◌then◌else◌};
 ghost use Rattle.station_table.specs.Fields.{pair_of, minutes_of, clock_of};
 
-/// The minutes of one or two digits, a colon and two digits below 60.
+/// Returns the minutes of `H:MM` or `HH:MM`, with minutes below 60, or `None` for any other text.
 #[tactic(auto, unfolding(crate::specs::Fields::clock_of))]
 pub fn clock(text: &[u8]) -> Option<u32>
     ensures exact { result ≡ clock_of text.now }
@@ -34,7 +34,7 @@ fn minutes(hour: Option<u32>, colon: u8, minute: Option<u32>) -> Option<u32>
     Some(60 * hour + minute)
 }
 
-/// The number of two digits.
+/// Returns the number of two digits.
 fn pair(tens: u8, ones: u8) -> Option<u32>
     ensures exact { result ≡ pair_of tens ones }
     ensures small { IfSome result (λ n. n ≤ 99) }

@@ -1,8 +1,8 @@
-//! What can be wrong with a table.
+//! The faults of a table of offsets.
 
 use std::alloc::AllocError;
 
-/// What is wrong with a row. The file format numbers these reasons, from 1.
+/// The fault of a row. The file format numbers these reasons from 1 (docs/FORMATS.md).
 #[derive(Clone, Copy, Debug, PartialEq, Eq)]
 pub enum OffsetWhy {
     BadHeader,
@@ -19,7 +19,7 @@ impl OffsetWhy {
     ghost use Rattle.std.specs.Prelude.{◌≡◌};
     ghost use Rattle.station_table.specs.Reasons.{number_of, text_of};
 
-    /// The reason's number, from 1 to 8.
+    /// Returns the number of the reason, from 1 to 8.
     pub fn number(self) -> u32
         ensures { result ≡ number_of self }
     {
@@ -35,7 +35,7 @@ impl OffsetWhy {
         }
     }
 
-    /// The reason in words.
+    /// Returns the text of the reason, as it is printed.
     pub fn text(self) -> &'static str
         ensures { result.now ≡ text_of self }
     {
@@ -52,13 +52,13 @@ impl OffsetWhy {
     }
 }
 
-/// Why a file has no table.
+/// The reason why a file has no table.
 #[derive(Clone, Copy, Debug, PartialEq, Eq)]
 pub enum OffsetFault {
-    /// There was not enough memory.
+    /// Out of memory.
     NoMemory,
     /// The first row that breaks a rule, and the first reason. Rows are counted from 1, which is the
-    /// header's; where the file has none, it is at fault.
+    /// header's; it is also the one for a file without a header.
     At { row: u32, why: OffsetWhy },
 }
 

@@ -12,7 +12,7 @@ use crate::offset::Offset;
 use decimal_text::{DecimalFault, are_name_bytes, read, split_sign};
 use std::str::from_utf8;
 
-/// The text of a field.
+/// Returns the text of `field`, if its bytes are UTF-8.
 #[tactic(auto, unfolding(crate::specs::Fields::text_of))]
 fn text(field: &[u8]) -> Result<&str, OffsetWhy>
     ensures exact { Reads (λ t. t.now) (text_of field.now) result }
@@ -25,7 +25,7 @@ fn text(field: &[u8]) -> Result<&str, OffsetWhy>
     }
 }
 
-/// The name in a field.
+/// Returns the name in `field`: from 1 to 400 bytes of UTF-8 without control bytes.
 #[tactic(auto, unfolding(crate::specs::Fields::name_of, crate::specs::Fields::name_in))]
 pub fn name(field: &[u8]) -> Result<&str, OffsetWhy>
     ensures exact { Reads (λ t. t.now) (name_of field.now) result }
@@ -49,7 +49,7 @@ fn within(least: i64, most: i64, value: i128) -> Result<i64, OffsetWhy>
     Ok(value as i64)
 }
 
-/// The minutes of a clock with a sign.
+/// Returns the minutes of a clock time with an optional sign, at most a day.
 #[tactic(auto, unfolding(crate::specs::Fields::minutes_in))]
 fn minutes(text: &[u8]) -> Result<i32, OffsetWhy>
     ensures exact { result ≡ minutes_in text.now }
@@ -66,7 +66,7 @@ fn minutes(text: &[u8]) -> Result<i32, OffsetWhy>
     }
 }
 
-/// The millionths of a decimal.
+/// Returns the decimal `text` in millionths, from `least` to `most`.
 #[tactic(auto, unfolding(crate::specs::Fields::millionths_in))]
 fn millionths(least: i64, most: i64, text: &[u8]) -> Result<i64, OffsetWhy>
     ensures exact { result ≡ millionths_in least most text.now }
@@ -80,7 +80,7 @@ fn millionths(least: i64, most: i64, text: &[u8]) -> Result<i64, OffsetWhy>
     }
 }
 
-/// How many minutes later, from -1440 to 1440.
+/// Returns the minutes in `field` that are added to a time, from -1440 to 1440: 0 for an empty field.
 #[tactic(auto, unfolding(crate::specs::Fields::add_of, crate::specs::Fields::value_of))]
 pub fn add(field: &[u8]) -> Result<i32, OffsetWhy>
     ensures exact { result ≡ add_of field.now }
@@ -93,7 +93,7 @@ pub fn add(field: &[u8]) -> Result<i32, OffsetWhy>
     minutes(field)
 }
 
-/// A factor in millionths, from 1 to 100,000,000.
+/// Returns the factor in `field`, in millionths, from 1 to 100,000,000: 1,000,000 for an empty field.
 #[tactic(auto, unfolding(crate::specs::Fields::times_of, crate::specs::Fields::value_of))]
 pub fn times(field: &[u8]) -> Result<i64, OffsetWhy>
     ensures exact { result ≡ times_of field.now }
@@ -106,7 +106,8 @@ pub fn times(field: &[u8]) -> Result<i64, OffsetWhy>
     millionths(1, 100_000_000, field)
 }
 
-/// What is added to a level in millionths, from -10,000,000,000 to 10,000,000,000.
+/// Returns the level in `field` that is added to a level, in millionths, from -10,000,000,000 to
+/// 10,000,000,000: 0 for an empty field.
 #[tactic(auto, unfolding(crate::specs::Fields::plus_of, crate::specs::Fields::value_of))]
 pub fn plus(field: &[u8]) -> Result<i64, OffsetWhy>
     ensures exact { result ≡ plus_of field.now }

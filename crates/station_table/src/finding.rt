@@ -1,4 +1,4 @@
-//! The basis of a name.
+//! Finding the basis of a station by its name.
 
 ghost use Rattle.std.specs.Prelude.{◌≡◌, ◌<◌, IfOk, IfErr, IfSome, length};
 ghost use Rattle.harmonics_text.specs.Books.{IsBook};
@@ -12,17 +12,36 @@ use crate::table::OffsetTable;
 use decimal_text::Text;
 use harmonics_text::{Book, SoundBook};
 
-/// Why a name has no basis.
+/// The reason why a name has no basis.
 #[derive(Clone, Copy, Debug, PartialEq, Eq)]
 pub enum FindFault {
     /// Neither the book nor the table has the name.
     NoStation,
-    /// The book doesn't have the reference of the name's row, by its place in the table's list.
+    /// The book doesn't have the reference station of row `row`, an index of the table's list.
     NoReference { row: u32 },
 }
 
-/// The basis of a name: the first station of that name in the book, else the first row of that name
-/// in the table, over the first station of its reference's name. It takes no memory.
+/// Returns the basis of the station `name`: the first station `name` of the book; else the first row
+/// `name` of the table, over the first station of the book with its reference's name. It doesn't
+/// allocate.
+///
+/// # Errors
+/// [`FindFault::NoStation`] if neither the book nor the table has `name`; [`FindFault::NoReference`] if
+/// the book doesn't have the reference of the row.
+///
+/// # Examples
+/// ```
+/// let text =
+///     b"1\nS2 30\n1999\n1\nS2\n0\n*END*\n1\nS2\n1\n*END*\nPier\n0:00 :UTC\n0 feet\nS2 1 0\n";
+/// let book = read_book(rt.alloc(), text)?;
+/// let table = OffsetTable::new(rt.alloc());
+/// let pier = Text::from_str(rt.alloc(), "Pier")?;
+/// let basis = find(&book, &table, &pier);
+/// assert_eq!(rt; basis.map(|basis| basis.station), Ok(0));
+/// let quay = Text::from_str(rt.alloc(), "Quay")?;
+/// let fault = find(&book, &table, &quay).err();
+/// assert_eq!(rt; fault, Some(FindFault::NoStation));
+/// ```
 #[tactic(auto, unfolding(crate::specs::Bases::basis_of))]
 pub fn find(book: &Book, table: &OffsetTable, name: &Text) -> Result<Basis, FindFault>
     requires book { IsBook book.now }
@@ -42,7 +61,7 @@ pub fn find(book: &Book, table: &OffsetTable, name: &Text) -> Result<Basis, Find
     }
 }
 
-/// The same by the rows of the table alone.
+/// Returns the basis of the first row `name` of the table.
 #[tactic(auto, unfolding(crate::specs::Bases::basis_in))]
 fn find_row(book: &SoundBook<'_>, table: &OffsetTable, name: &Text) -> Result<Basis, FindFault>
     ensures exact { result ≡ basis_in book.now table.now name.now }
@@ -56,7 +75,7 @@ fn find_row(book: &SoundBook<'_>, table: &OffsetTable, name: &Text) -> Result<Ba
     }
 }
 
-/// The basis of a row, by its place.
+/// Returns the basis of `offsets`, the row with index `row`.
 #[tactic(auto, unfolding(crate::specs::Bases::basis_over))]
 fn basis_over(book: &SoundBook<'_>, row: u32, offsets: &Offsets) -> Result<Basis, FindFault>
     requires sound { IsOffsets offsets.now }
@@ -76,7 +95,7 @@ fn basis_over(book: &SoundBook<'_>, row: u32, offsets: &Offsets) -> Result<Basis
     }
 }
 
-/// The place of the first station of that name.
+/// Returns the index of the first station `name`.
 fn station_place(book: &Book, name: &Text) -> Option<usize>
     ensures exact { result ≡ station_at book.now name.now }
     ensures place { IfSome result (λ place. place < length book.now.stations) }
@@ -87,7 +106,7 @@ fn station_place(book: &Book, name: &Text) -> Option<usize>
         .position(|station| station.name.as_str() == name.as_str())
 }
 
-/// The place of the first row of that name.
+/// Returns the index of the first row `name`.
 fn row_place(rows: &[Offsets], name: &Text) -> Option<usize>
     ensures exact { result ≡ row_at rows.now name.now }
     ensures place { IfSome result (λ place. place < length rows.now) }

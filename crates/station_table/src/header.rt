@@ -9,12 +9,12 @@ ghost use Rattle.station_table.specs.Table.{columns_of, has_columns, header_of, 
 use crate::fault::{OffsetFault, OffsetWhy};
 use csv::ByteRecord;
 
-/// What a table has in its rows.
+/// The columns of a table.
 #[derive(Clone, Copy)]
 pub enum Header {
-    /// Offsets for highs and lows.
+    /// Offsets of highs and lows.
     Plain,
-    /// The times of slack water too.
+    /// Offsets of highs and lows, and times of slack water.
     WithSlack,
 }
 
@@ -32,7 +32,7 @@ static COLUMNS: [&str; 10] = [
 ];
 
 impl Header {
-    /// How many columns there are.
+    /// Returns the number of columns.
     pub fn count(self) -> usize
         ensures { result ≡ length (columns_of self) }
     {
@@ -43,7 +43,7 @@ impl Header {
     }
 }
 
-/// The field in a column, counted from 0, or no byte where there is none.
+/// Returns the field in `column`, counted from 0, or no bytes if there is none.
 pub fn field(fields: &ByteRecord, column: usize) -> &[u8]
     ensures { result.now ≡ field_of (fields_of fields.now) column }
 {
@@ -53,7 +53,7 @@ pub fn field(fields: &ByteRecord, column: usize) -> &[u8]
     }
 }
 
-/// Whether the fields of a record are those names.
+/// Returns true if the fields of a record are exactly `names`.
 fn has_names(fields: &ByteRecord, names: &[&str]) -> bool
     ensures { result ≡ pointwise bytes_eq (fields_of fields.now) (map (λ name. name.now) names.now) }
 {
@@ -77,7 +77,10 @@ fn has_columns(fields: &ByteRecord, header: Header) -> bool
     }
 }
 
-/// Which header a table's first record is.
+/// Returns the header that a table's first record is.
+///
+/// # Errors
+/// [`OffsetFault::At`] row 1 if it is no header.
 #[tactic(auto, unfolding(crate::specs::Table::header_of))]
 pub fn header_of(fields: &ByteRecord) -> Result<Header, OffsetFault>
     ensures { result ≡ header_of (fields_of fields.now) }
@@ -91,7 +94,7 @@ pub fn header_of(fields: &ByteRecord) -> Result<Header, OffsetFault>
     }
 }
 
-/// What is wrong with a file whose first record is no header.
+/// The fault of a file whose first record is no header.
 pub const NO_HEADER: OffsetFault = OffsetFault::At {
     row: 1,
     why: OffsetWhy::BadHeader,

@@ -1,8 +1,8 @@
-//! Subordinate stations: a table of how their waters differ from those of a reference station.
+//! Subordinate stations: a table of their offsets from reference stations.
 //!
-//! [`read_offsets`] reads an [`OffsetTable`] from a CSV file: a row for each station, with what is
-//! added to the times of its high and low waters and how their levels are scaled. [`find`] gives
-//! the [`Basis`] of a name: its station of a book, and the offsets from it.
+//! [`read_offsets`] reads an [`OffsetTable`] from a CSV file: a row for each station, with the minutes
+//! that are added to the times of its high and low waters, and the factors and levels that change their
+//! levels. [`find`] returns the [`Basis`] of a name: its station of a book, and the offsets from it.
 #![tactic(auto)]
 
 mod basis;

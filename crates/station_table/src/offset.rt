@@ -1,19 +1,18 @@
-//! How a station's waters differ from its reference's.
+//! Offsets of a station's events from those of its reference.
 
-/// What makes a station's high or low waters of its reference's.
+/// The change from a reference's high or low waters to a station's.
 #[derive(Clone, Copy, Debug, PartialEq, Eq)]
 pub struct Offset {
-    /// How many minutes later they come, from -1440 to 1440.
+    /// The minutes added to their times, from -1440 to 1440.
     pub add: i32,
-    /// The factor on their level, in millionths, from 1 to 100,000,000.
+    /// The factor on their levels, in millionths, from 1 to 100,000,000.
     pub times: i64,
-    /// What is then added to the level, in millionths of the unit, from -10,000,000,000 to
-    /// 10,000,000,000.
+    /// The level added after that, in millionths of the unit, from -10,000,000,000 to 10,000,000,000.
     pub plus: i64,
 }
 
 impl Offset {
-    /// What leaves each event as it is.
+    /// The offset that changes nothing.
     pub const USUAL: Offset = Offset {
         add: 0,
         times: 1_000_000,
@@ -21,7 +20,7 @@ impl Offset {
     };
 }
 
-/// How many minutes later a station's slack waters come, each from -1440 to 1440.
+/// The minutes added to the times of a station's slack waters, each from -1440 to 1440.
 #[derive(Clone, Copy, Debug, PartialEq, Eq)]
 pub struct Slack {
     pub flood_add: i32,

@@ -3,15 +3,15 @@
 use crate::offset::{Offset, Slack};
 use decimal_text::Text;
 
-/// A station that follows a reference station.
+/// A subordinate station: its reference and its offsets.
 #[derive(Debug, Drop)]
 pub struct Offsets {
-    /// From 1 to 400 bytes.
+    /// The name, from 1 to 400 bytes.
     pub name: Text,
-    /// The name of its reference station, from 1 to 400 bytes.
+    /// The name of the reference station, from 1 to 400 bytes.
     pub reference: Text,
     pub high: Offset,
     pub low: Offset,
-    /// `None` where its slack waters have no times of their own.
+    /// `None` if the row has no times of slack water.
     pub slack: Option<Slack>,
 }

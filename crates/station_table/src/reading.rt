@@ -1,4 +1,4 @@
-//! Reading a table.
+//! Reading a table of offsets.
 
 ghost use Rattle.std.specs.Prelude.{◌≡◌, ◌≤◌, ℕ, List, [], length, IfOk};
 ghost use Rattle.decimal_text.specs.Expected.{Gives};
@@ -17,17 +17,28 @@ use crate::table::OffsetTable;
 use csv::{ByteRecord, ByteRecordsIntoIter, ReaderBuilder};
 use std::alloc::Global;
 
-/// The table of a CSV file, or its first fault.
+/// Reads a CSV file of offsets, and returns its table.
 ///
 /// The first record is the header:
-/// `name,reference,high_add,low_add,high_times,low_times,high_plus,low_plus`, after which
-/// `,flood_add,ebb_add` may stand. Each later one is a station. Names have 1 to 400 bytes of UTF-8
-/// without control bytes. Times to add are as `-0:10`, at most 24:00 either way; factors are decimals
-/// from 0.000001 to 100, and levels to add are decimals from -10000 to 10000. An empty one changes
-/// nothing, and both times of slack water or neither are empty.
+/// `name,reference,high_add,low_add,high_times,low_times,high_plus,low_plus`, which may be followed by
+/// `,flood_add,ebb_add`. Each later record is a station. Names have 1 to 400 bytes of UTF-8 without
+/// control bytes. Times to add are written as `-0:10`, at most 24:00 either way; factors are decimals
+/// from 0.000001 to 100, and levels to add are decimals from -10000 to 10000. An empty field changes
+/// nothing; both times of slack water are empty or neither is.
 ///
-/// The bytes, at most 400,000,000, are gone over once. `At` names the first row that breaks a rule,
-/// with the first reason; only want of memory may come in its place.
+/// `bytes`, at most 400,000,000, are read once.
+///
+/// # Errors
+/// [`OffsetFault::At`] with the first row that breaks a rule, and the first reason;
+/// [`OffsetFault::NoMemory`] if memory runs out.
+///
+/// # Examples
+/// ```
+/// let text = b"name,reference,high_add,low_add,high_times,low_times,high_plus,low_plus\n\
+///     Dock,Pier,0:30,-0:10,1.1,0.9,0.1,0\n";
+/// let table = read_offsets(rt.alloc(), text)?;
+/// assert_eq!(rt; table.as_slice().len(), 1);
+/// ```
 pub fn read_offsets(alloc: Global, bytes: &[u8]) -> Result<OffsetTable, OffsetFault>
     requires { length bytes.now ≤ MOST_BYTES }
     ensures { Gives wants_memory (table_of bytes.now) result }
@@ -37,7 +48,7 @@ pub fn read_offsets(alloc: Global, bytes: &[u8]) -> Result<OffsetTable, OffsetFa
     read_rows(alloc, &mut records, header)
 }
 
-/// The records of a text, of any lengths.
+/// Returns the records of the CSV text `bytes`, of any numbers of fields.
 fn records_of(alloc: Global, bytes: &[u8]) -> ByteRecordsIntoIter<&[u8]>
     ensures { HasGiven bytes.now [] result }
 {
@@ -48,7 +59,7 @@ fn records_of(alloc: Global, bytes: &[u8]) -> ByteRecordsIntoIter<&[u8]>
         .into_byte_records()
 }
 
-/// The header, which the first record is.
+/// Reads the header, the first record.
 fn read_header(records: &mut ByteRecordsIntoIter<&[u8]>) -> Result<Header, OffsetFault>
     ensures { (text : List ℕ) → HasGiven text [] records.old → GivesHeader text records.new result }
 {
@@ -59,7 +70,7 @@ fn read_header(records: &mut ByteRecordsIntoIter<&[u8]>) -> Result<Header, Offse
     }
 }
 
-/// The table of the rows that are left below the header.
+/// Reads the rows after the header.
 fn read_rows(
     alloc: Global,
     records: &mut ByteRecordsIntoIter<&[u8]>,
@@ -80,7 +91,7 @@ fn read_rows(
     Ok(table)
 }
 
-/// The offsets of a row, by its number.
+/// Returns the station of the row with number `row`.
 fn offsets_at(
     alloc: Global,
     row: u32,

@@ -16,7 +16,7 @@ use csv::ByteRecord;
 use decimal_text::Text;
 use std::alloc::{AllocError, Global};
 
-/// A row whose fields are all right. Its names are lent by the record.
+/// A row with valid fields. Its names are borrowed from the record.
 #[derive(Clone, Copy)]
 pub struct Row<'a> {
     pub name: &'a str,
@@ -26,7 +26,10 @@ pub struct Row<'a> {
     pub slack: Option<Slack>,
 }
 
-/// The row of a record, or the first reason why it is none.
+/// Returns the row of a record.
+///
+/// # Errors
+/// The first [`OffsetWhy`] from left to right.
 #[tactic(auto, unfolding(crate::specs::Table::offsets_of))]
 pub fn row_of(fields: &ByteRecord, header: Header) -> Result<Row<'_>, OffsetWhy>
     ensures exact { Reads offsets_in (offsets_of header (fields_of fields.now)) result }
@@ -61,7 +64,7 @@ pub fn row_of(fields: &ByteRecord, header: Header) -> Result<Row<'_>, OffsetWhy>
     })
 }
 
-/// The times of slack water, where the row has both.
+/// Returns the times of slack water, `None` if both fields are empty or the table has no such columns.
 #[tactic(auto, unfolding(crate::specs::Table::slack_of))]
 fn slack(fields: &ByteRecord, header: Header) -> Result<Option<Slack>, OffsetWhy>
     ensures exact { result ≡ slack_of header (fields_of fields.now) }
@@ -84,7 +87,7 @@ fn slack(fields: &ByteRecord, header: Header) -> Result<Option<Slack>, OffsetWhy
 }
 
 impl Row<'_> {
-    /// The row with names of its own.
+    /// Returns the row as a station that owns its names.
     pub fn to_offsets(&self, alloc: Global) -> Result<Offsets, AllocError>
         ensures { IfOk result (λ offsets. offsets ≡ offsets_in self.now) }
     {

@@ -1,4 +1,4 @@
-//! The list of a table's rows.
+//! The list of a table's stations.
 
 ghost use Rattle.std.specs.Prelude.{◌≡◌, ◌+◌, ◌^◌, ◌<◌, [], ◌∷◌, ◌++◌, length, OnOk};
 ghost use Rattle.station_table.specs.Offsets.{IsOffsets, IsTable};
@@ -7,8 +7,7 @@ use crate::offsets::Offsets;
 use std::alloc::{AllocError, Global};
 use std::marker::Model;
 
-/// Stations that follow reference stations, in the file's order: fewer than 2^32, whose fields lie
-/// in their ranges.
+/// Subordinate stations in the file's order: fewer than 2^32, with fields in their ranges.
 #[derive(Debug, Drop)]
 pub struct OffsetTable {
     rows: Vec<Offsets>,
@@ -28,7 +27,7 @@ impl Model for OffsetTable {
 }
 
 impl OffsetTable {
-    /// The table with no row. It takes no memory.
+    /// Returns the table without rows. It doesn't allocate.
     pub fn new(alloc: Global) -> OffsetTable
         ensures { result ≡ [] }
     {
@@ -37,7 +36,7 @@ impl OffsetTable {
         }
     }
 
-    /// Adds a row at the end.
+    /// Appends `row`.
     pub(crate) fn push(&mut self, row: Offsets) -> Result<(), AllocError>
         requires few { length self.old + 1 < 2 ^ 32 }
         requires sound { IsOffsets row }
@@ -47,14 +46,14 @@ impl OffsetTable {
         Ok(())
     }
 
-    /// Nothing: it tells a proof that the rows are few and in their ranges.
+    /// Does nothing; its contract shows a proof that the rows are fewer than 2^32 and in their ranges.
     pub fn known(&self)
         ensures { IsTable self.now }
     {
         let _rows = &self.rows;
     }
 
-    /// The rows, lent.
+    /// Borrows the rows.
     pub fn as_slice(&self) -> &[Offsets]
         ensures exact { result.now ≡ self.now }
         ensures sound { IsTable self.now }

@@ -1,4 +1,4 @@
-//! Tables and bases that were worked out by hand.
+//! Tables and bases that were computed by hand.
 
 ghost use Rattle.std.specs.Prelude.{◌≡◌, ◌++◌, [], ◌∷◌, codes, map, take, pos, negsuc, Ok, Err, Some, None};
 ghost use Rattle.harmonics_text.specs.Worked.{pier_book};
@@ -11,7 +11,7 @@ ghost use Rattle.station_table.specs.Fields.{add_of, times_of, plus_of, name_of}
 ghost use Rattle.station_table.specs.Table.{offsets_of, table_of};
 ghost use Rattle.station_table.specs.Worked.{plain_header, slack_header, dock_file, dock_rows, dock_high, dock_low, gate_fields, gate_row, gate_with, changes};
 
-/// What some fields stand for, empty ones among them.
+/// Proves the values of some fields, empty ones among them.
 #[tactic(auto, unfolding(crate::proofs::OnLiterals::table_on_literals))]
 pub fn worked_fields()
     ensures greatest_add { add_of (codes "24:00") ≡ Ok (pos 1440) }
@@ -28,7 +28,7 @@ pub fn worked_fields()
     ensures accented { name_of (195 ∷ 169 ∷ []) ≡ Ok (195 ∷ 169 ∷ []) }
 {}
 
-/// What some rows hold, or the first reason why they hold nothing.
+/// Proves the stations of some rows, or the first reason why a row has none.
 #[tactic(auto, unfolding(crate::proofs::OnLiterals::table_on_literals))]
 pub fn worked_rows()
     ensures gate { offsets_of Header.WithSlack gate_fields ≡ Ok gate_row }
@@ -37,7 +37,7 @@ pub fn worked_rows()
     ensures short { offsets_of Header.WithSlack (take 8 gate_fields) ≡ Err OffsetWhy.FieldCount }
 {}
 
-/// What some files hold, or where they are at fault.
+/// Proves the tables of some files, or their first faults.
 #[tactic(auto, unfolding(crate::proofs::OnLiterals::table_on_literals))]
 pub fn worked_tables()
     ensures dock { table_of dock_file ≡ Ok dock_rows }
@@ -48,7 +48,7 @@ pub fn worked_tables()
     ensures second { table_of (plain_header ++ codes "\n\nDock,Pier,,,,,,\nDock,Pier,,,,,,x\n") ≡ Err (OffsetFault.At 3 OffsetWhy.BadNumber) }
 {}
 
-/// The bases of some names over a book with one station.
+/// Proves the bases of some names over a book with one station.
 #[tactic(auto, unfolding(crate::specs::Bases::basis_of, crate::specs::Bases::basis_in, crate::specs::Bases::basis_over))]
 pub fn worked_bases()
     ensures reference { basis_of pier_book dock_rows (codes "Pier") ≡ Ok (reference_basis 0) }

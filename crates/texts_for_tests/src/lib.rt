@@ -1,22 +1,25 @@
-//! Texts that the tests of several crates take.
+//! Texts shared by the tests of several crates.
 #![tactic(auto)]
 
 use decimal_text::{Text, Words};
 use std::alloc::{AllocError, Global};
 
-/// A pier with a tide of half a day, from 1999 to 2001.
+/// A file of harmonic constants with one station, `Pier`, and one constituent of 12 hours, for 1999 to 2001.
 pub const PIER: &str =
     "# Pier test\n1\nS2 30.0000000\n1999\n3\nS2\n0 0 0\n*END*\n3\nS2\n1 1 1\n*END*\n\
     Pier\n0:00 :UTC\n0 feet\nS2 1 0\n";
 
-/// Its listing from 2000-01-10 to 2000-01-11.
+/// The listing of `Pier` from 2000-01-10 to 2000-01-11.
 pub const DAY: &str = "Pier\n\
     2000-01-10 06:00 UTC      -1.00 feet  Low Tide\n\
     2000-01-10 11:59 UTC       1.00 feet  High Tide\n\
     2000-01-10 18:00 UTC      -1.00 feet  Low Tide\n\
     2000-01-10 23:59 UTC       1.00 feet  High Tide\n";
 
-/// The words of a line, parted by '|'. An empty line has none.
+/// Returns the parts of `line` between its `|`: none if `line` is empty.
+///
+/// # Errors
+/// [`AllocError`] if memory runs out.
 pub fn words_of(alloc: Global, line: &str) -> Result<Words, AllocError> {
     let mut words = Vec::new(alloc);
     if line.is_empty() {

@@ -1,4 +1,4 @@
--- Where a file of a name stands.
+-- The index of the first file of a name.
 use Rattle.std.proofs.Common.{◌≡◌, ℕ, zero, suc, nat_lt, cond, List, [], ◌∷◌, length, arith, Some, None}
 use Rattle.std.proofs.lemmas.Grind.{common_steps}
 use Rattle.std.proofs.lemmas.List.Folds.{find_at}
@@ -9,7 +9,7 @@ use Rattle.std.specs.Str.{bytes_eq}
 use Rattle.tide_edge.specs.Memory.{folder_of}
 use Rattle.tide_edge.specs.Workings.OpenFile.{bytes_at}
 
--- the bytes at a place are those of the file that stands there
+-- the bytes at an index are those of the file with that index
 pub bytes_at-slice_get : (files : List NamedFile) (n : ℕ)
     → option_map (λ file. file.bytes) (slice_get files n)
     ≡ option_map (bytes_at files) (cond (nat_lt n (length files)) (Some n) None)
@@ -17,7 +17,7 @@ bytes_at-slice_get [] n = grind (arith, common_steps)
 bytes_at-slice_get (x ∷ xs) zero = grind (arith, common_steps)
 bytes_at-slice_get (x ∷ xs) (suc n) = grind (arith, common_steps, bytes_at-slice_get xs n)
 
--- what a name finds is what stands at its place
+-- the contents found by name are those of the file at the index found
 pub folder_at_place : (files : List NamedFile) (name : List ℕ)
     → folder_of files name ≡ option_map (bytes_at files) (position (λ file. bytes_eq file.name name) files)
 folder_at_place files name =

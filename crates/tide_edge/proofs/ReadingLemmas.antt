@@ -1,4 +1,4 @@
--- What opening a file and reading it on come to.
+-- The effect of opening a file and reading it to its end.
 use Rattle.std.proofs.Common.{◌≡◌, ℕ, ◌+◌, ◌-◌, ◌^◌, ◌≤◌, ◌<◌, ◌↔◌, suc, length, take, ◌++◌, Bool, false, true, if◌then◌else◌, IsTrue, List, [], Option, Some, None, IsSome, Result, Ok, Err, unwrap_or, IsErrAnd, inl, inr, append-nil, arith, refl, sym, ap, subst, ◌∙◌}
 use Rattle.std.specs.Prelude.{◌==◌, ◌||◌}
 use Rattle.std.specs.Option.{option_map_or}
@@ -17,7 +17,7 @@ counted_most_by : (last : Bool) (count : ℕ) → (count == 2 ^ 64 - 1) ≡ last
 counted_most_by true count is = rw is (omega arith)
 counted_most_by false count is = rw is (omega arith)
 
--- one more call makes a count greater by one at most
+-- one more call adds at most one to a count
 pub counted_most : (count : ℕ) → counted count ≤ count + 1
 counted_most count = counted_most_by (count == 2 ^ 64 - 1) count refl
 
@@ -27,19 +27,19 @@ begun_by true (Some bytes) rest t is = refl
 begun_by true None rest t is = let untrue : false ≡ true = is in cc
 begun_by false file rest t is = let untrue : false ≡ true = t in cc
 
--- what is to be read of a file that was opened is the file
+-- the unread bytes after opening a file are its contents
 pub begun_whole : (s : FilesState) (name : List ℕ) → IsTrue s.store.is_observable → IsSome (s.store.folder name)
     → s.store.folder name ≡ Some (if s.store.is_observable then unwrap_or (s.store.folder name) [] else s.rest)
 begun_whole s name t is = begun_by s.store.is_observable (s.store.folder name) s.rest t is
 
--- what reading on gave is what reading the file gives
+-- the result of reading on is the result of reading the file
 pub read_on_whole : {T : Type 0} (opened : T) (limit : ℕ) (name : List ℕ) (s : FilesState) (result : Result (List ℕ) ReadAllFault)
     → (IsTrue s.store.is_observable → IsSome (s.store.folder name))
     → (IsTrue s.store.is_observable → Meets source_of (IsTrue s.store.is_steady) (whole limit (Some (files_after_open (Ok opened) name s).rest)) result)
     → IsTrue s.store.is_observable → Meets source_of (IsTrue s.store.is_steady) (whole limit (s.store.folder name)) result
 read_on_whole opened limit name s result found meets t = rw (begun_whole s name t (found t)) (meets t)
 
--- what reading on takes, and the opening before it
+-- the counts of opening a file and reading on
 pub read_on_within : {T : Type 0} (opened : T) (limit : ℕ) (failed : Bool) (name : List ℕ) (s after : FilesState)
     → IsReadOn limit failed (files_after_open (Ok opened) name s) after → ReadWithin (one_file limit) failed s after
 read_on_within opened limit failed name s after on = record {
@@ -50,7 +50,7 @@ read_on_within opened limit failed name s after on = record {
   faults = on.faults;
 }
 
--- an opening that failed
+-- the counts of an opening that failed
 pub unopened_within : (T : Type 0) (failed : Failed) (limit : ℕ) (name : List ℕ) (s : FilesState)
     → ReadWithin (one_file limit) true s (files_after_open {T = T} (Err failed) name s)
 unopened_within T failed limit name s = record {
@@ -61,7 +61,7 @@ unopened_within T failed limit name s = record {
   faults = refl;
 }
 
--- where nothing was read
+-- nothing was read
 pub read_none : (allowed : Allowance) (s : FilesState) → ReadWithin allowed false s s
 read_none allowed s = record { store = refl; opens = omega arith; ends = omega arith; bytes = omega arith; faults = refl }
 
@@ -76,7 +76,7 @@ read_then a b failed before between after first second = record {
   faults = second.faults ∙ ap (faults_after failed) first.faults;
 }
 
--- what is within an allowance is within a larger one
+-- reading within an allowance is within any larger one
 pub read_more : (a b : Allowance) (failed : Bool) (before after : FilesState)
     → ReadWithin a failed before after → ReadWithin (both a b) failed before after
 read_more a b failed before after read = record {
@@ -87,7 +87,7 @@ read_more a b failed before after read = record {
   faults = read.faults;
 }
 
--- more than the limit came of a file that was opened
+-- more than the limit was read of a file that was opened
 pub too_long_came : (limit : ℕ) (name bytes : List ℕ) (is_ended : Bool) → limit < length bytes
     → whole limit (as_came limit (record { name = name; is_open = true; bytes = bytes; is_ended = is_ended })) ≡ Err TooLong
 too_long_came limit name bytes true over = rw (lt-leb (length bytes) limit over) refl
@@ -111,7 +111,7 @@ pub came_on : {T E : Type 0} (source : E → Source) (expected : Option (List �
 came_on source expected limit count room name bytes initial now after result fresh so_far next meets =
     (name, bytes ++ take count room, (count == 0) || false, fresh, next ∙ ap (openings_after_read count room) so_far, meets)
 
--- out of memory says nothing of the file
+-- out of memory implies nothing for the file
 pub memory_met : (expected : Result (List ℕ) ReadAllFault) (result : Result (List ℕ) ReadAllFault)
     → IsErrAnd result (λ fault. fault ≡ NoMemory) → Meets source_of (Unit {0}) expected result
 memory_met expected (Err fault) is = rw is tt
@@ -141,7 +141,7 @@ pub unasked_once : {T E : Type 0} (source : E → Source) (expected : Option (Li
 unasked_once source expected limit name before fault (Err it) is of_memory = inl (refl, rw is of_memory)
 unasked_once source expected limit name before fault (Ok value) is of_memory = absurd is
 
--- what is expected of the file as it came says what else is expected of it
+-- the result expected for the bytes read is the result expected for the contents
 pub come_as : {T E S F : Type 0} (source : E → Source) (expected : Option (List ℕ) → Result T E) (also : F → Source)
     (expected_also : Option (List ℕ) → Result S F) (limit : ℕ) (before after : Openings) (result : Result T E) (other : Result S F)
     → ((file : Option (List ℕ)) → Meets source (Unit {0}) (expected file) result → Meets also (Unit {0}) (expected_also file) other)
@@ -155,30 +155,30 @@ come_as source expected also expected_also limit before after result other says 
   says (as_came limit (record { name = name; is_open = true; bytes = bytes; is_ended = is_ended })) meets,
 )
 
--- out of memory says nothing of what is expected
+-- out of memory implies nothing for the expected result
 pub memory_meets : {T E : Type 0} (source : E → Source) (expected result : Result T E) (fault : E) → IsErrAnd result (λ it. it ≡ fault)
     → source fault ≡ memory → Meets source (Unit {0}) expected result
 memory_meets source expected (Err it) fault is of_memory = rw (is, of_memory) tt
 memory_meets source expected (Ok value) fault is of_memory = absurd is
 
--- out of memory before anything was read of the open file
+-- out of memory before any byte of the open file was read
 pub unread_come : {T E : Type 0} (source : E → Source) (expected : Option (List ℕ) → Result T E) (limit : ℕ) (before : Openings) (fault : E)
     (result : Result T E) → IsFresh before → IsErrAnd result (λ it. it ≡ fault) → source fault ≡ memory
     → HasCome source expected limit before before result
 unread_come source expected limit before fault result (name, fresh) is of_memory =
     (name, [], false, fresh, ap (λ latest. record before { latest = latest }) fresh, memory_meets source _ result fault is of_memory)
 
--- no more than the limit came, and then a read failed
+-- at most the limit was read, and then a read failed
 pub cut_came : (limit : ℕ) (name bytes : List ℕ) → length bytes ≤ limit
     → as_came limit (record { name = name; is_open = true; bytes = bytes; is_ended = false }) ≡ None
 cut_came limit name bytes within = rw (lt-leb (suc limit) (length bytes) (omega (arith, within))) refl
 
--- no more than the limit came, and then the end
+-- at most the limit was read, and then the end was found
 pub ended_came : (limit : ℕ) (name bytes : List ℕ) → length bytes ≤ limit
     → whole limit (as_came limit (record { name = name; is_open = true; bytes = bytes ++ []; is_ended = true })) ≡ Ok bytes
 ended_came limit name bytes within = rw (append-nil bytes, le-leb (length bytes) limit within) refl
 
--- ---- more than the limit came
+-- ---- more than the limit was read
 
 -- a piece past the limit
 pub passed_on : (limit count : ℕ) (room name bytes : List ℕ) (initial now after : Openings)
@@ -194,7 +194,7 @@ both_parts : (o : Openings) (earlier : List Opening) (opening : Opening) → o.e
     → o ≡ record { earlier = earlier; latest = Some opening }
 both_parts o earlier opening first last = rw (← first, ← last) refl
 
--- of a file that was opened, as of the latest one
+-- the latest opening is of a file that was opened
 pub passed_once : {T E : Type 0} (R : Type 0) (source : E → Source) (expected : Option (List ℕ) → Result T E) (limit : ℕ) (name : List ℕ)
     (before between after : Openings) (result : Result T E) → between ≡ openings_after_open true name before
     → HasCome source expected limit between after result → R ↔ IsPassed limit after → R ↔ HasPassed limit before after
@@ -204,7 +204,7 @@ passed_once R source expected limit name before between after result opened come
       λ has. passed.1 (has.0, ap (λ o. o.latest) has.1, has.2),
     )
 
--- nothing came of a file that couldn't be opened
+-- no byte was read of a file that couldn't be opened
 pub unopened_unpassed : (limit : ℕ) (name : List ℕ) (before after : Openings) → after ≡ openings_after_open false name before
     → HasPassed limit before after → ⊥
 unopened_unpassed limit name before after is has =

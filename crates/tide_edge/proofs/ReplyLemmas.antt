@@ -1,4 +1,4 @@
--- Replies that lie one after the other in one list of bytes.
+-- Replies one after the other in one list of bytes.
 use Rattle.std.proofs.Common.{◌≡◌, ℕ, zero, suc, ◌+◌, ◌-◌, ◌<◌, ◌≤◌, List, [], ◌∷◌, ◌++◌, length, take, drop, get_or, arith, Some, ap, refl}
 use Rattle.std.specs.List.{All, slice_get}
 use Rattle.std.proofs.lemmas.Grind.{common_steps}
@@ -20,7 +20,7 @@ append_behind part start (next ∷ more) bytes piece = refl
 drop_within : (start : ℕ) (bytes piece : List ℕ) → start ≤ length bytes → drop start (bytes ++ piece) ≡ drop start bytes ++ piece
 drop_within start bytes piece within = grind (arith, common_steps)
 
--- what comes after all bytes goes to the last part
+-- bytes appended at the end belong to the last part
 pub parts_append : (starts bytes piece : List ℕ) → All (λ start. start ≤ length bytes) starts
     → parts starts (bytes ++ piece) ≡ append_to_last (parts starts bytes) piece
 parts_append [] bytes piece within = refl
@@ -37,7 +37,7 @@ length-parts [] bytes = refl
 length-parts (start ∷ []) bytes = refl
 length-parts (start ∷ next ∷ more) bytes = ap suc (length-parts (next ∷ more) bytes)
 
--- the part at a place ends where the next one begins, or at the end
+-- the part with an index ends where the next one begins, or at the end
 pub part_at : (starts bytes : List ℕ) (i end : ℕ) → i < length starts
     → (i + 1 < length starts → end ≡ get_or starts (i + 1) end) → (length starts ≤ i + 1 → end ≡ length bytes)
     → slice_get (parts starts bytes) i ≡ Some (drop (get_or starts i 0) (take end bytes))

@@ -1,4 +1,5 @@
--- Calls on observable files keep what came of each opening tied to the file that it opened.
+-- Calls on observable files preserve that the bytes read after each opening are of the file that it
+-- opened.
 use Rattle.std.proofs.Common.{◌≡◌, ℕ, zero, suc, Bool, true, false, ◌||◌, if◌then◌else◌, IsTrue, IsSome, IfSome, OnOk, All, List, [], ◌++◌, take, drop, Option, Some, None, Result, Ok, Err, is_ok, refl, sym, ap, ◌∙◌, append_assoc, take-append-drop}
 use Rattle.std.specs.Prelude.{◌==◌}
 use Rattle.std.proofs.lemmas.Bool.Decides.{Decides-eqb}
@@ -17,7 +18,7 @@ listed_read : (folder : Folder) (rest : List ℕ) (latest : Option Opening) → 
 listed_read folder rest None is = All-nil (IsReadOfSome folder)
 listed_read folder rest (Some o) is = All-cons (IsReadOfSome folder) o [] (rest, is) (All-nil (IsReadOfSome folder))
 
--- a file that was just opened, or wasn't
+-- an opening before any byte is read
 just_read : (folder : Folder) (name : List ℕ) (result : Result (Unit {0}) Failed) → OnOk result (IsSome (folder name))
     → IsReadOf folder (begun result (folder name)) (just_opened (is_ok result) name)
 just_read folder name (Ok opened) found = record { prefix = refl; whole = λ untrue. let never : false ≡ true = untrue in cc; exists = λ _. found }

@@ -1,4 +1,4 @@
--- What the pieces sent so far make of the bytes.
+-- The bytes sent after some pieces.
 use Rattle.std.proofs.Common.{◌≡◌, ℕ, ◌+◌, List, [], ◌++◌, take, drop, append_assoc, append-nil, ◌∙◌, ap, sym}
 use Rattle.std.proofs.Math.Seq.{take-add}
 use Rattle.tide_edge.specs.SinkStates.{SinkState, put}
@@ -7,7 +7,7 @@ use Rattle.tide_edge.specs.SinkStates.{SinkState, put}
 pub put_none : (s : SinkState) → put [] s ≡ s
 put_none s = ap (λ taken. record s { taken = taken }) (append-nil s.taken)
 
--- two texts behind one another are one
+-- two texts written in turn are one text
 pub put_put : (first second : List ℕ) (s : SinkState) → put second (put first s) ≡ put (first ++ second) s
 put_put first second s = ap (λ taken. record s { taken = taken }) (append_assoc s.taken first second)
 

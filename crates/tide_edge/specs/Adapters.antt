@@ -1,4 +1,4 @@
--- What the adapters hold of the machine, and what its known bytes have to do with their answers (this project).
+-- What the adapters own of the machine, and how its known bytes constrain their results (this project).
 use Rattle.std.specs.Prelude.{ℕ, ◌≤◌, List, [], length, take, Option, Some, None, Result, Ok, Err}
 use Rattle.std.specs.Io.KnownBytes.{Appends}
 use Rattle.std.specs.declared.fd.AsRawFd as AsRawFd
@@ -14,8 +14,8 @@ use Rattle.tide_edge.specs.declared.host_sink.HostSink.{HostSink}
 abbrev pub writer_of : {W : Type 0} → HostSink W → W
 writer_of sink = sink.writer
 
--- Known contents grow by the bytes that a write accepted; if it failed, by a prefix of the piece, as of a write that the writer
--- accepted and couldn't flush.
+-- Known contents grow by the bytes that a write accepted; after a failed write by a prefix of the piece,
+-- since the writer may have accepted bytes that it couldn't flush.
 abbrev pub WritesThrough : Option (List ℕ) → Option (List ℕ) → Result ℕ Failed → List ℕ → Type 0
 WritesThrough before after (Ok count) piece = Appends before after (take count piece)
 WritesThrough before after (Err failed) piece = (count : ℕ) × (count ≤ length piece) × Appends before after (take count piece)
@@ -24,7 +24,7 @@ WritesThrough before after (Err failed) piece = (count : ℕ) × (count ≤ leng
 abbrev pub file_of : {R F D : Type 0} → HostFiles R F D → Option F
 file_of files = files.opened
 
--- the known bytes that are left of an open file, and no byte if none is open
+-- the known unread bytes of an open file; none if no file is open
 abbrev pub left_of : {F : Type 0} → (F → Option (List ℕ)) → Option F → Option (List ℕ)
 left_of remaining None = Some []
 left_of remaining (Some file) = remaining file
@@ -33,12 +33,12 @@ left_of remaining (Some file) = remaining file
 abbrev pub stream_of : {S : Type 0} → HostLine S → S
 stream_of line = line.stream
 
--- the connection that a door has open, if there is one
+-- the open connection of a door, if there is one
 abbrev pub line_of : {R S L : Type 0} {read : Read.Ghosts S} {write : Write.Ghosts S} {stream : AsRawFd.Ghosts S} {listener : AsRawFd.Ghosts L}
     → HostDoor R S L read write stream listener → Option (HostLine S)
 line_of door = door.line
 
--- the known bytes of the stream below an open connection, whichever are meant; unknown if none is open
+-- the known bytes of the stream below an open connection; unknown if none is open
 abbrev pub known_of : {S : Type 0} → (S → Option (List ℕ)) → Option (HostLine S) → Option (List ℕ)
 known_of known None = None
 known_of known (Some line) = known (stream_of line)

@@ -4,17 +4,17 @@ use Rattle.std.specs.List.{list_any}
 use Rattle.tide_edge.specs.declared.failed.Failed.{Failed}
 use Rattle.tide_edge.specs.Faults.{counted, faults_after}
 
--- the numbers of the calls that are to fail, how many calls were made, and how many of them failed
+-- the numbers of the calls that are to fail, the number of calls made, and the number of failures
 pub record HeldCalls : Type 0 where
   pub fails : List ℕ
   pub made : ℕ
   pub faults : ℕ
 
--- whether the next call is one of those that are to fail; calls are counted from 1
+-- the next call is to fail; calls are counted from 1
 abbrev pub is_to_fail : HeldCalls → Bool
 is_to_fail calls = list_any (λ n. n == counted calls.made) calls.fails
 
--- after one more call, which failed or didn't
+-- the counts after one more call, which failed or didn't
 abbrev pub after_call : Bool → HeldCalls → HeldCalls
 after_call failed calls = record {
   fails = calls.fails;
@@ -22,7 +22,7 @@ after_call failed calls = record {
   faults = faults_after failed calls.faults;
 }
 
--- what a call answers: that it failed, or a value
+-- the result of a call: a failure if the first argument is true, else the value
 abbrev pub answer : {T : Type 0} → Bool → T → Result T Failed
 answer true value = Err record {}
 answer false value = Ok value

@@ -1,4 +1,5 @@
--- The objects in memory: what each holds, what its calls answer and what they leave (this project).
+-- The objects in memory: their contents, the results of their calls and the states after these (this
+-- project).
 use Rattle.std.specs.Prelude.{ℕ, ℤ, ◌-◌, ◌==◌, nat_lt, min, Bool, true, false, not, ◌||◌, if◌then◌else◌, List, [], ◌∷◌, ◌++◌, length, take, drop, find, Option, None, is_none, is_some, unwrap_or, Result, Ok, Err}
 use Rattle.std.specs.List.{list_all}
 use Rattle.std.specs.Option.{option_map}
@@ -12,7 +13,7 @@ use Rattle.tide_edge.specs.Faults.{counted, faults_after}
 use Rattle.tide_edge.specs.FileStates.{FilesState, Openings, Reads, one_opening, one_reading, openings_after_open, openings_after_read}
 use Rattle.tide_edge.specs.SinkStates.{SinkState}
 
--- files by name, the rest of the open one, which is empty if none is open, what was opened and came, and the counts of both
+-- files by name, the unread bytes of the open one (none if no file is open), the openings, and the counts
 pub record HeldFiles : Type 0 where
   pub files : List NamedFile
   pub rest : List ℕ
@@ -20,11 +21,11 @@ pub record HeldFiles : Type 0 where
   pub reads : Reads
   pub calls : HeldCalls
 
--- the map of the files: the first file of a name counts
+-- the contents by name; the first file of a name counts
 abbrev pub folder_of : List NamedFile → List ℕ → Option (List ℕ)
 folder_of files name = option_map (λ file. file.bytes) (find (λ file. bytes_eq file.name name) files)
 
--- what they tell: they are steady where no call is to fail
+-- the observable state of files in memory: they are steady if no call is to fail
 abbrev pub files_state : HeldFiles → FilesState
 files_state held = record {
   store = record { is_observable = true; folder = folder_of held.files; is_steady = length held.calls.fails == 0 };
@@ -34,10 +35,11 @@ files_state held = record {
   faults = held.calls.faults;
 }
 
--- the bytes that the next open finds, unless it fails
+-- the bytes of the file that the next `open` finds, unless it fails
 abbrev pub found : HeldFiles → List ℕ → Option (List ℕ)
 found held name = (if is_to_fail held.calls then None else folder_of held.files name)
 
+-- the files after `open`
 abbrev pub after_open : HeldFiles → List ℕ → HeldFiles
 after_open held name = record {
   files = held.files;
@@ -47,11 +49,11 @@ after_open held name = record {
   calls = after_call (is_none (found held name)) held.calls;
 }
 
--- how many bytes the next read gives to a room of that length, unless it fails: as many as room and rest allow
+-- the number of bytes that the next `read` copies to a room of length `room`: 0 if it fails
 abbrev pub read_count : HeldFiles → ℕ → ℕ
 read_count held room = (if is_to_fail held.calls then 0 else min room (length held.rest))
 
--- with the room's length, and what it has after the call
+-- the files after `read` with a room of length `room`; `filled` is the room after the call
 abbrev pub after_read : HeldFiles → ℕ → List ℕ → HeldFiles
 after_read held room filled = record {
   files = held.files;
@@ -61,26 +63,27 @@ after_read held room filled = record {
   calls = after_call (is_to_fail held.calls) held.calls;
 }
 
--- the bytes taken, the most bytes that one call takes, and the most of all calls
+-- the bytes accepted, the most bytes of one call, and the most bytes of all calls
 pub record HeldSink : Type 0 where
   pub taken : List ℕ
   pub most : ℕ
   pub room : ℕ
   pub calls : HeldCalls
 
--- what it tells
+-- the observable state of a sink in memory
 abbrev pub sink_state : HeldSink → SinkState
 sink_state held = record { taken = held.taken; faults = held.calls.faults }
 
--- whether the next write fails: it is to fail, or the room is full
+-- the next `write` fails: it is to fail, or the room is used up
 abbrev pub is_refused : HeldSink → Bool
 is_refused held = is_to_fail held.calls || (length held.taken == held.room)
 
--- how many bytes of a piece of that length the next write takes: as many as piece, most and the room left allow
+-- the number of bytes that the next `write` accepts of a piece of length `piece`: 0 if it fails
 abbrev pub write_count : HeldSink → ℕ → ℕ
 write_count held piece =
     (if is_refused held then 0 else min piece (min held.most (held.room - length held.taken)))
 
+-- the sink after `write` of `piece`
 abbrev pub after_write : HeldSink → List ℕ → HeldSink
 after_write held piece = record {
   taken = held.taken ++ take (write_count held (length piece)) piece;
@@ -89,9 +92,9 @@ after_write held piece = record {
   calls = after_call (is_refused held) held.calls;
 }
 
--- What a door holds: the doorway; what passed over each connection; the requests that wait, in their pieces; the pieces left of the open connection; the
--- replies; how many more bytes they may take; the calls but `close`, whose faults are those of `listen` and `next`; and the
--- faults of `read` and `write`.
+-- A door in memory: its port; the bytes of each connection; the waiting requests in their pieces; the
+-- unread pieces of the open connection; the replies; the bytes that these may still grow by; the calls
+-- without `close`, with the failures of `listen` and `next`; and the failures of `read` and `write`.
 pub record HeldDoor : Type 0 where
   pub doorway : Doorway
   pub connections : Connections
@@ -102,11 +105,11 @@ pub record HeldDoor : Type 0 where
   pub calls : HeldCalls
   pub line_faults : ℕ
 
--- whether no piece is empty
+-- no piece is empty
 abbrev pub are_pieces : List (List ℕ) → Bool
 are_pieces pieces = list_all (λ piece. nat_lt 0 (length piece)) pieces
 
--- what it tells: each read gives bytes of one piece
+-- the observable state of a door in memory: each `read` reads bytes of one piece
 abbrev pub door_state : HeldDoor → DoorState
 door_state held = record {
   is_observable = true;
@@ -118,15 +121,16 @@ door_state held = record {
   line_faults = held.line_faults;
 }
 
--- what the next `next` answers
+-- the result of the next call of `next`
 abbrev pub comes : HeldDoor → Result Bool Failed
 comes held = answer (is_to_fail held.calls) (nat_lt 0 (length held.waiting))
 
--- whether a call answered that there is a connection
+-- a call of `next` returned true
 abbrev pub is_taken : Result Bool Failed → Bool
 is_taken (Ok comes) = comes
 is_taken (Err failed) = false
 
+-- the door after `listen`
 abbrev pub after_listen : HeldDoor → ℕ → HeldDoor
 after_listen held port = record {
   doorway = asked port (not (is_to_fail held.calls));
@@ -139,6 +143,7 @@ after_listen held port = record {
   line_faults = held.line_faults;
 }
 
+-- the door after `next`
 abbrev pub after_taking : HeldDoor → HeldDoor
 after_taking held = record {
   doorway = after_next (comes held) held.doorway;
@@ -151,19 +156,20 @@ after_taking held = record {
   line_faults = held.line_faults;
 }
 
--- the calls after one of `read` or `write`, whose faults are counted apart
+-- the calls after one of `read` or `write`, whose failures are counted apart
 abbrev pub after_line_call : HeldCalls → HeldCalls
 after_line_call calls = record { fails = calls.fails; made = counted calls.made; faults = calls.faults }
 
--- how many bytes the next `read` gives to a room of that length, unless it fails: as many as room and the first piece left allow
+-- the number of bytes that the next `read` copies of the first unread piece to a room of length `room`: 0
+-- if it fails
 abbrev pub line_count : HeldDoor → ℕ → ℕ
 line_count held room = (if is_to_fail held.calls then 0 else min room (length (first_or_empty held.coming)))
 
--- what a `read` with a room of that length answers
+-- the result of a `read` with a room of length `room`
 abbrev pub line_read : HeldDoor → ℕ → Result ℕ Failed
 line_read held room = answer (is_to_fail held.calls) (line_count held room)
 
--- with the room's length, and what it has after the call
+-- the door after `read` with a room of length `room`; `filled` is the room after the call
 abbrev pub after_line_read : HeldDoor → ℕ → List ℕ → HeldDoor
 after_line_read held room filled = record {
   doorway = held.doorway;
@@ -176,18 +182,19 @@ after_line_read held room filled = record {
   line_faults = faults_after (is_to_fail held.calls) held.line_faults;
 }
 
--- whether the next `write` fails: it is to fail, or the room is full
+-- the next `write` fails: it is to fail, or the room is used up
 abbrev pub is_shut : HeldDoor → Bool
 is_shut held = is_to_fail held.calls || (held.room == 0)
 
--- how many bytes of a piece of that length the next `write` takes: as many as piece and room allow
+-- the number of bytes that the next `write` accepts of a piece of length `piece`: 0 if it fails
 abbrev pub reply_count : HeldDoor → ℕ → ℕ
 reply_count held piece = (if is_shut held then 0 else min piece held.room)
 
--- what a `write` of a piece answers
+-- the result of a `write` of `piece`
 abbrev pub line_write : HeldDoor → List ℕ → Result ℕ Failed
 line_write held piece = answer (is_shut held) (reply_count held (length piece))
 
+-- the door after `write` of `piece`
 abbrev pub after_line_write : HeldDoor → List ℕ → HeldDoor
 after_line_write held piece = record {
   doorway = held.doorway;
@@ -200,6 +207,7 @@ after_line_write held piece = record {
   line_faults = faults_after (is_shut held) held.line_faults;
 }
 
+-- the door after `close`
 abbrev pub after_close : HeldDoor → HeldDoor
 after_close held = record {
   doorway = closed held.doorway;
@@ -212,13 +220,13 @@ after_close held = record {
   line_faults = held.line_faults;
 }
 
--- one minute for ever, and the minutes given so far
+-- a clock that always shows one minute, and the minutes returned so far
 pub record HeldClock : Type 0 where
   pub minute : ℤ
   pub given : List ℤ
   pub calls : HeldCalls
 
--- what it tells: the same minute at each asking
+-- the observable state of a fixed clock: the same minute for each reading
 abbrev pub clock_state : HeldClock → ClockState
 clock_state held = record {
   is_observable = true;
@@ -228,6 +236,7 @@ clock_state held = record {
   faults = held.calls.faults;
 }
 
+-- the clock after one reading
 abbrev pub after_minute : HeldClock → HeldClock
 after_minute held = record {
   minute = held.minute;

@@ -1,11 +1,12 @@
-//! The bytes that passed, for contracts alone.
+//! A ghost record of the bytes that were transferred.
 
 ghost use Rattle.std.specs.Prelude.{◌≡◌, ℕ, List, [], ◌++◌};
 ghost use Rattle.std.specs.Borrow.{ftrue};
 
 use std::marker::Model;
 
-/// The bytes that passed so far. It allocates nothing, and no byte is touched for it.
+/// A ghost record of the bytes that were transferred, in order. At run time it holds nothing and copies
+/// nothing.
 #[derive(Debug, Drop)]
 pub(crate) struct ByteTranscript {
     pub ghost bytes: { List ℕ },
@@ -16,14 +17,14 @@ impl Model for ByteTranscript {
 }
 
 impl ByteTranscript {
-    /// No byte.
+    /// Returns the record of no bytes.
     pub(crate) fn new() -> ByteTranscript
         ensures { result.bytes ≡ [] }
     {
         ByteTranscript {}
     }
 
-    /// These bytes, and then those of `_piece`.
+    /// Returns this record followed by the bytes of `_piece`.
     pub(crate) fn then(&self, _piece: &[u8]) -> ByteTranscript
         ensures { result.bytes ≡ self.now.bytes ++ _piece.now }
     {

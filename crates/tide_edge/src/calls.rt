@@ -1,4 +1,4 @@
-//! The count of the calls on an object in memory.
+//! Counting the calls on an object in memory, some of which fail on purpose.
 
 ghost use Rattle.std.specs.Prelude.{◌≡◌};
 
@@ -6,8 +6,8 @@ use crate::count::one_more;
 use crate::failed::Failed;
 use std::marker::Model;
 
-/// How many calls were made, which of them are to fail, and how many did.
-/// Both counts stay at the last value of a `u64`.
+/// The number of calls made, the numbers of those that fail on purpose, and the number that have failed.
+/// Both counts saturate at the greatest `u64`.
 #[derive(Debug, Drop)]
 pub(crate) struct Calls {
     fails: Vec<u64>,
@@ -27,7 +27,8 @@ impl Calls {
     ghost use Rattle.tide_edge.specs.Calls.{answer, is_to_fail, after_call};
     ghost use Rattle.tide_edge.specs.Faults.{counted};
 
-    /// No call yet. The numbers of those that are to fail are counted from 1.
+    /// Returns the counts before any call. `fails` has the numbers of the calls that are to fail, counted
+    /// from 1.
     pub(crate) fn new(fails: Vec<u64>) -> Calls
         ensures { result ≡ record { fails = fails.items; made = 0; faults = 0 } }
     {
@@ -38,7 +39,10 @@ impl Calls {
         }
     }
 
-    /// Counts one more call, and fails if it is one of those that are to fail.
+    /// Counts one more call.
+    ///
+    /// # Errors
+    /// [`Failed`] if the call's number is in `fails`.
     pub(crate) fn next(&mut self) -> Result<(), Failed>
         ensures answer { result ≡ answer (is_to_fail self.old) record {} }
         ensures after { self.new ≡ after_call (is_to_fail self.old) self.old }
@@ -49,7 +53,7 @@ impl Calls {
         Ok(())
     }
 
-    /// Counts one more call, and answers whether it is one of those that are to fail.
+    /// Counts one more call, and returns true if its number is in `fails`. It counts no failure.
     pub(crate) fn is_next_to_fail(&mut self) -> bool
         ensures answer { result ≡ is_to_fail self.old }
         ensures after { self.new ≡ record self.old { made = counted self.old.made } }
@@ -58,7 +62,7 @@ impl Calls {
         self.fails.contains(&self.made)
     }
 
-    /// Counts a failure of the call that was counted last.
+    /// Counts a failure of the call that was counted last, and returns it.
     pub(crate) fn fail(&mut self) -> Failed
         ensures { self.new ≡ record self.old { faults = counted self.old.faults } }
     {

@@ -1,21 +1,22 @@
-//! What shows the present minute.
+//! Clocks that show the present minute.
 
 ghost use Rattle.std.specs.Prelude.{◌≡◌, IsTrue, IfOk};
 ghost use Rattle.tide_edge.specs.Clocks.{ClockState, IsClockMinute, clock_after, next_minute};
 
 use crate::failed::Failed;
 
-/// Shows the present minute.
+/// A clock that shows the present minute.
 ///
-/// The state of an implementation has the minutes that it has given, and says whether those to come are observable. No call
-/// changes the minutes to come.
+/// In contracts the state of a clock has the minutes that it has returned, and says whether those still
+/// to come are observable. No call changes the minutes to come.
 pub trait Clock {
     ghost state: { Self → ClockState };
 
-    /// The present minute, in minutes since 1970-01-01 00:00 UTC, from -10,000,000,000 to 10,000,000,000.
+    /// Returns the present minute, in minutes since 1970-01-01T00:00Z, from -10,000,000,000 to
+    /// 10,000,000,000.
     ///
     /// # Errors
-    /// [`Failed`] where the clock can't be read or shows a minute out of that range.
+    /// [`Failed`] if the clock can't be read or shows a minute out of this range.
     fn minute(&mut self) -> Result<i64, Failed>
         ensures after { state self.new ≡ clock_after result (state self.old) }
         ensures in_range { IfOk result IsClockMinute }

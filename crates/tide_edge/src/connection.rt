@@ -1,4 +1,4 @@
-//! One connection, and what passed over it.
+//! One connection, with the bytes read and written over it.
 
 ghost use Rattle.std.specs.Prelude.{◌≡◌, ◌≤◌, ◌==◌, length, Ok, Err};
 ghost use Rattle.tide_edge.specs.declared.failed.Failed.{Failed};
@@ -7,8 +7,8 @@ use crate::byte_transcript::ByteTranscript;
 use crate::failed::Failed;
 use std::marker::Model;
 
-/// One connection: the bytes that came, and whether their end was found; the bytes that were accepted of its reply; and
-/// whether a read or a write of it has failed.
+/// One connection: the bytes that came, and whether their end was found; the bytes of its reply that were
+/// accepted; and whether a read or a write of it has failed.
 #[derive(Debug, Drop)]
 pub(crate) struct OneConnection {
     came: ByteTranscript,
@@ -36,7 +36,7 @@ impl OneConnection {
     ghost use Rattle.std.specs.Prelude.{IfOk};
     ghost use Rattle.tide_edge.specs.Doors.{connection_after_read, connection_after_write, just_taken};
 
-    /// Nothing has passed over it.
+    /// Returns a connection that was just accepted.
     pub(crate) fn new() -> OneConnection
         ensures { result ≡ just_taken }
     {
@@ -49,7 +49,7 @@ impl OneConnection {
         }
     }
 
-    /// A read put its bytes into the begin of `room`, or failed.
+    /// Records a read: its bytes are the first of `room`, as many as `outcome` says, or it failed.
     pub(crate) fn read(&mut self, room: &[u8], outcome: &Result<usize, Failed>)
         requires { IfOk outcome.now (λ count. count ≤ length room.now) }
         ensures { self.new ≡ connection_after_read outcome.now room.now self.old }
@@ -63,7 +63,8 @@ impl OneConnection {
         }
     }
 
-    /// A write took the first bytes of `piece`, or failed.
+    /// Records a write: the first bytes of `piece` were accepted, as many as `outcome` says, or it
+    /// failed.
     pub(crate) fn write(&mut self, piece: &[u8], outcome: &Result<usize, Failed>)
         requires { IfOk outcome.now (λ count. count ≤ length piece.now) }
         ensures { self.new ≡ connection_after_write outcome.now piece.now self.old }

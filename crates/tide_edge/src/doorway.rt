@@ -1,11 +1,12 @@
-//! The observable part of every door.
+//! The part of a door's state that is observable for every door.
 
 ghost use Rattle.std.specs.Prelude.{◌≡◌, Ok, true, false};
 
 use crate::count::one_more;
 use std::marker::Model;
 
-/// The port that a door was to listen on, and what came of it.
+/// The port that a door was to listen on, whether it listens, the number of connections accepted, and
+/// whether one is open.
 #[derive(Debug, Drop)]
 pub(crate) struct Doorway {
     port: Option<u16>,
@@ -32,7 +33,7 @@ impl Model for Doorway {
 impl Doorway {
     ghost use Rattle.tide_edge.specs.Doors.{unasked, asked, after_next, closed};
 
-    /// Before `listen` is called.
+    /// Returns the state before `listen` is called.
     pub(crate) fn unasked() -> Doorway
         ensures { result ≡ unasked }
     {
@@ -45,7 +46,7 @@ impl Doorway {
         }
     }
 
-    /// After a call of `listen` with `port`.
+    /// Returns the state after a call of `listen` with `port`; `listens` is true if the call succeeded.
     pub(crate) fn asked(port: u16, listens: bool) -> Doorway
         ensures { result ≡ asked port listens }
     {
@@ -58,7 +59,7 @@ impl Doorway {
         }
     }
 
-    /// Counts a connection, which is open from now on.
+    /// Counts a connection and marks it as open.
     pub(crate) fn open(&mut self)
         ensures { self.new ≡ after_next (Ok true) self.old }
     {
@@ -66,14 +67,14 @@ impl Doorway {
         self.is_open = true;
     }
 
-    /// No more connections will come.
+    /// Records that no more connections will come.
     pub(crate) fn end(&mut self)
         ensures { self.new ≡ after_next (Ok false) self.old }
     {
         self.is_over = true;
     }
 
-    /// The open connection ends.
+    /// Records that the open connection was closed.
     pub(crate) fn close(&mut self)
         ensures { self.new ≡ closed self.old }
     {

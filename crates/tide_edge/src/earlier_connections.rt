@@ -1,4 +1,4 @@
-//! The connections before the last one, for contracts alone.
+//! A ghost record of all connections but the last.
 
 ghost use Rattle.std.specs.Prelude.{◌≡◌, List, [], ◌∷◌, ◌++◌};
 ghost use Rattle.std.specs.Borrow.{ftrue};
@@ -7,7 +7,7 @@ ghost use Rattle.tide_edge.specs.Doors.{Connection};
 use crate::connection::OneConnection;
 use std::marker::Model;
 
-/// The connections before the last one. It allocates nothing.
+/// A ghost record of all connections but the last, in order. At run time it holds nothing.
 #[derive(Debug, Drop)]
 pub(crate) struct EarlierConnections {
     pub ghost connections: { List Connection },
@@ -18,14 +18,14 @@ impl Model for EarlierConnections {
 }
 
 impl EarlierConnections {
-    /// No connection.
+    /// Returns the record of no connections.
     pub(crate) fn new() -> EarlierConnections
         ensures { result.connections ≡ [] }
     {
         EarlierConnections {}
     }
 
-    /// These connections, and then this one.
+    /// Returns this record followed by `_connection`.
     pub(crate) fn then(&self, _connection: &OneConnection) -> EarlierConnections
         ensures { result.connections ≡ self.now.connections ++ _connection.now ∷ [] }
     {

@@ -1,4 +1,4 @@
-//! The openings of files before the last one, for contracts alone.
+//! A ghost record of all openings of files but the last.
 
 ghost use Rattle.std.specs.Prelude.{◌≡◌, List, [], ◌∷◌, ◌++◌};
 ghost use Rattle.std.specs.Borrow.{ftrue};
@@ -7,7 +7,7 @@ ghost use Rattle.tide_edge.specs.FileStates.{Opening};
 use crate::opening::OneOpening;
 use std::marker::Model;
 
-/// The openings of files before the last one. It allocates nothing.
+/// A ghost record of all openings of files but the last, in order. At run time it holds nothing.
 #[derive(Debug, Drop)]
 pub(crate) struct EarlierOpenings {
     pub ghost openings: { List Opening },
@@ -18,14 +18,14 @@ impl Model for EarlierOpenings {
 }
 
 impl EarlierOpenings {
-    /// No opening.
+    /// Returns the record of no openings.
     pub(crate) fn new() -> EarlierOpenings
         ensures { result.openings ≡ [] }
     {
         EarlierOpenings {}
     }
 
-    /// These openings, and then this one.
+    /// Returns this record followed by `_opening`.
     pub(crate) fn then(&self, _opening: &OneOpening) -> EarlierOpenings
         ensures { result.openings ≡ self.now.openings ++ _opening.now ∷ [] }
     {

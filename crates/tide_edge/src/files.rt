@@ -1,4 +1,4 @@
-//! Files that are opened by name and read from their begin to their end.
+//! Files that are opened by name and read from beginning to end.
 
 ghost use Rattle.std.specs.Prelude.{◌≡◌, ◌↔◌, ◌<◌, ◌≤◌, IsTrue, [], length, take, None, IsOk, IsSome, IfOk, OnOk, OnErr};
 ghost use Rattle.tide_edge.specs.FileStates.{FilesState, files_after_open, files_after_read};
@@ -6,29 +6,31 @@ ghost use Rattle.tide_edge.specs.FileStates.{FilesState, files_after_open, files
 use crate::failed::Failed;
 use decimal_text::Text;
 
-/// Files by name, of which at most one is open.
+/// Files that are opened by name, at most one at a time.
 ///
-/// The state of an implementation has what was opened and the bytes that came, and says whether the files are observable:
-/// whether it also has what they hold. No call changes what they hold, nor whether they are steady.
+/// In contracts the state of the files has what was opened and the bytes that were read, and says whether
+/// the files are observable: whether it also has their contents. No call changes the contents, nor
+/// whether the files are steady, which means that opening and reading an existing file doesn't fail.
 pub trait Files {
     ghost state: { Self → FilesState };
 
-    /// Makes the file of that name the open one, at its begin.
+    /// Opens the file `name` at its first byte, in place of the one that was open.
     ///
     /// # Errors
-    /// [`Failed`] where the file can't be opened, and no file is open then. Over steady files that is where there is no
-    /// file of that name.
+    /// [`Failed`] if the file can't be opened; then no file is open. If the files are steady, it fails
+    /// only if there is no file `name`.
     fn open(&mut self, name: &Text) -> Result<(), Failed>
         ensures after { state self.new ≡ files_after_open result name.now (state self.old) }
         ensures found { IsTrue (state self.old).store.is_observable → OnOk result (IsSome ((state self.old).store.folder name.now)) }
         ensures absent { IsTrue (state self.old).store.is_observable → IsTrue (state self.old).store.is_steady
             → OnErr result ((state self.old).store.folder name.now ≡ None) };
 
-    /// Reads the next bytes of the open file into the begin of `room`, and answers how many came.
-    /// It is 0 at the end of the file, and where no file is open.
+    /// Reads the next bytes of the open file into the first bytes of `room`, and returns their count: 0
+    /// at the end of the file, and if no file is open.
     ///
     /// # Errors
-    /// [`Failed`] where the file can't be read. The rest stays as it was, and over steady files that never comes.
+    /// [`Failed`] if the file can't be read; the state is unchanged but for the count of faults. If the
+    /// files are steady, it never fails.
     fn read(&mut self, room: &mut [u8]) -> Result<usize, Failed>
         requires { 0 < length room.old }
         ensures after { state self.new ≡ files_after_read result room.new (state self.old) }

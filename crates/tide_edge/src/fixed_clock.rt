@@ -1,4 +1,4 @@
-//! A clock that stands still.
+//! A clock that always shows the same minute.
 
 ghost use Rattle.std.specs.Prelude.{◌≡◌, [], IfOk};
 ghost use Rattle.tide_edge.specs.Clocks.{IsClockMinute};
@@ -9,7 +9,7 @@ use crate::failed::Failed;
 use crate::minute_transcript::MinuteTranscript;
 use std::marker::Model;
 
-/// A clock that stands still at a minute, which is observable.
+/// A clock that always shows the same minute, which is observable.
 #[derive(Debug, Drop)]
 pub struct FixedClock {
     minute: i64,
@@ -29,7 +29,8 @@ impl Model for FixedClock {
 }
 
 impl FixedClock {
-    /// A clock at `minute`. A call fails where its number, counted from 1, is in `fails`.
+    /// Returns a clock that shows `minute`, in minutes since 1970-01-01T00:00Z. The calls whose numbers,
+    /// counted from 1, are in `fails` fail.
     pub fn new(minute: i64, fails: Vec<u64>) -> FixedClock
         requires { IsClockMinute minute }
         ensures { result ≡ record {

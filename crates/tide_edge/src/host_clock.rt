@@ -1,4 +1,4 @@
-//! The clock of the machine.
+//! The system clock.
 
 ghost use Rattle.std.specs.Prelude.{◌≡◌, ◌/◌, ◌<◌, pos, false, [], IfSome, MatchOption};
 ghost use Rattle.std.specs.Time.{system_time_nanos};
@@ -14,9 +14,10 @@ use std::time::{SystemTime, UNIX_EPOCH};
 
 const LAST_MINUTE: u64 = 10_000_000_000;
 
-/// The clock of the machine. The minutes to come aren't observable: only those that it has given.
+/// The system clock. Only the minutes that it has returned are observable, not those to come.
 ///
-/// It fails before 1970, for which the system gives no time, and from 10,000,000,001 minutes later on.
+/// It fails for times before 1970, which the system can't represent, and after minute 10,000,000,000
+/// since 1970-01-01T00:00Z.
 #[derive(Drop)]
 pub struct HostClock<R: rt::Clock + Drop> {
     system: R,
@@ -26,7 +27,7 @@ pub struct HostClock<R: rt::Clock + Drop> {
 }
 
 impl<R: rt::Clock + Drop> HostClock<R> {
-    /// The clock of the machine.
+    /// Returns the clock of `system`.
     pub fn new(system: R) -> HostClock<R>
         ensures given { (⟦<HostClock<R> as Clock>⟧.state result).given ≡ [] }
         ensures faults { (⟦<HostClock<R> as Clock>⟧.state result).faults ≡ 0 }
@@ -56,7 +57,7 @@ impl<R: rt::Clock + Drop> Clock for HostClock<R> {
     }
 }
 
-/// The minute of `now`, if a clock may give it.
+/// Returns `now` in minutes since 1970-01-01T00:00Z, or `None` if this exceeds 10,000,000,000.
 fn minute_at(now: SystemTime) -> Option<i64>
     ensures exact { MatchOption result (10000000000 < system_time_nanos now / 1000000000 / 60) (λ minute. minute ≡ pos (system_time_nanos now / 1000000000 / 60)) }
     ensures in_range { IfSome result IsClockMinute }
@@ -67,7 +68,8 @@ fn minute_at(now: SystemTime) -> Option<i64>
     }
 }
 
-/// The minute that has the second `seconds` since 1970-01-01 00:00 UTC, if a clock may give it.
+/// Returns the minute of the second `seconds` since 1970-01-01T00:00Z, or `None` if it exceeds
+/// 10,000,000,000.
 fn minute_of(seconds: u64) -> Option<i64>
     ensures exact { MatchOption result (10000000000 < seconds / 60) (λ minute. minute ≡ pos (seconds / 60)) }
     ensures in_range { IfSome result IsClockMinute }

@@ -1,4 +1,4 @@
-//! A port of the machine.
+//! A TCP port of the machine.
 
 ghost use Rattle.std.specs.Prelude.{◌≡◌, ◌<◌, ◌≤◌, false, IsTrue, [], length, None, IfOk};
 ghost use Rattle.std.specs.Io.KnownBytes.{ReadConsumes, WriteAppends};
@@ -15,18 +15,19 @@ use std::io::{self, ErrorKind};
 use std::net::{Ipv4Addr, Net, OpenListener, TcpListener};
 use std::rt;
 
-/// How many connections may be gone in a row before they are taken.
+/// The most connections in a row that may have failed before they are accepted.
 const GONE_IN_A_ROW: u32 = u32::MAX;
 
-/// Linux's numbers of those errors of a connection that `ErrorKind` has no name for, or none of their own: ENONET, EPROTO,
+/// Linux's numbers of the errors of a connection that `ErrorKind` has no variant for: ENONET, EPROTO,
 /// ENOPROTOOPT, EOPNOTSUPP and EHOSTDOWN.
 const CONNECTION_ERRORS: [i32; 5] = [64, 71, 92, 95, 112];
 
-/// A port of the machine, at 127.0.0.1 alone. Which requests wait isn't observable: only what passed over each connection.
+/// A TCP port of the machine, at 127.0.0.1 only. The bytes read and written over each connection are
+/// observable, the waiting requests aren't.
 ///
-/// It waits for the next connection for as long as it takes, so `next` never answers that no more will come. A peer has 60
-/// seconds for its whole request and 60 seconds to take its whole reply, after which `read` or `write` fails, and `close`
-/// waits 2 seconds at most for the end of what it sends.
+/// `next` waits without limit, so it never returns false. A peer has 60 seconds to send its whole request
+/// and 60 seconds to receive its whole reply; after that `read` or `write` fails. `close` waits at most 2
+/// seconds for the end of what the peer sends.
 #[derive(Drop)]
 pub struct HostDoor<R: Net + rt::Clock + Drop> {
     system: R,
@@ -42,7 +43,7 @@ pub struct HostDoor<R: Net + rt::Clock + Drop> {
 impl<R: Net + rt::Clock + Drop> HostDoor<R> {
     ghost use Rattle.tide_edge.specs.Doors.{no_connections, unasked};
 
-    /// A door that doesn't listen yet.
+    /// Returns a door that doesn't listen yet.
     pub fn new(system: R) -> HostDoor<R>
         ensures doorway { (⟦<HostDoor<R> as Door>⟧.state result).doorway ≡ unasked }
         ensures connections { (⟦<HostDoor<R> as Door>⟧.state result).connections ≡ no_connections }
@@ -139,7 +140,7 @@ impl<R: Net + rt::Clock + Drop> Door for HostDoor<R> {
     }
 }
 
-// Takes the next connection, past those that are gone before they are taken.
+// Accepts the next connection, skipping those that failed before they were accepted.
 fn take_next<L: OpenListener>(listener: &L) -> io::Result<L::Stream> {
     for _ in 0..GONE_IN_A_ROW {
         match listener.accept() {
@@ -151,7 +152,7 @@ fn take_next<L: OpenListener>(listener: &L) -> io::Result<L::Stream> {
     Err(io::Error::from(ErrorKind::ConnectionAborted))
 }
 
-// True if an error of taking a connection is that connection's own, as accept(2) lists them.
+// Returns true if `fault`, an error of accepting, is of that one connection, as accept(2) lists them.
 fn is_of_connection(fault: &io::Error) -> bool {
     let is_named = matches!(
         fault.kind(),

@@ -1,4 +1,4 @@
-//! The count of the failures of the system.
+//! Counting the failures of the system.
 
 ghost use Rattle.std.specs.Prelude.{◌≡◌};
 ghost use Rattle.tide_edge.specs.Faults.{counted};
@@ -6,7 +6,7 @@ ghost use Rattle.tide_edge.specs.Faults.{counted};
 use crate::count::one_more;
 use crate::failed::Failed;
 
-/// Counts a failure.
+/// Counts a failure in `faults`, and returns it.
 pub(crate) fn count_fault(faults: &mut u64) -> Failed
     ensures { faults.new ≡ counted faults.old }
 {

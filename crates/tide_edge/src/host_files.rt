@@ -1,4 +1,4 @@
-//! The files of the machine.
+//! The files of the file system.
 
 ghost use Rattle.std.specs.Prelude.{◌≡◌, ◌<◌, ◌≤◌, false, [], length, None, IfOk, OnOk, OnErr, IsSome};
 ghost use Rattle.std.specs.Io.KnownBytes.{ReadConsumes};
@@ -13,10 +13,11 @@ use crate::reads::Reads;
 use decimal_text::Text;
 use std::{fs, rt};
 
-/// The files of the machine, by their paths. What they hold isn't observable: only what was opened and what came of it.
+/// The files of the file system, by their paths. What was opened and read is observable, the contents
+/// aren't.
 ///
-/// A path that can't be opened fails in `open`, and what can't be read, as a folder, fails in `read`. A file is closed
-/// when its end was read.
+/// `open` fails for a path that can't be opened, and `read` for one that can't be read, such as a
+/// directory. A file is closed once its end was read.
 #[derive(Drop)]
 pub struct HostFiles<R: rt::Files + Drop> {
     system: R,
@@ -29,7 +30,7 @@ pub struct HostFiles<R: rt::Files + Drop> {
 impl<R: rt::Files + Drop> HostFiles<R> {
     ghost use Rattle.tide_edge.specs.Adapters.{file_of};
 
-    /// The files of the machine, none of them open.
+    /// Returns the files of `system`, none of them open.
     pub fn new(system: R) -> HostFiles<R>
         ensures none_open { file_of result ≡ None }
         ensures openings { (⟦<HostFiles<R> as Files>⟧.state result).openings ≡ no_openings }

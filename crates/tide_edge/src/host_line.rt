@@ -1,4 +1,4 @@
-//! A connection of the machine.
+//! A TCP connection of the machine.
 
 ghost use Rattle.std.specs.Prelude.{◌<◌, ◌≤◌, length, IfOk};
 ghost use Rattle.std.specs.Io.KnownBytes.{ReadConsumes, WriteAppends};
@@ -8,22 +8,22 @@ use std::net::{OpenStream, Shutdown};
 use std::rt;
 use std::time::{Duration, Instant};
 
-/// How many seconds a peer has for its whole request, from when its connection was taken.
+/// The seconds that a peer has to send its whole request, counted from when its connection was accepted.
 const REQUEST_SECONDS: u64 = 60;
 
-/// How many seconds a peer has to take its whole reply, from when the first of it was written.
+/// The seconds that a peer has to receive its whole reply, counted from the first write.
 const REPLY_SECONDS: u64 = 60;
 
-/// How many seconds a peer has after its reply to end what it sends.
+/// The seconds that a peer has after its reply to end what it sends.
 const FAREWELL_SECONDS: u64 = 2;
 
-/// The least timeout of a socket, in milliseconds: with 0 it would wait for ever.
+/// The shortest timeout of a socket, in milliseconds: a timeout of 0 means that it waits without limit.
 const SHORTEST_WAIT_MILLISECONDS: u64 = 1;
 
-/// How often a connection is called at most within a deadline: more often than there is time for.
+/// The most calls on a connection within a deadline: more than there is time for.
 const TRIES: u32 = u32::MAX;
 
-/// The moment when waiting ends. There is none where the clock couldn't be read, and no time is left then.
+/// The time when waiting ends. It is absent if the clock couldn't be read, and then no time is left.
 #[derive(Clone, Copy)]
 struct Deadline {
     end: Option<Instant>,
@@ -37,7 +37,7 @@ impl Deadline {
         }
     }
 
-    // The time that is left until then, and the least timeout of a socket at least.
+    // Returns the time left until the deadline, at least the shortest timeout of a socket.
     fn left(self, clock: &impl rt::Clock) -> io::Result<Duration> {
         let now = Instant::now(clock)?;
         let shortest = Duration::from_millis(SHORTEST_WAIT_MILLISECONDS);
@@ -48,8 +48,8 @@ impl Deadline {
     }
 }
 
-/// A connection that was taken. It waits for its peer until a deadline, not for each silence anew, by a clock that never
-/// goes back, and tries again within it what a signal interrupted.
+/// An accepted connection. It waits for its peer until one deadline for the whole request or reply, by a
+/// clock that never goes back, and repeats calls that a signal interrupted.
 #[derive(Drop)]
 pub(crate) struct HostLine<S: OpenStream + Read + Write + Drop> {
     stream: S,
@@ -60,7 +60,7 @@ pub(crate) struct HostLine<S: OpenStream + Read + Write + Drop> {
 impl<S: OpenStream + Read + Write + Drop> HostLine<S> {
     ghost use Rattle.tide_edge.specs.Adapters.{stream_of};
 
-    /// A connection that was just taken.
+    /// Returns a connection over the just accepted `stream`; the time for its request begins now.
     pub(crate) fn new(stream: S, clock: &impl rt::Clock) -> HostLine<S> {
         HostLine {
             stream,
@@ -69,7 +69,7 @@ impl<S: OpenStream + Read + Write + Drop> HostLine<S> {
         }
     }
 
-    /// Reads the next bytes, and answers how many came: 0 at their end.
+    /// Reads the next bytes into the first bytes of `room`, and returns their count: 0 at their end.
     pub(crate) fn read(&mut self, clock: &impl rt::Clock, room: &mut [u8]) -> io::Result<usize>
         ensures within { IfOk result (λ count. count ≤ length room.old) }
         ensures tied { ReadConsumes (S.remaining (stream_of self.old)) (S.remaining (stream_of self.new)) result room.new }
@@ -77,7 +77,8 @@ impl<S: OpenStream + Read + Write + Drop> HostLine<S> {
         read_in_time(&mut self.stream, self.deadline, clock, room)
     }
 
-    /// Writes the first bytes of `piece`, and answers how many were taken. The reply's time begins with its first call.
+    /// Writes the first bytes of `piece`, and returns their count. The time for the reply begins with the
+    /// first call.
     pub(crate) fn write(&mut self, clock: &impl rt::Clock, piece: &[u8]) -> io::Result<usize>
         ensures within { IfOk result (λ count. count ≤ length piece.now) }
         ensures tied { WriteAppends (S.contents (stream_of self.old)) (S.contents (stream_of self.new)) result piece.now }
@@ -89,8 +90,8 @@ impl<S: OpenStream + Read + Write + Drop> HostLine<S> {
         write_in_time(&mut self.stream, self.deadline, clock, piece)
     }
 
-    /// Says that the reply has ended, and takes what the peer still sends until its end, since a system that closes a
-    /// connection with bytes unread may drop the reply on its way (RFC 9112, section 9.6).
+    /// Shuts down the writing side, and reads what the peer still sends until its end: a system that
+    /// closes a connection with unread bytes may drop the reply on its way (RFC 9112, section 9.6).
     pub(crate) fn part(&mut self, clock: &impl rt::Clock) {
         if self.stream.shutdown(Shutdown::Write).is_err() {
             return;
@@ -106,7 +107,7 @@ impl<S: OpenStream + Read + Write + Drop> HostLine<S> {
     }
 }
 
-// The count of the bytes that came into the begin of `room` before the deadline: 0 at their end.
+// Reads into the first bytes of `room` before the deadline, and returns the count: 0 at the end.
 fn read_in_time<S: OpenStream + Read>(
     stream: &mut S,
     deadline: Deadline,
@@ -126,7 +127,7 @@ fn read_in_time<S: OpenStream + Read>(
     Err(io::Error::from(ErrorKind::Interrupted))
 }
 
-// The count of the first bytes of `piece` that the stream accepted before the deadline.
+// Writes the first bytes of `piece` before the deadline, and returns their count.
 fn write_in_time<S: OpenStream + Write>(
     stream: &mut S,
     deadline: Deadline,

@@ -1,4 +1,4 @@
-//! Standard output and standard error.
+//! Sinks over standard output and standard error.
 
 ghost use Rattle.std.specs.Prelude.{◌≡◌, ◌<◌, ◌≤◌, [], length, IfOk};
 ghost use Rattle.tide_edge.specs.SinkStates.{sink_after_write};
@@ -10,9 +10,9 @@ use crate::sink::Sink;
 use crate::write_through::write_through;
 use std::io::Write;
 
-/// A writer of the machine, as standard output or standard error.
+/// A sink over a writer of the machine, such as standard output or standard error.
 ///
-/// Bytes that a write accepts have been passed to the system: none are kept back.
+/// Bytes that a write accepts have been passed to the system: none are buffered.
 #[derive(Drop)]
 pub struct HostSink<W: Write + Drop> {
     writer: W,
@@ -23,7 +23,7 @@ pub struct HostSink<W: Write + Drop> {
 impl<W: Write + Drop> HostSink<W> {
     ghost use Rattle.tide_edge.specs.Adapters.{writer_of};
 
-    /// A sink over a writer, as `rt.stdout()` or `rt.stderr()`.
+    /// Returns a sink over `writer`, such as `rt.stdout()` or `rt.stderr()`.
     pub fn new(writer: W) -> HostSink<W>
         ensures over { writer_of result ≡ writer }
         ensures unused { ⟦<HostSink<W> as Sink>⟧.state result ≡ record { taken = []; faults = 0 } }

@@ -1,8 +1,9 @@
-//! The outside of the program: files, where bytes are written to, the clock, and the door that connections come through.
+//! The outside of the program: files, sinks of bytes, the clock, and the door that connections come
+//! through.
 //!
-//! Each is a trait, with an observable implementation in memory and one over the machine, whose
-//! answers are tied to the bytes known below it. [`read_all`] reads a whole file and [`write_all`] writes all of its bytes,
-//! over any of them.
+//! Each is a trait with an observable implementation in memory and one over the machine, whose results
+//! are tied by contracts to the bytes of the system below it. [`read_all`] reads a whole file, and
+//! [`write_all`] writes all of its bytes, over any implementation.
 #![tactic(auto)]
 
 mod byte_transcript;

@@ -17,7 +17,7 @@ use std::alloc::{AllocError, Global};
 use std::collections::VecDeque;
 use std::marker::Model;
 
-/// A door in memory, whose requests and replies are observable.
+/// A door in memory, whose waiting requests and replies are observable.
 #[derive(Debug, Drop)]
 pub struct MemoryDoor {
     doorway: Doorway,
@@ -57,10 +57,14 @@ impl Model for MemoryDoor {
 impl MemoryDoor {
     ghost use Rattle.tide_edge.specs.Doors.{no_connections, unasked};
 
-    /// A door at which these requests wait, each in pieces that come one by one and aren't empty.
-    /// All replies together may have `room` bytes. A call fails where its number is in `fails`, and a write also where the room
-    /// is full; calls are counted from 1, those of `close` aside.
-    /// It takes the memory for its room here, and none later.
+    /// Returns a door at which `requests` wait, each in pieces that come one by one; no piece is empty.
+    /// All replies together have at most `room` bytes. The calls whose numbers are in `fails` fail,
+    /// counted from 1 without those of `close`, and so does a write if `room` is used up.
+    ///
+    /// It allocates the memory for all replies here, and none later.
+    ///
+    /// # Errors
+    /// [`AllocError`] if memory runs out.
     pub fn new(
         alloc: Global,
         requests: Vec<Vec<Bytes>>,
@@ -90,7 +94,8 @@ impl MemoryDoor {
         })
     }
 
-    /// The reply of a connection, counted from 0, if more connections than that were taken.
+    /// Returns the reply of connection `i`, counted from 0, or `None` if at most `i` connections were
+    /// accepted.
     pub fn reply(&self, i: u64) -> Option<&[u8]>
         ensures { MatchOption result (length self.now.replies ≤ i)
             (λ reply. slice_get self.now.replies i ≡ Some reply.now) }

@@ -17,7 +17,7 @@ use crate::rest::rest_from;
 use decimal_text::Text;
 use std::marker::Model;
 
-/// Files in memory, which tell what they hold. They are steady where none of their calls is to fail.
+/// Files in memory, whose contents are observable. They are steady if none of their calls is to fail.
 #[derive(Debug, Drop)]
 pub struct MemoryFiles {
     files: Vec<NamedFile>,
@@ -45,8 +45,8 @@ impl Model for MemoryFiles {
 }
 
 impl MemoryFiles {
-    /// Files in memory, none of them open. Of two with one name the first counts.
-    /// A call fails where its number is in `fails`; calls of `open` and `read` are counted from 1.
+    /// Returns files in memory, none of them open. If two have the same name, the first is found. The
+    /// calls of `open` and `read` whose numbers, counted from 1, are in `fails` fail.
     pub fn new(files: Vec<NamedFile>, fails: Vec<u64>) -> MemoryFiles
         ensures { result ≡ record {
           files = files.items;
@@ -109,7 +109,7 @@ impl Files for MemoryFiles {
     }
 }
 
-/// The place of the first file of that name.
+/// Returns the index of the first file `name`.
 fn place_of(files: &[NamedFile], name: &Text) -> Option<usize>
     ensures { folder_of files.now name.now ≡ option_map (bytes_at files.now) result }
 {
@@ -124,7 +124,7 @@ fn first_named(files: &[NamedFile], name: &Text) -> Option<usize>
         .position(|file| file.name.as_str() == name.as_str())
 }
 
-/// What is left of the file at that place.
+/// Returns the bytes of the file with index `opened` from byte `at` on: none if no file is open.
 fn rest_at(files: &[NamedFile], opened: Option<usize>, at: usize) -> &[u8]
     ensures rest { result.now ≡ rest_of files.now opened at }
     ensures fits { at + length result.now < 2 ^ 64 }

@@ -29,9 +29,13 @@ impl Model for MemorySink {
 }
 
 impl MemorySink {
-    /// An empty sink that takes at most `most` bytes a call and `room` bytes in all.
-    /// A call fails where its number, counted from 1, is in `fails`, and where the room is full.
-    /// It takes the memory for its room here, and none later.
+    /// Returns an empty sink that accepts at most `most` bytes a call and `room` bytes in all. The calls
+    /// whose numbers, counted from 1, are in `fails` fail, and so does each call if `room` is used up.
+    ///
+    /// It allocates `room` bytes here, and none later.
+    ///
+    /// # Errors
+    /// [`AllocError`] if memory runs out.
     pub fn new(
         alloc: Global,
         most: u64,
@@ -54,7 +58,7 @@ impl MemorySink {
         })
     }
 
-    /// The bytes taken.
+    /// Borrows the bytes accepted so far.
     pub fn bytes(&self) -> &[u8]
         ensures { result.now ≡ self.now.taken }
     {

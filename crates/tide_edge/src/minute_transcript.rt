@@ -1,11 +1,11 @@
-//! The minutes that a clock gave, for contracts alone.
+//! A ghost record of the minutes that a clock returned.
 
 ghost use Rattle.std.specs.Prelude.{◌≡◌, ℤ, List, [], ◌∷◌, ◌++◌};
 ghost use Rattle.std.specs.Borrow.{ftrue};
 
 use std::marker::Model;
 
-/// The minutes that a clock gave so far. It allocates nothing.
+/// A ghost record of the minutes that a clock returned, in order. At run time it holds nothing.
 #[derive(Debug, Drop)]
 pub(crate) struct MinuteTranscript {
     pub ghost minutes: { List ℤ },
@@ -16,14 +16,14 @@ impl Model for MinuteTranscript {
 }
 
 impl MinuteTranscript {
-    /// No minute.
+    /// Returns the record of no minutes.
     pub(crate) fn new() -> MinuteTranscript
         ensures { result.minutes ≡ [] }
     {
         MinuteTranscript {}
     }
 
-    /// These minutes, and then this one.
+    /// Returns this record followed by `_minute`.
     pub(crate) fn then(&self, _minute: &i64) -> MinuteTranscript
         ensures { result.minutes ≡ self.now.minutes ++ _minute.now ∷ [] }
     {

@@ -1,4 +1,4 @@
-//! The open connection of a door of the machine, if there is one.
+//! Reading and writing the open connection of a door of the machine.
 
 ghost use Rattle.std.specs.Prelude.{◌≡◌, ◌<◌, ◌≤◌, length, IfOk, is_err};
 ghost use Rattle.std.specs.Io.KnownBytes.{ReadConsumes, WriteAppends};
@@ -12,7 +12,7 @@ use std::io::{Read, Write};
 use std::net::OpenStream;
 use std::rt;
 
-/// The count of the bytes that came into the begin of `room`, with a failure counted.
+/// Reads into the first bytes of `room` and returns the count; a failure is counted in `faults`.
 pub(crate) fn read_open<S: OpenStream + Read + Write + Drop>(
     line: &mut Option<HostLine<S>>,
     clock: &impl rt::Clock,
@@ -32,7 +32,8 @@ pub(crate) fn read_open<S: OpenStream + Read + Write + Drop>(
     }
 }
 
-/// The count of the first bytes of `piece` that were accepted, with a failure counted. A write that accepted none is one.
+/// Writes the first bytes of `piece` and returns their count; a failure is counted in `faults`. A write
+/// that accepts no byte is a failure.
 pub(crate) fn write_open<S: OpenStream + Read + Write + Drop>(
     line: &mut Option<HostLine<S>>,
     clock: &impl rt::Clock,

@@ -1,4 +1,4 @@
-//! One opening of a file, and what came of it.
+//! One opening of a file, with the bytes read after it.
 
 ghost use Rattle.std.specs.Prelude.{◌≡◌, ◌≤◌, ◌==◌, length};
 
@@ -6,7 +6,8 @@ use crate::byte_transcript::ByteTranscript;
 use decimal_text::Text;
 use std::marker::Model;
 
-/// One call of `open`: the name, whether a file was opened, the bytes that came of it, and whether its end was found.
+/// One call of `open`: the name, whether a file was opened, the bytes read of it, and whether its end was
+/// found.
 #[derive(Debug, Drop)]
 pub(crate) struct OneOpening {
     name: ByteTranscript,
@@ -31,7 +32,7 @@ impl Model for OneOpening {
 impl OneOpening {
     ghost use Rattle.tide_edge.specs.FileStates.{just_opened, opening_after_read};
 
-    /// Of this file nothing was read yet.
+    /// Returns the opening of `name` before any byte is read; `is_open` is true if a file was opened.
     pub(crate) fn new(name: &Text, is_open: bool) -> OneOpening
         ensures { result ≡ just_opened is_open name.now }
     {
@@ -43,7 +44,7 @@ impl OneOpening {
         }
     }
 
-    /// The first `count` bytes of `room` came.
+    /// Records that the first `count` bytes of `room` were read.
     pub(crate) fn read(&mut self, room: &[u8], count: usize)
         requires { count ≤ length room.now }
         ensures { self.new ≡ opening_after_read count room.now self.old }

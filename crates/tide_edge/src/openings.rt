@@ -1,4 +1,4 @@
-//! All openings of files, and what came of each.
+//! All openings of files, with the bytes read after each.
 
 ghost use Rattle.std.specs.Prelude.{◌≡◌, ◌≤◌, length};
 
@@ -7,7 +7,8 @@ use crate::opening::OneOpening;
 use decimal_text::Text;
 use std::marker::Model;
 
-/// All openings of files, with what came of each. It keeps no byte, name or list: these are for contracts alone.
+/// All openings of files, with the bytes read after each. The bytes, names and lists are ghosts: none is
+/// kept at run time.
 #[derive(Debug, Drop)]
 pub(crate) struct Openings {
     earlier: EarlierOpenings,
@@ -25,7 +26,7 @@ impl Model for Openings {
 impl Openings {
     ghost use Rattle.tide_edge.specs.FileStates.{no_openings, openings_after_open, openings_after_read};
 
-    /// Before any call.
+    /// Returns the record before any call.
     pub(crate) fn none() -> Openings
         ensures { result ≡ no_openings }
     {
@@ -35,7 +36,7 @@ impl Openings {
         }
     }
 
-    /// After a call of `open`.
+    /// Records a call of `open` for `name`; `is_open` is true if it opened a file.
     pub(crate) fn open(&mut self, name: &Text, is_open: bool)
         ensures { self.new ≡ openings_after_open is_open name.now self.old }
     {
@@ -45,7 +46,7 @@ impl Openings {
         self.latest = Some(OneOpening::new(name, is_open));
     }
 
-    /// After a call of `read` that put `count` bytes into the begin of `room`.
+    /// Records a call of `read` that put `count` bytes into the first bytes of `room`.
     pub(crate) fn read(&mut self, room: &[u8], count: usize)
         requires { count ≤ length room.now }
         ensures { self.new ≡ openings_after_read count room.now self.old }

@@ -1,4 +1,4 @@
-//! All connections, and what passed over each.
+//! All connections, with the bytes read and written over each.
 
 ghost use Rattle.std.specs.Prelude.{◌≡◌, ◌≤◌, length, IfOk, Ok, true};
 ghost use Rattle.tide_edge.specs.declared.failed.Failed.{Failed};
@@ -8,7 +8,8 @@ use crate::earlier_connections::EarlierConnections;
 use crate::failed::Failed;
 use std::marker::Model;
 
-/// All connections, with what passed over each. It keeps no byte and no list: these are for contracts alone.
+/// All connections, with the bytes read and written over each. The bytes and lists are ghosts: none is
+/// kept at run time.
 #[derive(Debug, Drop)]
 pub(crate) struct Connections {
     earlier: EarlierConnections,
@@ -26,7 +27,7 @@ impl Model for Connections {
 impl Connections {
     ghost use Rattle.tide_edge.specs.Doors.{no_connections, connections_after_next, connection_after_read, connection_after_write, change_latest};
 
-    /// Before any call.
+    /// Returns the record before any call.
     pub(crate) fn none() -> Connections
         ensures { result ≡ no_connections }
     {
@@ -36,7 +37,7 @@ impl Connections {
         }
     }
 
-    /// Another connection was taken.
+    /// Records that another connection was accepted.
     pub(crate) fn open(&mut self)
         ensures { self.new ≡ connections_after_next (Ok true) self.old }
     {
@@ -46,7 +47,7 @@ impl Connections {
         self.latest = Some(OneConnection::new());
     }
 
-    /// After a call of `read` with `room`.
+    /// Records a call of `read` with `room` and its `outcome`.
     pub(crate) fn read(&mut self, room: &[u8], outcome: &Result<usize, Failed>)
         requires { IfOk outcome.now (λ count. count ≤ length room.now) }
         ensures { self.new ≡ change_latest (connection_after_read outcome.now room.now) self.old }
@@ -56,7 +57,7 @@ impl Connections {
         }
     }
 
-    /// After a call of `write` with `piece`.
+    /// Records a call of `write` with `piece` and its `outcome`.
     pub(crate) fn write(&mut self, piece: &[u8], outcome: &Result<usize, Failed>)
         requires { IfOk outcome.now (λ count. count ≤ length piece.now) }
         ensures { self.new ≡ change_latest (connection_after_write outcome.now piece.now) self.old }

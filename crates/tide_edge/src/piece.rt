@@ -1,4 +1,4 @@
-//! How much of a file is read at once.
+//! The size of the pieces in which a file is read.
 
-/// How many bytes a file is read in at most by one call.
+/// The most bytes that one call reads of a file.
 pub const PIECE: usize = 65_536;

@@ -1,4 +1,4 @@
-//! What is left of a connection's bytes.
+//! The unread bytes of a connection in memory.
 
 ghost use Rattle.std.specs.Prelude.{◌≡◌, ◌↔◌, ◌<◌, ◌++◌, IsTrue, [], length, min, take, drop};
 ghost use Rattle.std.specs.List.{concat};
@@ -10,7 +10,7 @@ use decimal_text::Bytes;
 use std::collections::VecDeque;
 use std::marker::Model;
 
-/// The pieces of a connection that weren't read yet, of which none is empty.
+/// The unread pieces of a connection; none is empty.
 #[derive(Debug, Drop)]
 pub(crate) struct Pieces {
     pieces: VecDeque<Bytes>,
@@ -30,7 +30,7 @@ impl Model for Pieces {
 }
 
 impl Pieces {
-    /// All of some pieces.
+    /// Returns all of `pieces` as unread.
     pub(crate) fn new(pieces: Vec<Bytes>) -> Pieces
         requires { IsTrue (are_pieces pieces.items) }
         ensures { result ≡ pieces.items }
@@ -41,7 +41,7 @@ impl Pieces {
         }
     }
 
-    /// Copies the next bytes of the first piece into the begin of `room`, and answers how many.
+    /// Copies the next bytes of the first piece into the first bytes of `room`, and returns their count.
     pub(crate) fn read(&mut self, room: &mut [u8]) -> usize
         requires { 0 < length room.old }
         ensures end { (result ≡ 0) ↔ (concat self.old ≡ []) }

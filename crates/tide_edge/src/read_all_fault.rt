@@ -1,4 +1,4 @@
-//! Why a file wasn't read whole.
+//! The reasons why a file wasn't read whole.
 
 ghost use Rattle.std.specs.Prelude.{◌≡◌};
 
@@ -6,16 +6,16 @@ use crate::failed::Failed as CallFailed;
 use std::alloc::AllocError;
 use thiserror::Error;
 
-/// Why a file wasn't read whole.
+/// The reason why a file wasn't read whole.
 #[derive(Clone, Copy, Debug, PartialEq, Eq, Error)]
 pub enum ReadAllFault {
     /// Opening or reading the file failed.
     #[error("the file can't be read")]
     Failed,
-    /// More bytes came than were allowed.
+    /// The file has more bytes than the limit.
     #[error("the file is too long")]
     TooLong,
-    /// There was no memory for the bytes.
+    /// Out of memory for the file's bytes.
     #[error("no memory for the file")]
     NoMemory,
 }

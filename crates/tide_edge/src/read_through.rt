@@ -1,4 +1,4 @@
-//! One read of a file of the machine.
+//! Reading a file of the machine once.
 
 ghost use Rattle.std.specs.Prelude.{◌<◌, ◌≤◌, length, IfOk};
 ghost use Rattle.std.specs.Io.KnownBytes.{ReadConsumes};
@@ -7,8 +7,8 @@ ghost use Rattle.tide_edge.specs.Adapters.{left_of};
 use crate::failed::Failed;
 use std::io::Read;
 
-/// The count of the bytes that came into the begin of `room`: 0 at the end of the file, which is closed then, and if no file
-/// is open.
+/// Reads into the first bytes of `room` and returns the count: 0 at the end of the file, which is then
+/// closed, and if no file is open.
 pub(crate) fn read_through<F: Read + Drop>(
     opened: &mut Option<F>,
     room: &mut [u8],

@@ -11,13 +11,15 @@ use crate::read_all_fault::ReadAllFault;
 use decimal_text::{Bytes, Text};
 use std::alloc::Global;
 
-/// Reads the file of that name from its begin to its end, if it has at most `limit` bytes. It is opened at most
-/// once, its end is found at most once, and at most a piece of 65,536 bytes past the limit is read of it, whatever is answered.
+/// Returns all bytes of the file `name`, if there are at most `limit`. The file is opened at most once,
+/// its end is found at most once, and at most 65,536 bytes past `limit` are read of it, whatever the
+/// result.
 ///
 /// # Errors
-/// [`ReadAllFault::Failed`] exactly where the count of faults of `files` is one more, and over steady files only where
-/// there is no file of that name; [`ReadAllFault::TooLong`] exactly where more than `limit` bytes came;
-/// [`ReadAllFault::NoMemory`].
+/// [`ReadAllFault::Failed`] if opening or reading fails, which is exactly if the count of faults of
+/// `files` grows by one, and if the files are steady only if there is no file `name`;
+/// [`ReadAllFault::TooLong`] exactly if more than `limit` bytes came; [`ReadAllFault::NoMemory`] if
+/// memory runs out.
 pub fn read_all<F: Files>(
     alloc: Global,
     files: &mut F,
@@ -38,7 +40,8 @@ pub fn read_all<F: Files>(
     }
 }
 
-/// Reads the open file to its end in pieces of the room's size, if at most `limit` bytes are left.
+/// Reads the open file to its end, in pieces of at most the length of `room`, if at most `limit` bytes
+/// are left.
 fn read_rest<F: Files>(
     alloc: Global,
     files: &mut F,

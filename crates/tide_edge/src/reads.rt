@@ -1,11 +1,12 @@
-//! The counts of what was opened and read.
+//! The counts of openings, ends and bytes of files.
 
 ghost use Rattle.std.specs.Prelude.{◌≡◌};
 
 use crate::count::{more, one_more};
 use std::marker::Model;
 
-/// How many calls of `open` there were, how many of `read` that found the end, and how many bytes came.
+/// The number of calls of `open`, of calls of `read` that found the end, and of bytes read. Each
+/// saturates.
 #[derive(Debug, Drop)]
 pub(crate) struct Reads {
     opens: u64,
@@ -24,7 +25,7 @@ impl Model for Reads {
 impl Reads {
     ghost use Rattle.tide_edge.specs.FileStates.{one_opening, one_reading};
 
-    /// Before any call.
+    /// Returns the counts before any call.
     pub(crate) fn none() -> Reads
         ensures { result ≡ record { opens = 0; ends = 0; bytes = 0 } }
     {
@@ -42,7 +43,7 @@ impl Reads {
         self.opens = one_more(self.opens);
     }
 
-    /// Counts a call of `read` that gave `count` bytes, and returns `count`.
+    /// Counts a call of `read` that read `count` bytes, and returns `count`.
     pub(crate) fn read(&mut self, count: usize) -> usize
         ensures same { result ≡ count }
         ensures after { self.new ≡ one_reading count self.old }

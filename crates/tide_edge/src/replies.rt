@@ -7,7 +7,7 @@ use crate::rest::rest_from;
 use std::alloc::{AllocError, Global};
 use std::marker::Model;
 
-/// Replies, one after the other in memory that was taken for all of them.
+/// The replies, one after the other in memory that was allocated for all of them.
 #[derive(Debug, Drop)]
 pub(crate) struct Replies {
     bytes: Vec<u8>,
@@ -30,7 +30,10 @@ impl Model for Replies {
 }
 
 impl Replies {
-    /// No reply yet, with memory for these counts of bytes and replies.
+    /// Returns no replies, with memory for `room` bytes in `more` replies.
+    ///
+    /// # Errors
+    /// [`AllocError`] if memory runs out.
     pub(crate) fn new(alloc: Global, room: u64, more: usize) -> Result<Replies, AllocError>
         ensures { IfOk result (λ replies. replies ≡ record { replies = []; room = room; more = more }) }
     {
@@ -55,7 +58,7 @@ impl Replies {
         self.starts.push(self.bytes.len()).unwrap();
     }
 
-    /// Appends to the last reply.
+    /// Appends `piece` to the last reply.
     pub(crate) fn append(&mut self, piece: &[u8])
         requires { length piece.now ≤ self.old.room }
         ensures { self.new ≡ record {
@@ -68,14 +71,14 @@ impl Replies {
         self.bytes.extend_from_slice(piece).unwrap();
     }
 
-    /// How many more bytes the replies may take.
+    /// Returns the number of bytes that the replies may still grow by.
     pub(crate) fn room(&self) -> u64
         ensures { result ≡ self.now.room }
     {
         self.room
     }
 
-    /// The reply at a place, counted from 0.
+    /// Returns the reply with index `place`, counted from 0.
     pub(crate) fn get(&self, place: u64) -> Option<&[u8]>
         ensures { MatchOption result (length self.now.replies ≤ place)
             (λ reply. slice_get self.now.replies place ≡ Some reply.now) }

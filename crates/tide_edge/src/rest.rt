@@ -1,8 +1,8 @@
-//! What is left of some bytes.
+//! The rest of a slice of bytes.
 
 ghost use Rattle.std.specs.Prelude.{◌≡◌, ◌+◌, ◌-◌, ◌<◌, ◌^◌, length, drop};
 
-/// The bytes from there on.
+/// Returns the bytes from index `at` on: none if `at` is past the end.
 pub(crate) fn rest_from(bytes: &[u8], at: usize) -> &[u8]
     ensures rest { result.now ≡ drop at bytes.now }
     ensures count { length result.now ≡ length bytes.now - at }

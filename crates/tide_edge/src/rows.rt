@@ -1,4 +1,4 @@
-//! Worked rows of the definitions that contracts cite.
+//! Examples of the definitions that contracts cite.
 
 ghost use Rattle.std.specs.Prelude.{◌≡◌, ◌-◌, ◌^◌, true, false, [], ◌∷◌, Some, None, Ok, Err};
 ghost use Rattle.tide_edge.specs.Calls.{is_to_fail};
@@ -10,7 +10,7 @@ ghost use Rattle.tide_edge.specs.Whole.{whole};
 
 use crate::read_all_fault::ReadAllFault;
 
-/// Checks the definitions at a few values.
+/// Proves examples of the definitions: whole files, counts, pieces, connections and clocks.
 pub fn worked_rows()
     ensures fits { whole 3 (Some (7 ∷ 8 ∷ 9 ∷ [])) ≡ Ok (7 ∷ 8 ∷ 9 ∷ []) }
     ensures too_long { whole 2 (Some (7 ∷ 8 ∷ 9 ∷ [])) ≡ Err ReadAllFault.TooLong }

@@ -1,20 +1,20 @@
-//! Writers of bytes.
+//! Sinks that accept bytes.
 
 ghost use Rattle.std.specs.Prelude.{◌≡◌, ◌<◌, ◌≤◌, length, IfOk};
 ghost use Rattle.tide_edge.specs.SinkStates.{SinkState, sink_after_write};
 
 use crate::failed::Failed;
 
-/// Takes bytes, as standard output does.
+/// A sink that accepts bytes, such as standard output.
 ///
-/// The state of an implementation has the bytes that its calls said were accepted.
+/// In contracts the state of a sink has the bytes that its calls reported as accepted.
 pub trait Sink {
     ghost state: { Self → SinkState };
 
-    /// Takes the first bytes of `piece`, one at least, and answers how many.
+    /// Writes the first bytes of `piece`, at least one, and returns their count.
     ///
     /// # Errors
-    /// [`Failed`] where none was taken.
+    /// [`Failed`] if no byte was accepted.
     fn write(&mut self, piece: &[u8]) -> Result<usize, Failed>
         requires { 0 < length piece.now }
         ensures after { state self.new ≡ sink_after_write result piece.now (state self.old) }

@@ -1,4 +1,4 @@
-//! One write to a writer of the machine.
+//! Writing once to a writer of the machine.
 
 ghost use Rattle.std.specs.Prelude.{◌<◌, ◌≤◌, length, IfOk};
 ghost use Rattle.tide_edge.specs.Adapters.{WritesThrough};
@@ -6,7 +6,7 @@ ghost use Rattle.tide_edge.specs.Adapters.{WritesThrough};
 use crate::failed::Failed;
 use std::io::Write;
 
-/// The count of the first bytes of `piece` that the writer accepted and flushed, one at least.
+/// Writes and flushes the first bytes of `piece`, at least one, and returns their count.
 pub(crate) fn write_through<W: Write>(writer: &mut W, piece: &[u8]) -> Result<usize, Failed>
     ensures some { IfOk result (λ count. 0 < count) }
     ensures within { IfOk result (λ count. count ≤ length piece.now) }

@@ -1,4 +1,4 @@
-//! Writing all of some bytes.
+//! Writing all bytes of a slice.
 
 ghost use Rattle.std.specs.Prelude.{◌≡◌, ◌<◌, length, take, IfErr, OnOk};
 ghost use Rattle.tide_edge.specs.SinkStates.{put, sink_failed};
@@ -7,18 +7,19 @@ use crate::rest::rest_from;
 use crate::sink::Sink;
 use thiserror::Error;
 
-/// Not all bytes were taken: a write failed.
+/// A write failed before all bytes were accepted.
 #[derive(Clone, Copy, Debug, PartialEq, Eq, Error)]
 #[error("a write failed after {sent} bytes")]
 pub struct WriteFailed {
-    /// How many bytes were taken, from the first on.
+    /// The number of bytes that were accepted, from the first on.
     pub sent: u64,
 }
 
-/// Writes all bytes. It takes no memory.
+/// Writes all of `bytes` to `sink`. It doesn't allocate.
 ///
 /// # Errors
-/// [`WriteFailed`] where a write failed: exactly the first `sent` bytes were taken, and nothing was written after that.
+/// [`WriteFailed`] if a write failed: exactly the first `sent` bytes were accepted, and nothing was
+/// written after that.
 pub fn write_all<S: Sink>(sink: &mut S, bytes: &[u8]) -> Result<(), WriteFailed>
     ensures all { OnOk result (S.state sink.new ≡ put bytes.now (S.state sink.old)) }
     ensures sent { IfErr result (λ fault. S.state sink.new ≡ sink_failed (put (take fault.sent bytes.now) (S.state sink.old))) }

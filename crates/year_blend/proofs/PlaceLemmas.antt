@@ -1,4 +1,4 @@
--- The year that a minute lies in, and its place there.
+-- The year that contains a minute, and the minute's position there.
 use Rattle.std.proofs.Common.{◌≡◌, ℕ, zero, suc, ◌-◌, ◌<◌, ◌≤◌, ◌⊎◌, true, false, ◌&&◌, inl, inr, refl, sym, ap, ◌∙◌, arith, min, unsigned_abs, ℤ, pos, negsuc, ◌+ℤ◌, ◌-ℤ◌, ◌<ℤ◌, ◌≤ℤ◌, int_le, int_lt, nat_lt}
 use Rattle.std.proofs.lemmas.Bool.{cases_eq, cases_lt, cases_order, cond-true, cond-false, lt-ltb, le-ltb, and_left, and_right, and_from}
 use Rattle.std.proofs.lemmas.Int.{ints, by_lt_z}
@@ -30,7 +30,7 @@ pub start_of-later : (first_year : ℤ) (k j : ℕ) → pos 2 ≤ℤ first_year 
 start_of-later first_year k j low h =
     year_start_of-later (first_year +ℤ pos k) (first_year +ℤ pos j) (omega (arith, signed_arith)) (omega (arith, signed_arith))
 
--- the last year that has begun is the one whose next hasn't
+-- the last year that has begun is the one whose next year hasn't
 pub year_at-is : (first_year : ℤ) (n : ℕ) (m : ℤ) (k : ℕ) → pos 2 ≤ℤ first_year → k < n → start_of first_year k ≤ℤ m → (m <ℤ start_of first_year (suc k)) ⊎ (suc k ≡ n) → year_at first_year n m ≡ k
 year_at-is first_year zero m k low h begun ongoing = absurd (omega arith)
 year_at-is first_year (suc n) m k low h begun ongoing =
@@ -57,7 +57,7 @@ first_by_calendar first_year years m y are domain reach ongoing =
     let least = domain.least in absurd (omega (arith, signed_arith)))
     (λ ge. ge)
 
--- and the year among the run is that one, d years on, or the last
+-- the year among the run is d years after the first, or the last
 pub year_at-calendar : (first_year : ℤ) (years : ℕ) (m y : ℤ) (d k : ℕ) → AreYears first_year years → first_year +ℤ pos d ≡ y → IsYear y → year_start_of y ≤ℤ m → m <ℤ year_start_of (y +ℤ pos 1) → k ≡ min d (years - 1) → year_at first_year years m ≡ k
 year_at-calendar first_year years m y d k are there reach begun ongoing e =
     let low = are.least in
@@ -137,7 +137,7 @@ year_at-bounds first_year (suc n) m some low =
     (λ begun. rw (year_at-begun first_year n m begun)
     (record { among = omega arith; begun = begun; ongoing = inr refl }))
 
--- a minute in a blend lies in the year that starts there, or in the one before
+-- a minute in a blend is in the year that starts there, or in the one before
 pub blend_year : (first_year : ℤ) (years : ℕ) (m : ℤ) (k j : ℕ) (x : ℤ) → pos 2 ≤ℤ first_year → IsYearAt first_year years m k → IsInBlend first_year years m j x → ((j ≡ k) × (pos 0 ≤ℤ x)) ⊎ ((j ≡ suc k) × (x <ℤ pos 0))
 blend_year first_year years m k j x low at blend =
     let begun = at.begun in
@@ -204,7 +204,7 @@ not_begun : (first_year : ℤ) (years : ℕ) (m : ℤ) (k : ℕ) → suc k < yea
 not_begun first_year years m k inner at =
     elim at.ongoing [ inl before ↦ before | inr last ↦ absurd (omega arith) ]
 
--- the place by the definition is one by the rule
+-- the computed position meets the rule
 place_in-rule : (first_year : ℤ) (years : ℕ) (m : ℤ) (k : ℕ) → pos 2 ≤ℤ first_year → InDomain first_year years m → IsYearAt first_year years m k → IsPlaceOf first_year years m (place_in first_year years m k)
 place_in-rule first_year years m k low domain at =
     let begun = at.begun in
@@ -237,7 +237,7 @@ unfolding place_of
 place_of-rule first_year years m are domain =
     place_in-rule first_year years m (year_at first_year years m) are.least domain (year_at-bounds first_year years m are.some domain.least)
 
--- and the only one
+-- no other position meets the rule
 place_in-blend : (first_year : ℤ) (years : ℕ) (m : ℤ) (k j : ℕ) (x : ℤ) → pos 2 ≤ℤ first_year → IsYearAt first_year years m k → IsInBlend first_year years m j x → Blend j x ≡ place_in first_year years m k
 place_in-blend first_year years m k j x low at blend =
     let distance = blend.distance in
@@ -319,7 +319,7 @@ IsNearest m k n =
     ((int_rem_euclid m (pos 1440) <ℤ pos 720) × (n ≡ k))
     ⊎ ((pos 720 ≤ℤ int_rem_euclid m (pos 1440)) × (n ≡ suc k))
 
--- a blend that the minute is in is the one there
+-- a minute in any blend is in the blend of the nearer new year
 nearest_blend : (first_year : ℤ) (years : ℕ) (m : ℤ) (k n j : ℕ) (x z : ℤ) → pos 2 ≤ℤ first_year → IsYearAt first_year years m k → IsNearest m k n → x ≡ m -ℤ start_of first_year n → IsInBlend first_year years m j z → (0 < n) × (n < years) × (negsuc 59 <ℤ x) × (x <ℤ pos 60)
 nearest_blend first_year years m k n j x z low at nearest distance blend =
     let above = blend.above in
@@ -333,7 +333,7 @@ nearest_blend first_year years m k n j x z low at nearest distance blend =
     let x_is : x ≡ z = distance ∙ ap (λ i. m -ℤ start_of first_year i) same ∙ sym blend.distance in
     (rw same blend.later, rw same blend.inner, rw x_is above, rw x_is below)
 
--- where that one is no blend, the minute is plain
+-- if the nearer new year has no blend, the minute is plain
 pub nearest_plain : (first_year : ℤ) (years : ℕ) (m : ℤ) (n : ℕ) (x : ℤ) → AreYears first_year years → InDomain first_year years m → IsNearest m (year_at first_year years m) n → x ≡ m -ℤ start_of first_year n → ¬ ((0 < n) × (n < years) × (negsuc 59 <ℤ x) × (x <ℤ pos 60)) → IsPlaceOf first_year years m (Plain (year_at first_year years m))
 nearest_plain first_year years m n x are domain nearest distance none =
     let k = year_at first_year years m in

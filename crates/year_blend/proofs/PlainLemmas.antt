@@ -1,4 +1,4 @@
--- The plain part of a year, from a minute in it to its end.
+-- The plain part of a year, from one of its minutes to its end.
 use Rattle.std.proofs.Common.{◌≡◌, ℕ, suc, ◌<◌, ◌≤◌, inl, inr, refl, sym, ap, arith, unsigned_abs, ℤ, pos, negsuc, ◌+ℤ◌, ◌-ℤ◌, ◌≤ℤ◌, nat_lt}
 use Rattle.std.proofs.lemmas.Bool.{cases_eq, cases_lt, cond-true, cond-false, lt-ltb, le-ltb}
 use Rattle.std.proofs.lemmas.Int.{by_lt_z}
@@ -36,7 +36,7 @@ end_within first_year years year low one_of =
           rw (plain_end_of-last first_year years year last) (omega (arith, signed_arith)))
     ]
 
--- what a plain minute's place says
+-- facts that follow from a plain position
 abbrev IsPlain : ℤ → ℕ → ℤ → ℕ → Type 0
 IsPlain first_year years m year = IsPlaceOf first_year years m (Plain year)
 
@@ -71,7 +71,7 @@ pub plain_until : (first_year : ℤ) (years : ℕ) (m : ℤ) (year : ℕ) → Ar
 plain_until first_year years m year are domain plain =
     until first_year years m year (plain_rule first_year years m year are domain plain)
 
--- later in the part it is the same year
+-- a later minute of the part is of the same year
 still_in_year : (first_year : ℤ) (years : ℕ) (m later : ℤ) (year : ℕ) → IsInYear first_year years m year → m ≤ℤ later → later ≤ℤ plain_end_of first_year years year → IsInYear first_year years later year
 still_in_year first_year years m later year inside onward within =
     let begun = inside.begun in
@@ -89,7 +89,7 @@ still_in_year first_year years m later year inside onward within =
       ];
     }
 
--- and still no blend
+-- a later minute of the part is in no blend
 still_no_blend : (first_year : ℤ) (years : ℕ) (m later : ℤ) (year : ℕ) → pos 2 ≤ℤ first_year → IsPlain first_year years m year → m ≤ℤ later → later ≤ℤ plain_end_of first_year years year → (other : ℕ) (x : ℤ) → ¬ IsInBlend first_year years later other x
 still_no_blend first_year years m later year low rule onward within other x blend =
     let distance = blend.distance in

@@ -1,4 +1,4 @@
--- The minutes of a stretch: all in one plain part, or round one new year.
+-- The minutes of a stretch: all in one plain part, or about one new year.
 use Rattle.std.proofs.Common.{◌≡◌, ℕ, zero, suc, ◌<◌, ◌≤◌, inl, inr, refl, sym, ap, ◌∙◌, arith, unsigned_abs, ℤ, pos, ◌+ℤ◌, ◌-ℤ◌, ◌≤ℤ◌, ◌<ℤ◌}
 use Rattle.std.proofs.lemmas.Bool.{cases_lt, cond-true, cond-false}
 use Rattle.std.proofs.lemmas.Int.{ints, by_lt_z}
@@ -96,7 +96,7 @@ over_rule first_year years a n year are first last short over =
       λ k few. beside first_year years (a +ℤ pos k) year are (domain_between first_year years a n k first last few) over.later over.inner (omega (arith, signed_arith)) (omega (arith, signed_arith)),
     )
 
--- what a stretch is, by its first minute
+-- the stretch by its first minute
 pub record IsPlainStretch (first_year : ℤ) (years : ℕ) (a : ℤ) (n year : ℕ) : Type 0 where
   pub plain : place_of first_year years a ≡ Plain year
   pub within : (a +ℤ pos n) ≤ℤ plain_end_of first_year years year
@@ -169,7 +169,7 @@ pub stretch_of-rule : (first_year : ℤ) (years : ℕ) (a : ℤ) (n : ℕ) → A
 stretch_of-rule first_year years a n are first last short =
     found_rule first_year years a n (stretch_of first_year years a n) are first last short (stretch_of-found first_year years a n are first last)
 
--- no other stretch
+-- no other stretch meets the rule
 blend_place : (first_year : ℤ) (years : ℕ) (m : ℤ) (year : ℕ) (x : ℤ) → AreYears first_year years → InDomain first_year years m → IsInBlend first_year years m year x → place_of first_year years m ≡ Blend year x
 blend_place first_year years m year x are domain blend = sym (place_of-only first_year years m are domain (Blend year x) blend)
 

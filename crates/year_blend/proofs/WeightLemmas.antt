@@ -10,7 +10,7 @@ use Rattle.year_blend.specs.Weights.{weight_of, weight_slope_of, total_weight, I
 abbrev pub weight_after : ℕ → ℕ
 weight_after t = t * t * t * (t * t + 24000 - 300 * t)
 
--- how much it rises a minute there
+-- the change of the weight a minute there
 abbrev pub slope_after : ℕ → ℕ
 slope_after t = 5 * (t * (120 - t) * (t * (120 - t)))
 
@@ -53,7 +53,7 @@ slope_at t h =
       most = leb-true _ _ all.1;
     }
 
--- how much both change in the next minute
+-- the changes of both in the next minute
 unfoldable is_gentle : ℕ → Bool
 is_gentle t =
     nat_le (weight_after t) (weight_after (t + 1))
@@ -79,7 +79,7 @@ gentle_at t h =
       bent_up = leb-true _ _ last.1;
     }
 
--- a minute near the new year, by those after the begin
+-- a minute within an hour of the new year, counted from the begin of the blend
 abbrev after : ℤ → ℕ
 after x = unsigned_abs (x +ℤ pos 60)
 
@@ -115,7 +115,7 @@ slope_within x near =
 gap : (far a b : ℕ) → a ≤ b + far → b ≤ a + far → unsigned_abs (pos a -ℤ pos b) ≤ far
 gap far a b above below = omega (arith, ints)
 
--- the next minute is near it too, before the blend's end
+-- the next minute is within the hour too, before the end of the blend
 pub next_near : (x : ℤ) → IsNearNewYear x → x <ℤ pos 60 → IsNearNewYear (x +ℤ pos 1)
 next_near x near below =
     let least = near.least in record { least = omega (arith, ints); most = omega (arith, ints) }

@@ -9,7 +9,7 @@ use Rattle.jiff_core.proofs.CalendarLemmas.{days_from_civil-day_count, day_count
 use Rattle.year_blend.specs.Years.{year_start_of, IsYearInReach}
 use borrow.Author.Differences.{up, down}
 
--- a start by the calendar's count of days, in terms that `omega` reads
+-- a start by the calendar's count of days, in terms that `omega` understands
 pub year_start_of-day_count : (y : ℤ) → up (year_start_of y) + 6295612320 ≡ down (year_start_of y) + 1440 * day_count y 1 1
 unfolding year_start_of
 year_start_of-day_count y = omega (arith, signed_arith, days_from_civil-day_count y 1 1)
@@ -69,7 +69,7 @@ pub year_start_of_size : (y : ℤ) → IsYearInReach y → unsigned_abs (year_st
 year_start_of_size y reach =
     omega (arith, signed_arith, one_part (year_start_of y), year_start_of-day_count y, day_count_low y reach.least, day_count_high y reach.least reach.most)
 
--- less than an hour after midnight at a year's start the day is young, and before it the day is old
+-- less than an hour after a year's start the minute is of the first day, and before it of the last
 pub young_day : (y m x : ℤ) → x ≡ m -ℤ year_start_of y → pos 0 ≤ℤ x → x <ℤ pos 60 → int_rem_euclid m (pos 1440) <ℤ pos 720
 unfolding year_start_of
 young_day y m x e low high = omega (arith, signed_arith)
@@ -78,7 +78,7 @@ pub old_day : (y m x : ℤ) → x ≡ m -ℤ year_start_of y → negsuc 59 <ℤ 
 unfolding year_start_of
 old_day y m x e low high = omega (arith, signed_arith)
 
--- a year that has begun by a minute's day has begun at the minute, and one that hasn't, hasn't
+-- a year has begun at a minute exactly if it has begun by the minute's day
 pub begun_by_day : (y m : ℤ) → days_from_civil y 1 1 ≤ℤ int_div_euclid m (pos 1440) → year_start_of y ≤ℤ m
 unfolding year_start_of
 begun_by_day y m h = omega (arith, signed_arith)

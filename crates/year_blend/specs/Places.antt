@@ -1,26 +1,28 @@
--- How the minutes of a run of years divide into the plain part of each year and the blends at the new years between them (this project).
+-- The minutes of a run of years: the plain part of each year, and the blends at the new years between
+-- them (this project).
 use Rattle.std.specs.Prelude.{◌≡◌, ℕ, zero, suc, ◌<◌, ◌≤◌, ℤ, pos, negsuc, ◌+ℤ◌, ◌-ℤ◌, ◌≤ℤ◌, ◌<ℤ◌, int_le, int_lt, nat_lt, ◌&&◌, ◌⊎◌, if◌then◌else◌}
 use Rattle.year_blend.specs.declared.parts.Place.{Place}
 use Rattle.year_blend.specs.declared.parts.Place.TheVariants.{Plain, Blend}
 use Rattle.year_blend.specs.Years.{year_start_of}
 
--- a first year and a number of years that a file can have
+-- the first year and the number of years that a file can have
 pub record AreYears (first_year : ℤ) (years : ℕ) : Type 0 where
   pub least : pos 2 ≤ℤ first_year
   pub most : first_year ≤ℤ pos 8800
   pub some : 1 ≤ years
   pub few : years ≤ 500
 
--- the first minute of one of the years, counted from 0
+-- the first minute of year `year`, counted from 0
 abbrev pub start_of : ℤ → ℕ → ℤ
 start_of first_year year = year_start_of (first_year +ℤ pos year)
 
--- the minutes of these years, and the first minute after them
+-- the domain: the minutes of these years, and the first minute after them
 pub record InDomain (first_year : ℤ) (years : ℕ) (m : ℤ) : Type 0 where
   pub least : year_start_of first_year ≤ℤ m
   pub most : m ≤ℤ year_start_of (first_year +ℤ pos years)
 
--- less than an hour before or after the start of a year other than the first, x minutes from it
+-- minute m is in the blend of year `year`: less than an hour from its start, x minutes after it; not for
+-- the first year
 pub record IsInBlend (first_year : ℤ) (years : ℕ) (m : ℤ) (year : ℕ) (x : ℤ) : Type 0 where
   pub later : 0 < year
   pub inner : year < years
@@ -28,25 +30,26 @@ pub record IsInBlend (first_year : ℤ) (years : ℕ) (m : ℤ) (year : ℕ) (x 
   pub above : negsuc 59 <ℤ x
   pub below : x <ℤ pos 60
 
--- from the start of a year to before the next one's; the last year has the domain's last minute too
+-- minute m is in year `year`: from its start to before the next one's; the last year has the domain's
+-- last minute too
 pub record IsInYear (first_year : ℤ) (years : ℕ) (m : ℤ) (year : ℕ) : Type 0 where
   pub one_of : year < years
   pub begun : start_of first_year year ≤ℤ m
   pub ongoing : (m <ℤ start_of first_year (suc year)) ⊎ ((suc year ≡ years) × (m ≡ start_of first_year years))
 
--- a minute in no blend is plain, and of the year that it lies in
+-- the rule for positions: a minute in no blend is plain, and of the year that contains it
 abbrev pub IsPlaceOf : ℤ → ℕ → ℤ → Place → Type 0
 IsPlaceOf first_year years m (Plain year) =
     IsInYear first_year years m year
     × ((other : ℕ) (x : ℤ) → ¬ IsInBlend first_year years m other x)
 IsPlaceOf first_year years m (Blend year x) = IsInBlend first_year years m year x
 
--- the last of the first n years that has begun at the minute
+-- the last of the first n years that has begun at minute m
 unfoldable pub year_at : ℤ → ℕ → ℤ → ℕ
 year_at first_year zero m = 0
 year_at first_year (suc n) m = if int_le (start_of first_year n) m then n else year_at first_year n m
 
--- the place of a minute in a year, by its distances from both ends of the year
+-- the position of a minute of year `year`, by its distances from both ends of the year
 unfoldable pub place_in : ℤ → ℕ → ℤ → ℕ → Place
 place_in first_year years m year =
     let since = m -ℤ start_of first_year year in
@@ -55,11 +58,11 @@ place_in first_year years m year =
     else (if nat_lt (suc year) years && int_lt (negsuc 59) left then Blend (suc year) left
     else Plain year)
 
--- the one place of a minute of the domain
+-- the position of a minute of the domain
 unfoldable pub place_of : ℤ → ℕ → ℤ → Place
 place_of first_year years m = place_in first_year years m (year_at first_year years m)
 
--- the last minute of a year's plain part: an hour before the next of the years, or the domain's last minute
+-- the last minute of the plain part of a year: an hour before the next year, or the domain's last minute
 unfoldable pub plain_end_of : ℤ → ℕ → ℕ → ℤ
 plain_end_of first_year years year =
     if nat_lt (suc year) years then start_of first_year (suc year) -ℤ pos 60 else start_of first_year (suc year)

@@ -1,11 +1,12 @@
--- The weight of the later year in a blend at a new year, and its slope (this project: the polynomial of degree 5 whose first and second derivatives are 0 at both ends).
+-- The weight of the later year in a blend at a new year, and its slope (this project: the polynomial of
+-- degree 5 whose first and second derivatives are 0 at both ends).
 use Rattle.std.specs.Prelude.{ℕ, ℤ, pos, negsuc, ◌+ℤ◌, ◌-ℤ◌, ◌*ℤ◌, ◌≤ℤ◌}
 
--- the weights of both years together
+-- the sum of the weights of both years
 abbrev pub total_weight : ℕ
 total_weight = 4147200000
 
--- minutes from the new year, at most an hour
+-- x is a number of minutes from the new year, at most an hour
 pub record IsNearNewYear (x : ℤ) : Type 0 where
   pub least : negsuc 59 ≤ℤ x
   pub most : x ≤ℤ pos 60
@@ -16,11 +17,11 @@ square x = x *ℤ x
 abbrev pub cube : ℤ → ℤ
 cube x = x *ℤ square x
 
--- 2073600000 + 64800000 x - 12000 x^3 + x^5
+-- the weight: 2073600000 + 64800000 x - 12000 x^3 + x^5
 unfoldable pub weight_of : ℤ → ℤ
 weight_of x =
     ((pos 2073600000 +ℤ (pos 64800000 *ℤ x)) -ℤ (pos 12000 *ℤ cube x)) +ℤ (square x *ℤ cube x)
 
--- how much the weight rises a minute: 5 (3600 - x^2)^2
+-- the change of the weight a minute: 5 (3600 - x^2)^2
 unfoldable pub weight_slope_of : ℤ → ℤ
 weight_slope_of x = pos 5 *ℤ square (pos 3600 -ℤ square x)

@@ -1,4 +1,5 @@
--- When UTC years begin, in minutes from 1970-01-01T00:00Z (the proleptic Gregorian calendar of ISO 8601).
+-- The starts of UTC years, in minutes from 1970-01-01T00:00Z (the proleptic Gregorian calendar of ISO
+-- 8601).
 use Rattle.std.specs.Prelude.{ℤ, pos, ◌*ℤ◌, ◌≤ℤ◌}
 use Rattle.jiff_core.specs.Calendar.{days_from_civil}
 
@@ -6,7 +7,7 @@ use Rattle.jiff_core.specs.Calendar.{days_from_civil}
 unfoldable pub year_start_of : ℤ → ℤ
 year_start_of y = pos 1440 *ℤ days_from_civil y 1 1
 
--- a year whose start is told: from 2 to 9300
+-- a year whose start is defined: from 2 to 9300
 pub record IsYearInReach (y : ℤ) : Type 0 where
   pub least : pos 2 ≤ℤ y
   pub most : y ≤ℤ pos 9300

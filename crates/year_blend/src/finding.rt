@@ -1,4 +1,4 @@
-//! The place of a minute.
+//! The position of a minute among the years of a file.
 
 ghost use Rattle.std.specs.Prelude.{◌≡◌, ◌<◌, ◌≤◌, ◌↔◌, IsTrue, pos, negsuc, ◌+ℤ◌, ◌-ℤ◌, ◌≤ℤ◌, ◌<ℤ◌, unsigned_abs};
 ghost use Rattle.jiff_core.specs.Calendar.{IsBetween, IsYear};
@@ -8,13 +8,13 @@ ghost use Rattle.year_blend.specs.Places.{AreYears, InDomain, IsPlaceOf, start_o
 use crate::parts::Place;
 use crate::years::{DAY, year_of_day, year_start};
 
-/// Half of a blend.
+/// Half the minutes of a blend.
 const HOUR: i64 = 60;
 
-/// The place of a minute among `years` years from `first_year` on: the blend at a new year between
-/// two of them where it is less than an hour from it, else the plain part of its year. The years
-/// and the minute are those of a file: `first_year` from 2 to 8800, `years` from 1 to 500, and the
-/// minute from the start of the first year to the end of the last, both included.
+/// Returns the position of minute `m` among `years` years from `first_year` on: the blend at a new year
+/// between two of them if the minute is less than an hour from it, else the plain part of its year.
+/// `first_year` is from 2 to 8800, `years` from 1 to 500, and `m`, since 1970-01-01T00:00Z, from the
+/// start of the first year to the end of the last, both included.
 pub fn place(first_year: i32, years: u32, m: i64) -> Place
     requires years { AreYears first_year years }
     requires domain { InDomain first_year years m }
@@ -35,8 +35,9 @@ pub fn place(first_year: i32, years: u32, m: i64) -> Place
     }
 }
 
-/// The last minute of the plain part of a year, counted from 0 among `years` years from `first_year`
-/// on: 60 minutes before the next year starts, or the domain's last minute for the last year.
+/// Returns the last minute of the plain part of year `year`, counted from 0 among `years` years from
+/// `first_year` on: 60 minutes before the next year starts, or the last minute of the domain for the last
+/// year. Minutes are counted from 1970-01-01T00:00Z.
 pub fn plain_end(first_year: i32, years: u32, year: u32) -> i64
     requires years { AreYears first_year years }
     requires year { year < years }
@@ -47,7 +48,7 @@ pub fn plain_end(first_year: i32, years: u32, year: u32) -> i64
     if next < years { end - HOUR } else { end }
 }
 
-/// The minutes from the start of one of the years to the minute.
+/// Returns the minutes from the start of year `year`, counted from 0, to minute `m`.
 fn minutes_from(first_year: i32, year: u32, m: i64) -> i64
     requires first_year { IsBetween (pos 2) (pos 8800) first_year }
     requires year { year ≤ 500 }
@@ -57,14 +58,15 @@ fn minutes_from(first_year: i32, year: u32, m: i64) -> i64
     m - year_start(first_year + year as i32)
 }
 
-/// Whether a year but the first starts within an hour of a minute `x` minutes from its start.
+/// Returns true if a year other than the first starts within an hour of the minute `x` minutes from its
+/// start.
 fn is_blend(years: u32, year: u32, x: i64) -> bool
     ensures { IsTrue result ↔ ((0 < year) × (year < years) × (negsuc 59 <ℤ x) × (x <ℤ pos 60)) }
 {
     0 < year && year < years && -HOUR < x && x < HOUR
 }
 
-/// The last of the years that has begun at the minute, counted from 0.
+/// Returns the last year, counted from 0, that has begun at minute `m`.
 fn year_among(first_year: i32, years: u32, m: i64) -> u32
     requires years { AreYears first_year years }
     requires domain { InDomain first_year years m }
@@ -75,7 +77,7 @@ fn year_among(first_year: i32, years: u32, m: i64) -> u32
     year.min(years - 1)
 }
 
-/// The calendar's year of a minute.
+/// Returns the calendar year of minute `m`.
 fn year_of_minute(m: i64) -> i32
     requires { unsigned_abs m ≤ 4000000000 }
     ensures begun { year_start_of result ≤ℤ m }

@@ -1,4 +1,4 @@
-//! What holds of all years and of every minute.
+//! Theorems about years, positions, stretches and weights, and examples.
 
 ghost use Rattle.std.specs.Prelude.{◌≡◌, ℕ, ◌+◌, ◌*◌, ◌<◌, ◌≤◌, ℤ, pos, negsuc, ◌+ℤ◌, ◌-ℤ◌, ◌≤ℤ◌, ◌<ℤ◌, ◌⊎◌, unsigned_abs};
 ghost use Rattle.year_blend.specs.declared.parts.Place.{Place};
@@ -10,7 +10,7 @@ ghost use Rattle.year_blend.specs.declared.spanning.TheConstants.{LONGEST_SPAN};
 ghost use Rattle.year_blend.specs.Stretches.{IsStretchOf, stretch_of};
 ghost use Rattle.year_blend.specs.Weights.{weight_of, weight_slope_of, total_weight, IsNearNewYear};
 
-/// Starts ascend by a year of 365 or 366 days, from that of the year 2 to that of the year 9300.
+/// Proves that consecutive years start 365 or 366 days apart, from the year 2 to the year 9300.
 pub fn year_lengths()
     ensures lengths { (y : ℤ) → IsYearInReach y
         → ((year_start_of (y +ℤ pos 1) -ℤ year_start_of y) ≡ pos 525600)
@@ -19,7 +19,7 @@ pub fn year_lengths()
     ensures most { (y : ℤ) → IsYearInReach y → year_start_of y ≤ℤ pos 3855208320 }
 {}
 
-/// Every minute of the domain has exactly one place.
+/// Proves that each minute of the domain has exactly one position.
 pub fn unique_places()
     ensures some { (first_year : ℤ) (years : ℕ) (m : ℤ) → AreYears first_year years → InDomain first_year years m
         → IsPlaceOf first_year years m (place_of first_year years m) }
@@ -27,7 +27,8 @@ pub fn unique_places()
         → (p : Place) → IsPlaceOf first_year years m p → p ≡ place_of first_year years m }
 {}
 
-/// A plain minute has the rest of its year's plain part before it, and its end is not behind it.
+/// Proves that the minutes from a plain minute to the end of its year's plain part are plain minutes of
+/// the same year, and that this end isn't before the minute.
 pub fn plain_parts()
     ensures rest { (first_year : ℤ) (years : ℕ) (m later : ℤ) (year : ℕ) → AreYears first_year years → InDomain first_year years m
         → place_of first_year years m ≡ Plain year → m ≤ℤ later → later ≤ℤ plain_end_of first_year years year
@@ -36,7 +37,8 @@ pub fn plain_parts()
         → place_of first_year years m ≡ Plain year → m ≤ℤ plain_end_of first_year years year }
 {}
 
-/// Minutes of the domain, at most `LONGEST_SPAN` of them, lie in exactly one stretch.
+/// Proves that consecutive minutes of the domain, at most `LONGEST_SPAN` of them, are in exactly one
+/// stretch.
 pub fn unique_stretches()
     ensures some { (first_year : ℤ) (years : ℕ) (m : ℤ) (n : ℕ) → AreYears first_year years → InDomain first_year years m
         → InDomain first_year years (m +ℤ pos n) → n ≤ LONGEST_SPAN → IsStretchOf first_year years m n (stretch_of first_year years m n) }
@@ -45,7 +47,7 @@ pub fn unique_stretches()
         → (s : Stretch) → IsStretchOf first_year years m n s → s ≡ stretch_of first_year years m n }
 {}
 
-/// Sizes of the weight and of its slope over the blend, and how much each changes in a minute of it.
+/// Proves bounds on the weight and its slope over a blend, and on the change of each in a minute.
 pub fn weight_steps()
     ensures weight { (x : ℤ) → IsNearNewYear x → (pos 0 ≤ℤ weight_of x) × (weight_of x ≤ℤ pos total_weight) }
     ensures slope { (x : ℤ) → IsNearNewYear x → (pos 0 ≤ℤ weight_slope_of x) × (weight_slope_of x ≤ℤ pos 64800000) }
@@ -53,7 +55,7 @@ pub fn weight_steps()
     ensures slope_step { (x : ℤ) → IsNearNewYear x → x <ℤ pos 60 → unsigned_abs (weight_slope_of (x +ℤ pos 1) -ℤ weight_slope_of x) ≤ 1663000 }
 {}
 
-/// Where minutes are among the three years from 1999 on: at both ends of them, and round a new year.
+/// Proves the positions of minutes among three years from 1999 on: at both ends, and about a new year.
 #[tactic(auto, unfolding(crate::specs::Places::place_of, crate::specs::Places::place_in, crate::specs::Places::year_at, crate::specs::Years::year_start_of, jiff_core::specs::Calendar::days_from_civil, jiff_core::specs::Calendar::day_count, jiff_core::specs::Calendar::days_of_years, jiff_core::specs::Calendar::days_of_months))]
 pub fn worked_places()
     ensures first { place_of (pos 1999) 3 (pos 15252480) ≡ Place.Plain 0 }
@@ -65,8 +67,8 @@ pub fn worked_places()
     ensures last { place_of (pos 1999) 3 (pos 16830720) ≡ Place.Plain 2 }
 {}
 
-/// Where hours among the same years lie: up to the plain part's end, past it, beside a blend, over it
-/// and in it, and up to the domain's last minute.
+/// Proves the stretches of hours among three years from 1999 on: up to the end of a plain part, past it,
+/// beside a blend, over it, in it, and up to the last minute of the domain.
 #[tactic(auto, unfolding(crate::specs::Stretches::stretch_of, crate::specs::Places::plain_end_of, crate::specs::Places::place_of, crate::specs::Places::place_in, crate::specs::Places::year_at, crate::specs::Years::year_start_of, jiff_core::specs::Calendar::days_from_civil, jiff_core::specs::Calendar::day_count, jiff_core::specs::Calendar::days_of_years, jiff_core::specs::Calendar::days_of_months))]
 pub fn worked_stretches()
     ensures up_to_the_end { stretch_of (pos 1999) 3 (pos 15776996) 1024 ≡ Stretch.Within 0 }
@@ -77,7 +79,7 @@ pub fn worked_stretches()
     ensures up_to_the_last { stretch_of (pos 1999) 3 (pos 16829696) 1024 ≡ Stretch.Within 2 }
 {}
 
-/// Values of the definitions at arguments of their own.
+/// Proves starts of years and weights that were computed elsewhere.
 #[tactic(auto, unfolding(crate::specs::Weights::weight_of, crate::specs::Weights::weight_slope_of))]
 pub fn worked_rows()
     ensures epoch { year_start_of (pos 1970) ≡ pos 0 }

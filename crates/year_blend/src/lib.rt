@@ -1,9 +1,9 @@
-//! Years, and how one passes into the next.
+//! The years of a file, and the blend from one year to the next.
 //!
-//! Constants hold for one year. Within an hour of a new year between two years both count, by a
-//! [`weight`] that moves smoothly from the earlier year to the later one. [`place`] tells which
-//! year or new year a minute belongs to, [`stretch`] those of some hours, [`plain_end`] how long a
-//! year counts alone, and [`year_start`] when it begins.
+//! Harmonic constants hold for one year. Within an hour of a new year between two years both count, by a
+//! [`weight`] that moves smoothly from the earlier year to the later one. [`place`] returns the year or
+//! the blend of a minute, [`stretch`] that of some hours, [`plain_end`] the last minute of a year outside
+//! blends, and [`year_start`] the first minute of a year.
 #![tactic(auto)]
 
 mod finding;

@@ -1,4 +1,4 @@
-//! Where a stretch of minutes lies.
+//! The stretch of consecutive minutes.
 
 ghost use Rattle.std.specs.Prelude.{◌≡◌, ◌≤◌, pos, ◌+ℤ◌};
 ghost use Rattle.year_blend.specs.declared.spanning.TheConstants.{LONGEST_SPAN};
@@ -11,8 +11,8 @@ use crate::parts::{Place, Stretch};
 /// The most minutes of a stretch.
 pub const LONGEST_SPAN: u32 = 1024;
 
-/// Where the minutes from `m` to `m + n` lie, both included and of the domain, among `years` years
-/// from `first_year` on: in the plain part of one year, or across one new year. `n` is at most
+/// Returns the stretch of the minutes from `m` to `m + n`, both included and of the domain, among `years`
+/// years from `first_year` on: the plain part of one year, or across one new year. `n` is at most
 /// [`LONGEST_SPAN`].
 pub fn stretch(first_year: i32, years: u32, m: i64, n: u32) -> Stretch
     requires years { AreYears first_year years }

@@ -3,11 +3,11 @@
 ghost use Rattle.std.specs.Prelude.{◌≡◌, ◌≤◌, pos, ◌-ℤ◌, ◌≤ℤ◌};
 ghost use Rattle.year_blend.specs.Weights.{weight_of, weight_slope_of, total_weight, IsNearNewYear};
 
-/// The weights of both years together.
+/// The sum of the weights of both years.
 pub const TOTAL_WEIGHT: i64 = 4_147_200_000;
 
-/// The weight of the later year `x` minutes from the new year, for `x` from -60 to 60: from 0 to
-/// [`TOTAL_WEIGHT`].
+/// Returns the weight of the later year `x` minutes from the new year, from 0 to [`TOTAL_WEIGHT`]; `x` is
+/// from -60 to 60.
 pub fn weight(x: i64) -> i64
     requires { IsNearNewYear x }
     ensures value { result ≡ weight_of x }
@@ -17,7 +17,8 @@ pub fn weight(x: i64) -> i64
     weight_after((x + 60) as u64) as i64
 }
 
-/// How much the weight rises a minute, `x` minutes from the new year: from 0 to 64,800,000.
+/// Returns the change of the weight a minute, `x` minutes from the new year, from 0 to 64,800,000; `x` is
+/// from -60 to 60.
 pub fn weight_slope(x: i64) -> i64
     requires { IsNearNewYear x }
     ensures value { result ≡ weight_slope_of x }
@@ -27,7 +28,7 @@ pub fn weight_slope(x: i64) -> i64
     slope_after((x + 60) as u64) as i64
 }
 
-/// The weight `t` minutes after the blend's begin.
+/// Returns the weight `t` minutes after the begin of the blend.
 fn weight_after(t: u64) -> u64
     requires { t ≤ 120 }
     ensures value { pos result ≡ weight_of (pos t -ℤ pos 60) }
@@ -36,7 +37,7 @@ fn weight_after(t: u64) -> u64
     t * t * t * (t * t + 24_000 - 300 * t)
 }
 
-/// How much the weight rises a minute, `t` minutes after the blend's begin.
+/// Returns the change of the weight a minute, `t` minutes after the begin of the blend.
 fn slope_after(t: u64) -> u64
     requires { t ≤ 120 }
     ensures value { pos result ≡ weight_slope_of (pos t -ℤ pos 60) }

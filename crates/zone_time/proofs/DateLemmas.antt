@@ -10,7 +10,7 @@ use Rattle.jiff_core.proofs.MarchLemmas.{day_count-early}
 use Rattle.jiff_core.proofs.DateLemmas.{epoch_day_injective}
 use Rattle.zone_time.specs.Dates.{CalendarDate, date_from_month, date_from_year, date_of, IsDay}
 
--- a date of the calendar in a year from 0 to 9999, and how many days lie before it
+-- a date of the calendar in a year from 0 to 9999, and the number of days before it
 pub record IsDateAt (d : CalendarDate) (count : ℕ) : Type 0 where
   pub year : d.year ≤ 9999
   pub low_month : 1 ≤ d.month
@@ -19,7 +19,7 @@ pub record IsDateAt (d : CalendarDate) (count : ℕ) : Type 0 where
   pub high_day : d.day ≤ days_in_month (pos d.year) d.month
   pub counted : day_count (pos d.year) d.month d.day ≡ count
 
--- a day of the month whose first has that many days before it
+-- a day of the month whose first has `before` days before it
 in_month : (y m days count : ℕ) → y ≤ 9999 → 1 ≤ m → m ≤ 12 → days < days_in_month (pos y) m → day_count (pos y) m 1 + days ≡ count → IsDateAt (record { year = y; month = m; day = days + 1 }) count
 in_month y m days count year low high h e = record {
   year = year;

@@ -1,4 +1,4 @@
--- A text in the form of a moment's is spelled by its six pairs of digits.
+-- A text in the form of a moment's is determined by its six pairs of digits.
 use Rattle.std.proofs.Common.{◌≡◌, ℕ, suc, ◌+◌, ◌-◌, ◌*◌, ◌/◌, ◌%◌, ◌<◌, ◌≤◌, true, List, [], ◌∷◌, length, arith}
 use Rattle.std.proofs.lemmas.Bool.{and_parts, leb-true, eqb-true}
 use Rattle.zone_time.specs.Dates.{two_digits}

@@ -1,4 +1,4 @@
--- Reading the text of a moment gives the moment again.
+-- Reading the text of a moment returns the moment.
 use Rattle.std.proofs.Common.{◌≡◌, ℕ, zero, suc, ◌+◌, ◌-◌, ◌*◌, ◌/◌, ◌%◌, ◌<◌, ◌≤◌, true, nat_le, List, ◌++◌, codes, refl, ◌∙◌, arith, ℤ, pos, negsuc, ◌+ℤ◌, ◌*ℤ◌, ◌≤ℤ◌, Some}
 use Rattle.std.proofs.lemmas.Bool.Decides.{nat_tests}
 use Rattle.std.proofs.lemmas.Bool.{le-leb}
@@ -34,7 +34,7 @@ unfolding spelled two_digits
 spelled-pairs a b c d e f ha hb hc hd he hf =
     (pair_is a ha, pair_is b hb, pair_is c hc, pair_is d hd, pair_is e he, pair_is f hf)
 
--- what the text of those parts reads as
+-- the moment of the text of those parts
 pub moment_of-parts : (text : List ℕ) (y m d hour minute : ℕ) → has_form text ≡ true → year_at text ≡ y → pair_at text 5 ≡ m → pair_at text 8 ≡ d → pair_at text 11 ≡ hour → pair_at text 14 ≡ minute → is_date y m d ≡ true → nat_le hour 23 ≡ true → nat_le minute 59 ≡ true → moment_of text ≡ Some (days_from_civil (pos y) m d *ℤ pos 1440 +ℤ pos (60 * hour + minute))
 unfolding moment_of
 moment_of-parts text y m d hour minute form year month day h n date hours minutes =
@@ -44,14 +44,14 @@ pub moment_text-spelled : (m : ℤ) → moment_text m ≡ spelled ((date_of (day
 unfolding moment_text date_text clock_text two_digits spelled
 moment_text-spelled m = refl
 
--- a minute is its day's first and its place in the day
+-- a minute is the first of its day plus its minute of the day
 pub day_and_minute : (m : ℤ) → (day_of m *ℤ pos 1440 +ℤ pos (minute_of_day m) ≡ m) × (minute_of_day m < 1440)
 day_and_minute m = (omega (arith, signed_arith), omega (arith, signed_arith))
 
 pub year_one : day_count (pos 1) 1 1 ≡ 3652791
 year_one = day_count-early (pos 1) 10000 1 1 refl (omega arith) (omega arith) (omega arith)
 
--- the days from 0001-01-01 on are no days of the year 0
+-- the days from 0001-01-01 on aren't of the year 0
 after_year_zero : (y m d : ℕ) → IsCivilDate (pos y) m d → negsuc 719161 ≤ℤ days_from_civil (pos y) m d → 1 ≤ y
 after_year_zero zero m d civil h =
     absurd (omega (arith, signed_arith, days_from_civil-day_count, year_one, day_count-lt_year (pos 0) m d (pos 1) 1 1 civil (omega arith) (omega (arith, signed_arith))))

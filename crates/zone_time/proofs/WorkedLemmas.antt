@@ -1,4 +1,4 @@
--- What the worked rule says: Eastern time of the years 1999 and 2000.
+-- The example rule: Eastern time of the years 1999 and 2000.
 use Rattle.std.proofs.Common.{◌≡◌, ℕ, suc, ◌≤◌, pos, negsuc, true, nat_le, nat_lt, refl, arith}
 use Rattle.std.proofs.lemmas.Bool.Decides.{nat_tests}
 use Rattle.jiff_core.specs.Calendar.{days_of_years}

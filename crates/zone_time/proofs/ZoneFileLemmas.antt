@@ -1,4 +1,5 @@
--- The clock of a zone file is the one that `jiff` gives its zone, and its rule goes on where `jiff` finds that it does.
+-- The clock of a zone file is that of `jiff` for its zone, and its rule continues the table if `jiff`
+-- finds so.
 use Rattle.std.proofs.Common.{◌≡◌, ℕ, zero, suc, ◌+◌, ◌-◌, ℤ, true, false, cond, int_le, ◌==◌, List, [], ◌∷◌, get_or, length, map, Option, Some, None, refl, ap, ◌∙◌, arith, vec_len}
 use Rattle.std.proofs.lemmas.Bool.Decides.{nat_tests}
 use Rattle.std.specs.List.{prefix_len}
@@ -24,7 +25,7 @@ use Rattle.jiff_tz.specs.TzifText.{TypeText, transition_text}
 use Rattle.jiff_tz.specs.Year.{year_of_nanos}
 use Rattle.zone_time.specs.ZoneFiles.{rule_moment, daylight_of, standard_time, rule_type_by, rule_type, ahead_after, seconds_ahead}
 
--- what a rule of `jiff` says
+-- the clock type by a rule of `jiff`
 abbrev pub info_view : OffsetInfo → TypeText
 info_view info = record { seconds = info.offset.seconds; dst = info.dst; name = abbreviation_text info.abbreviation }
 
@@ -54,11 +55,11 @@ rule_type-seconds : (tz : TimeZone) (second : ℤ) → (rule_type (tz_view tz) s
 rule_type-seconds tz second =
     ap (λ t. t.seconds) (rule_type-info_at tz second) ∙ ap (λ o. o.seconds) (info_at-offset tz (nanos_of_seconds second))
 
--- how many rows come no later than a second
+-- the number of rows no later than a second
 abbrev rows_by : ℤ → List Transition → ℕ
 rows_by second rows = prefix_len (λ t. int_le t.second second) rows
 
--- what holds after so many rows
+-- the clock type after some rows
 abbrev type_after : LocalTimeType → List Transition → Transition → ℕ → LocalTimeType
 type_after first rows none count = cond (count == 0) first (get_or rows (count - 1) none).after
 

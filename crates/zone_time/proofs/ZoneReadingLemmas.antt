@@ -1,4 +1,4 @@
--- What `jiff`'s reader of zone files answers is the zone of the definition, or that there is none.
+-- The result of `jiff`'s reader of zone files is the zone of the definition, or that there is none.
 use Rattle.std.proofs.Common.{◌≡◌, ℕ, suc, ◌-◌, true, false, List, [], ◌∷◌, get_or, length, map, Option, Some, None, Ok, Err, inl, inr, refl, arith}
 use Rattle.std.specs.Bool.{Decides}
 use Rattle.std.specs.Option.{option_map, IfSome}
@@ -30,7 +30,7 @@ same_flag-Decides Yes No = (λ e. cc, λ e. cc)
 same_flag-Decides No Yes = (λ e. cc, λ e. cc)
 same_flag-Decides No No = (λ e. refl, λ e. refl)
 
--- the parts in which two types are the same
+-- the parts of two equal clock types are equal
 abbrev IsSameType : TypeText → TypeText → Type 0
 IsSameType a b = (a.seconds ≡ b.seconds) × (a.dst ≡ b.dst) × (a.name ≡ b.name)
 

@@ -1,4 +1,5 @@
--- Local times as text (ISO 8601's dates, times of day and offsets from universal time, in the layout of XTide's listings).
+-- Local times as text (ISO 8601's dates, times of day and offsets from universal time, in the layout of
+-- XTide's listings).
 use Rattle.std.specs.Prelude.{ℕ, ◌≤◌, ℤ, pos, negsuc, ◌≤ℤ◌, unsigned_abs, int_lt, if◌then◌else◌, List, ◌++◌, codes}
 use Rattle.zone_time.specs.declared.local.Label.{Label}
 use Rattle.zone_time.specs.declared.local.Label.TheVariants.{Utc, Minutes}
@@ -11,7 +12,7 @@ pub record IsWritten (m : ℤ) : Type 0 where
   pub first : negsuc 1036120319 ≤ℤ m
   pub last : m ≤ℤ pos 4223371679
 
--- at most 26 hours ahead or behind
+-- an offset of at most 26 hours
 abbrev pub IsLabel : Label → Type 0
 IsLabel Utc = Unit {0}
 IsLabel (Minutes z) = unsigned_abs z ≤ 1560
@@ -25,7 +26,7 @@ pub record IsLocal (local : Local) : Type 0 where
 unfoldable pub time_text : ℤ → List ℕ
 time_text m = date_text (day_of m) ++ codes " " ++ clock_text (minute_of_day m)
 
--- how far the clock is ahead of universal time, with `-` for one that is behind
+-- the text of a label: the offset from universal time, with `-` for a clock that is behind
 unfoldable pub label_text : Label → List ℕ
 label_text Utc = codes "UTC"
 label_text (Minutes z) = (if int_lt z (pos 0) then codes "-" else codes "+") ++ clock_text (unsigned_abs z)

@@ -1,5 +1,5 @@
--- The clock of a zone file: a table of changes, and the rule of a footer that goes on from the last of them (RFC 9636, with the
--- words of `jiff` for a table and for POSIX's TZ rules).
+-- The clock of a zone file: a table of changes, and the rule of a footer after the last of them (RFC
+-- 9636, with the terms of `jiff` for a table and for POSIX's TZ rules).
 use Rattle.std.specs.Prelude.{ℤ, pos, ◌+ℤ◌, ◌-ℤ◌, ◌*ℤ◌, int_le, int_lt, Bool, true, not, ◌&&◌, ◌||◌, if◌then◌else◌, List, [], ◌∷◌, Option, Some, None}
 use Rattle.std.specs.Int.{int_div_euclid}
 use Rattle.std.specs.Ordering.{int_eq}
@@ -15,14 +15,16 @@ use Rattle.jiff_tz.specs.TzifReader.{TzifText}
 use Rattle.jiff_tz.specs.TzifText.{TypeText, TransitionText}
 use Rattle.jiff_tz.specs.Year.{year_of_nanos}
 
--- when a rule's day and time of day come in a year, in nanoseconds of universal time, by a clock so many seconds ahead of it: no
--- earlier than the year begins and no later than it ends, and at its end where the year lacks the day
+-- the instant of a rule's day and time of day in a year, in nanoseconds of universal time, by a clock
+-- `ahead` seconds ahead of it: no earlier than the begin of the year and no later than its end, and the
+-- end of the year if the year lacks the day
 unfoldable pub rule_moment : ℤ → Day × ℤ → ℤ → ℤ
 rule_moment year moment ahead = match_some (rule_day year moment.0) (last_nanosecond year) (λ day.
     clamp_to (first_nanosecond year) (last_nanosecond year) (day *ℤ nanos_per_day +ℤ nanos_of_seconds (moment.1 -ℤ ahead)))
 
--- daylight saving time of a year, which begins by the clock of standard time and ends by its own; it lasts the year where it
--- begins with the year and its end, so many seconds later as standard time is ahead, lies outside
+-- The daylight saving time of a year: it begins by the clock of standard time and ends by its own. It
+-- lasts the whole year if it begins with the year and its end, plus the offset of standard time, is
+-- outside the year.
 unfoldable pub daylight_of : DstText → ℤ → ℤ → ℤ × ℤ
 daylight_of dst year standard =
     let start : ℤ = rule_moment year dst.start standard in
@@ -33,10 +35,11 @@ daylight_of dst year standard =
     then (start, last_nanosecond year)
     else (start, finish)
 
+-- the clock type of a rule's standard time
 abbrev pub standard_time : TzText → TypeText
 standard_time rule = record { seconds = rule.std_seconds; dst = No; name = rule.std_name }
 
--- what holds at an instant by a rule's daylight saving time, if it has one
+-- the clock type at an instant by a rule with this daylight saving time, if any
 abbrev pub rule_type_by : TzText → Option DstText → ℤ → TypeText
 rule_type_by rule None nanos = standard_time rule
 rule_type_by rule (Some dst) nanos =
@@ -44,39 +47,42 @@ rule_type_by rule (Some dst) nanos =
     then record { seconds = dst.seconds; dst = Yes; name = dst.name }
     else standard_time rule
 
--- what holds at a second by a rule
+-- the clock type at a second by a rule
 unfoldable pub rule_type : TzText → ℤ → TypeText
 rule_type rule second = rule_type_by rule rule.dst (nanos_of_seconds second)
 
--- how many seconds a clock is ahead of universal time at a second, from so many before the rows of a table: each row that comes
--- no later than the second sets its own, and after the last row the rule, if there is one
+-- the seconds by which a clock is ahead of universal time at a second: `ahead` before the rows of a
+-- table, then as each row says that is no later than the second, and after the last row as the rule says,
+-- if there is one
 unfoldable pub ahead_after : Option TzText → ℤ → List TransitionText → ℤ → ℤ
 ahead_after rule ahead [] second = match_some rule ahead (λ found. (rule_type found second).seconds)
 ahead_after rule ahead (row ∷ rows) second =
     if int_le row.second second then ahead_after rule row.after.seconds rows second else ahead
 
+-- the seconds by which a zone file's clock is ahead of universal time at a second
 abbrev pub seconds_ahead : TzifText → ℤ → ℤ
 seconds_ahead file second = ahead_after file.rule file.first.seconds file.transitions second
 
--- the minute that the clock shows at a minute, with its seconds cut off
+-- the minute that the clock shows at a minute, with seconds rounded down
 unfoldable pub clock_minute : TzifText → ℤ → ℤ
 clock_minute file minute =
     int_div_euclid ((minute *ℤ pos 60) +ℤ seconds_ahead file (minute *ℤ pos 60)) (pos 60)
 
+-- two daylight saving flags are the same
 abbrev pub same_flag : Dst → Dst → Bool
 same_flag Yes flag = is_dst flag
 same_flag No flag = not (is_dst flag)
 
--- whether both have the seconds, the flag of daylight saving time and the name of the other
+-- two clock types have the same seconds, daylight saving flag and name
 abbrev pub same_type : TypeText → TypeText → Bool
 same_type a b = int_eq a.seconds b.seconds && same_flag a.dst b.dst && bytes_eq a.name b.name
 
--- a rule says of the second of a table's last row what that row does
+-- a rule continues a table: at the second of its last row it has the clock type of that row
 unfoldable pub goes_on : TzText → List TransitionText → Bool
 goes_on rule [] = true
 goes_on rule (row ∷ []) = same_type (rule_type rule row.second) row.after
 goes_on rule (row ∷ next ∷ rows) = goes_on rule (next ∷ rows)
 
--- a file whose rule, if it has one, goes on from its table
+-- a file whose rule, if it has one, continues its table
 unfoldable pub is_consistent : TzifText → Bool
 is_consistent file = match_some file.rule true (λ rule. goes_on rule file.transitions)

@@ -1,4 +1,5 @@
--- Zones, and what their clocks show (this project; zone files by `jiff`'s reader of RFC 9636).
+-- Zones, and the local times that their clocks show (this project; zone files by `jiff`'s reader of RFC
+-- 9636).
 use Rattle.std.specs.Prelude.{ℕ, ◌≤◌, ℤ, pos, negsuc, ◌+ℤ◌, ◌-ℤ◌, ◌≤ℤ◌, unsigned_abs, Bool, true, false, if◌then◌else◌, List, Result, Ok, Err}
 use Rattle.jiff_core.specs.declared.error.TzifFault.{TzifFault}
 use Rattle.jiff_tz.specs.TzifReader.{TzifText, read_tzif}
@@ -11,7 +12,7 @@ use Rattle.zone_time.specs.declared.zone_fault.ZoneFault.{ZoneFault}
 use Rattle.zone_time.specs.declared.zone_fault.ZoneFault.TheVariants.{BadZone, NoMemory}
 use Rattle.zone_time.specs.ZoneFiles.{clock_minute, is_consistent}
 
--- a fixed clock is at most 26 hours ahead or behind
+-- a fixed offset is at most 26 hours
 abbrev pub IsZone : Zone → Type 0
 IsZone Utc = Unit {0}
 IsZone (Fixed ahead) = unsigned_abs ahead ≤ 1560
@@ -22,24 +23,26 @@ pub record InZoneYears (minute : ℤ) : Type 0 where
   pub first : negsuc 1035069119 ≤ℤ minute
   pub last : minute ≤ℤ pos 3855733919
 
--- the local time whose minute is shown at a minute
+-- the local time of a clock that shows `shown` at `minute`
 abbrev pub local_at : ℤ → ℤ → Local
 local_at minute shown = record { minute = shown; label = Minutes (shown -ℤ minute) }
 
--- what the clock of a zone shows at a minute; that of universal time shows it as it is
+-- the local time in a zone at a minute; in universal time it is the minute itself
 abbrev pub local_in : Zone → ℤ → Local
 local_in Utc minute = record { minute = minute; label = labels.Utc }
 local_in (Fixed ahead) minute = record { minute = minute +ℤ ahead; label = Minutes ahead }
 local_in (File file) minute = local_at minute (clock_minute file minute)
 
+-- a fault is out of memory
 abbrev pub wants_memory : ZoneFault → Bool
 wants_memory NoMemory = true
 wants_memory BadZone = false
 
+-- the zone of a file that was read, if its rule continues its table
 abbrev pub zone_from : Result TzifText TzifFault → Result Zone ZoneFault
 zone_from (Ok file) = if is_consistent file then Ok (File file) else Err BadZone
 zone_from (Err fault) = Err BadZone
 
--- the zone of a file's bytes: what they read as, where a rule goes on from the table
+-- the zone of a file's bytes, if they are a zone file whose rule continues its table
 unfoldable pub zone_of : List ℕ → Result Zone ZoneFault
 zone_of bytes = zone_from (read_tzif bytes)

@@ -1,4 +1,4 @@
-//! What follows of dates, of moments as text and of zone files.
+//! Theorems about dates, texts of moments, and zone files.
 
 ghost use Rattle.std.specs.Prelude.{◌≡◌, ℕ, ℤ, pos, List, Some};
 ghost use Rattle.std.specs.Bool.{Decides};
@@ -14,7 +14,7 @@ ghost use Rattle.zone_time.specs.Dates.{IsDay, date_of};
 ghost use Rattle.zone_time.specs.Moments.{IsMoment, moment_text, moment_of};
 ghost use Rattle.zone_time.specs.ZoneFiles.{seconds_ahead, goes_on};
 
-/// The date of a day number is in the calendar of `jiff`, and its day number there is the number.
+/// Proves that the date of a day number is a date of the calendar of `jiff`, with that day number there.
 pub fn days_have_their_date()
     ensures civil { (day : ℤ) → IsDay day →
         IsCivilDate (pos (date_of day).year) (date_of day).month (date_of day).day }
@@ -22,15 +22,16 @@ pub fn days_have_their_date()
         days_from_civil (pos (date_of day).year) (date_of day).month (date_of day).day ≡ day }
 {}
 
-/// Reading the text of a moment gives the moment again, and no other text reads as that moment.
+/// Proves that reading the text of a moment returns the moment, and that no other text reads as the
+/// moment.
 pub fn moments_have_one_text()
     ensures read { (m : ℤ) → IsMoment m → moment_of (moment_text m) ≡ Some m }
     ensures written { (text : List ℕ) (m : ℤ) →
         moment_of text ≡ Some m → IsMoment m × (moment_text m ≡ text) }
 {}
 
-/// The clock of a zone file is ahead as far as `jiff` has its zone's offset at that second, and a rule
-/// goes on from a table exactly where `jiff` finds that the two agree.
+/// Proves that the offset of a zone file's clock is that of `jiff` at each second, and that a rule
+/// continues a table exactly if `jiff` finds that the two agree.
 pub fn zone_files_go_by_jiff()
     ensures ahead { (zone : Tzif) (second : ℤ) →
         seconds_ahead (tzif_view zone) second ≡ (offset_at zone (nanos_of_seconds second)).seconds }

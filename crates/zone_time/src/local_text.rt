@@ -8,8 +8,8 @@ use crate::dates::{MINUTES_OF_DAY, write_clock, write_date};
 use crate::local::{Label, Local};
 use arrayvec::ArrayString;
 
-/// Appends a local time with its label, as `2000-01-10 06:00 UTC` or `2000-01-10 01:00 -05:00`, in
-/// 20 or 23 bytes. The year is from 0 to 9999, and a label is at most 1560 minutes.
+/// Appends `local` with its label, as `2000-01-10 06:00 UTC` or `2000-01-10 01:00 -05:00`, in 20 or 23
+/// bytes. The year is from 0 to 9999, and an offset is at most 1560 minutes.
 #[tactic(auto, unfolding(crate::specs::Locals::local_text))]
 pub fn write_local<const N: usize>(local: &Local, out: &mut ArrayString<N>)
     requires local { IsLocal local.now }
@@ -22,7 +22,7 @@ pub fn write_local<const N: usize>(local: &Local, out: &mut ArrayString<N>)
     write_label(local.label, out);
 }
 
-/// Appends a local minute, counted from 1970-01-01 00:00, as `2000-01-10 06:00`. The year is from 0
+/// Appends `minute`, in local minutes since 1970-01-01 00:00, as `2000-01-10 06:00`. The year is from 0
 /// to 9999.
 #[tactic(auto, unfolding(crate::specs::Locals::time_text))]
 pub fn write_time<const N: usize>(minute: i64, out: &mut ArrayString<N>)

@@ -1,4 +1,4 @@
-//! Text to moments.
+//! Reading the text of a moment.
 
 ghost use Rattle.std.specs.Prelude.{◌≡◌, ◌+◌, ◌*◌, ◌<◌, ◌≤◌, length, pos, ◌+ℤ◌, ◌*ℤ◌, IsTrue};
 ghost use Rattle.std.specs.List.{list_all, zip};
@@ -10,8 +10,14 @@ use jiff_core::civil::{Date, days_in_month};
 
 const FORM: &[u8] = b"0000-00-00T00:00Z";
 
-/// The moment that a text as `2000-01-10T00:00Z` names, in minutes since 1970-01-01T00:00Z. `None`
-/// where the text has another form, or names a minute that the years from 1 to 9999 don't have.
+/// Reads `text`, as `2000-01-10T00:00Z`, and returns its moment in minutes since 1970-01-01T00:00Z.
+/// Returns `None` if the text has another form, or is no minute of the years from 1 to 9999.
+///
+/// # Examples
+/// ```
+/// assert_eq!(rt; read_moment(b"2000-01-10T00:00Z"), Some(15_791_040));
+/// assert_eq!(rt; read_moment(b"2001-02-29T00:00Z"), None);
+/// ```
 #[tactic(auto, unfolding(crate::specs::Moments::has_form, crate::specs::Moments::moment_of))]
 pub fn read_moment(text: &[u8]) -> Option<i64>
     ensures { result ≡ moment_of text.now }

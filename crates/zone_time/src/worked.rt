@@ -1,4 +1,4 @@
-//! Moments, local times and clocks that were worked out by hand.
+//! Moments, local times and clocks that were computed by hand.
 
 ghost use Rattle.std.specs.Prelude.{◌≡◌, pos, negsuc, true, false, [], take, Some, None, Ok, Err, codes};
 ghost use Rattle.jiff_tz.specs.declared.info.Dst.TheVariants.{No};
@@ -11,8 +11,8 @@ ghost use Rattle.zone_time.specs.Worked.{new_york_to, hour_ahead};
 ghost use Rattle.zone_time.specs.ZoneFiles.{clock_minute, is_consistent};
 ghost use Rattle.zone_time.specs.Zones.{local_in, zone_of};
 
-/// Texts of moments: the first and the last that there are, the first of the count and the one
-/// before it, leap days and a century without one.
+/// Proves the texts of moments: the first and the last of all, 1970-01-01T00:00Z and the minute before
+/// it, leap days, and a century without one.
 #[tactic(auto, unfolding(crate::specs::Moments::moment_text, crate::specs::Dates::date_text, crate::specs::Dates::clock_text, crate::specs::Dates::two_digits, crate::specs::Dates::date_of, crate::specs::Dates::date_from_year, crate::specs::Dates::date_from_month))]
 pub fn worked_texts()
     ensures usual { moment_text (pos 15791040) ≡ codes "2000-01-10T00:00Z" }
@@ -26,7 +26,7 @@ pub fn worked_texts()
     ensures first_leap_day { moment_text (negsuc 1033930765) ≡ codes "0004-02-29T12:34Z" }
 {}
 
-/// Texts that name a moment, and texts that don't.
+/// Proves the moments of some texts, and that others have none.
 #[tactic(auto, unfolding(crate::specs::Moments::moment_of, crate::specs::Moments::has_form, jiff_core::specs::Calendar::days_from_civil, jiff_core::specs::Calendar::day_count, jiff_core::specs::Calendar::days_of_years, jiff_core::specs::Calendar::days_of_months))]
 pub fn worked_readings()
     ensures usual { moment_of (codes "2000-01-10T00:00Z") ≡ Some (pos 15791040) }
@@ -43,7 +43,7 @@ pub fn worked_readings()
     ensures year_zero { moment_of (codes "0000-12-31T23:59Z") ≡ None }
 {}
 
-/// Labels, and local times with theirs.
+/// Proves the texts of labels and local times.
 #[tactic(auto, unfolding(crate::specs::Locals::local_text, crate::specs::Locals::time_text, crate::specs::Locals::label_text, crate::specs::Dates::date_text, crate::specs::Dates::clock_text, crate::specs::Dates::two_digits, crate::specs::Dates::date_of, crate::specs::Dates::date_from_year, crate::specs::Dates::date_from_month))]
 pub fn worked_locals()
     ensures universal { local_text (record { minute = pos 15791400; label = Label.Utc }) ≡ codes "2000-01-10 06:00 UTC" }
@@ -55,8 +55,8 @@ pub fn worked_locals()
     ensures first { local_text (record { minute = negsuc 1036120319; label = Label.Utc }) ≡ codes "0000-01-01 00:00 UTC" }
 {}
 
-/// The clock of New York by a table up to 1999 and a rule from then on: seconds of the mean time
-/// are cut off, a row counts from its own second on, and the rule from the last row on.
+/// Proves local minutes of New York by a table up to 1999 and a rule from then on: the seconds of mean
+/// time are rounded down, a row counts from its own second on, and the rule from the last row on.
 pub fn worked_clocks()
     ensures mean_time { clock_minute (new_york_to (pos 941954400)) (negsuc 63113759) ≡ negsuc 63114056 }
     ensures last_of_mean_time { clock_minute (new_york_to (pos 941954400)) (negsuc 45294180) ≡ negsuc 45294477 }
@@ -70,7 +70,7 @@ pub fn worked_clocks()
     ensures label { local_text (local_in (Zone.Fixed (negsuc 299)) (pos 15791400)) ≡ codes "2000-01-10 01:00 -05:00" }
 {}
 
-/// Files that give a zone, and some that don't: a rule that is at odds with the last row, which
+/// Proves the zones of some files, and that others have none: a rule that contradicts the last row, which
 /// ends daylight saving time a week too early, and files that are cut short.
 pub fn worked_zone_files()
     ensures consistent { is_consistent (new_york_to (pos 941954400)) ≡ true }

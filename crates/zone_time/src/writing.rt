@@ -1,4 +1,4 @@
-//! Moments to text.
+//! Writing the text of a moment.
 
 ghost use Rattle.std.specs.Prelude.{◌≡◌, []};
 ghost use Rattle.zone_time.specs.Moments.{IsMoment, moment_text};
@@ -6,8 +6,8 @@ ghost use Rattle.zone_time.specs.Moments.{IsMoment, moment_text};
 use crate::dates::{MINUTES_OF_DAY, write_clock, write_date};
 use arrayvec::ArrayString;
 
-/// Writes a moment as `2000-01-10T00:00Z`. It is given in minutes since 1970-01-01T00:00Z, and its
-/// year is from 1 to 9999.
+/// Writes `m`, in minutes since 1970-01-01T00:00Z and of a year from 1 to 9999, to the empty `out` as
+/// `2000-01-10T00:00Z`.
 #[tactic(auto, unfolding(crate::specs::Moments::moment_text))]
 pub fn write_moment(m: i64, out: &mut ArrayString<20>)
     requires moment { IsMoment m }

@@ -1,4 +1,4 @@
-//! Zones: where a clock stands.
+//! Zones.
 
 ghost use Rattle.std.specs.Prelude.{◌≡◌};
 ghost use Rattle.zone_time.specs.Locals.{IsLocal};
@@ -8,20 +8,20 @@ use crate::local::Local;
 use crate::zone_clock::ZoneClock;
 use crate::zone_file::ZoneFile;
 
-/// The zone whose clock shows local times.
+/// The zone in which local times are shown.
 #[derive(Debug, Drop)]
 pub enum Zone {
     /// Universal time.
     Utc,
-    /// So many minutes ahead of universal time, or behind it where they are negative. At most 1560
-    /// either way have a text.
+    /// A fixed offset: the minutes by which the clock is ahead of universal time, negative if it is
+    /// behind. Offsets up to 1560 either way have a text.
     Fixed(i32),
-    /// The clock of a zone file. [`read_zone`](crate::read_zone) reads one.
+    /// The zone of a zone file, which [`read_zone`](crate::read_zone) reads.
     File(ZoneFile),
 }
 
 impl Zone {
-    /// The clock of the zone. A fixed zone is at most 1560 minutes from universal time.
+    /// Returns the clock of the zone. A fixed offset is at most 1560 minutes.
     pub fn clock(&self) -> ZoneClock<'_>
         requires { IsZone self.now }
         ensures { result ≡ self.now }
@@ -29,8 +29,8 @@ impl Zone {
         ZoneClock::new(self)
     }
 
-    /// What the clock of the zone shows at a minute. A fixed zone is at most 1560 minutes from
-    /// universal time, and the minute is as for [`ZoneClock::local`].
+    /// Returns the local time at `minute`, in minutes since 1970-01-01T00:00Z and in the range of
+    /// [`ZoneClock::local`]. A fixed offset is at most 1560 minutes.
     pub fn local(&self, minute: i64) -> Local
         requires zone { IsZone self.now }
         requires minute { InZoneYears minute }

@@ -8,8 +8,8 @@ use crate::local::{Label, Local};
 use crate::zone::Zone;
 use std::marker::Model;
 
-/// The clock of a zone that is at most 1560 minutes from universal time, if it is a fixed one.
-/// [`Zone::clock`] makes one. Contracts see it as the zone.
+/// The clock of a zone whose fixed offset, if it has one, is at most 1560 minutes. [`Zone::clock`] makes
+/// one. In contracts its value is the zone.
 #[derive(Debug, Drop)]
 pub struct ZoneClock<'a> {
     zone: &'a Zone,
@@ -35,7 +35,7 @@ impl<'a> ZoneClock<'a> {
         ZoneClock { zone }
     }
 
-    /// Its zone, lent.
+    /// Borrows the zone.
     pub fn zone(&self) -> &'a Zone
         ensures exact { result.now ≡ self.now }
         ensures zone { IsZone result.now }
@@ -43,9 +43,9 @@ impl<'a> ZoneClock<'a> {
         self.zone
     }
 
-    /// What the clock shows at a minute, counted from 1970-01-01T00:00Z. The minute is of the years
-    /// from 2 to 9300, or of the day before them. Seconds are cut off. A label of minutes is the
-    /// local minute less the minute.
+    /// Returns the local time at `minute`, in minutes since 1970-01-01T00:00Z, of the years from 2 to
+    /// 9300 or the day before them. Seconds are rounded down. A label of minutes is the local minute less
+    /// `minute`.
     pub fn local(&self, minute: i64) -> Local
         requires { InZoneYears minute }
         ensures exact { result ≡ local_in self.now minute }

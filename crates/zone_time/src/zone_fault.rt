@@ -1,14 +1,14 @@
-//! Why bytes give no zone.
+//! The reasons why bytes are no zone.
 
 use thiserror::Error;
 
-/// Why bytes give no zone.
+/// The reason why bytes are no zone.
 #[derive(Clone, Copy, Debug, PartialEq, Eq, Error)]
 pub enum ZoneFault {
-    /// They are no zone file, or one whose rule doesn't go on from its table.
+    /// The bytes are no zone file, or the file's rule contradicts its table.
     #[error("a bad zone file")]
     BadZone,
-    /// There was no memory for the zone.
+    /// Out of memory for the zone.
     #[error("no memory for the zone")]
     NoMemory,
 }

@@ -13,8 +13,8 @@ use jiff_core::Timestamp;
 use jiff_tz::Tzif;
 use std::marker::Model;
 
-/// What `jiff` made of a zone file: how far the clock was ahead of universal time from when on, and
-/// the rule that goes on from there. Contracts see it as what the file says.
+/// A zone file as `jiff` reads it: the offsets of the clock from universal time, each from some second
+/// on, and the rule after the last of them. In contracts its value is the content of the file.
 #[derive(Debug, Drop)]
 pub struct ZoneFile {
     tzif: Tzif,
@@ -38,7 +38,7 @@ impl ZoneFile {
         ZoneFile { tzif }
     }
 
-    /// What the clock shows at a minute, with its seconds cut off.
+    /// Returns the local time at `minute`, with seconds rounded down.
     #[tactic(auto, unfolding(crate::specs::ZoneFiles::clock_minute))]
     pub(crate) fn local(&self, minute: i64) -> Local
         requires { InZoneYears minute }
@@ -48,7 +48,7 @@ impl ZoneFile {
         local_showing(minute, minute_shown(minute, self.ahead(minute)))
     }
 
-    // How many seconds the clock is ahead of universal time at a minute.
+    // Returns the seconds by which the clock is ahead of universal time at `minute`.
     fn ahead(&self, minute: i64) -> i32
         requires { InZoneYears minute }
         ensures value { result ≡ seconds_ahead self.now (minute *ℤ pos 60) }
@@ -59,7 +59,7 @@ impl ZoneFile {
     }
 }
 
-// The instant at which a minute begins.
+// Returns the instant at which `minute` begins.
 fn instant(minute: i64) -> Timestamp
     requires { InZoneYears minute }
     ensures { result.nanosecond ≡ nanos_of_seconds (minute *ℤ pos 60) }
@@ -69,7 +69,7 @@ fn instant(minute: i64) -> Timestamp
     }
 }
 
-// The minute that a clock shows which is so many seconds ahead.
+// Returns the minute shown at `minute` by a clock that is `ahead` seconds ahead.
 fn minute_shown(minute: i64, ahead: i32) -> i64
     requires minute { InZoneYears minute }
     requires ahead { IsWithin 93599 ahead }
@@ -80,7 +80,7 @@ fn minute_shown(minute: i64, ahead: i32) -> i64
     second.div_euclid(60)
 }
 
-// The local time of a clock that shows another minute.
+// Returns the local time of a clock that shows the minute `shown` at `minute`.
 fn local_showing(minute: i64, shown: i64) -> Local
     requires minute { InZoneYears minute }
     requires near { IsWithin 1560 (shown -ℤ minute) }

@@ -1,4 +1,4 @@
-//! Zone files to zones.
+//! Reading zone files.
 
 ghost use Rattle.std.specs.Prelude.{IfOk};
 ghost use Rattle.decimal_text.specs.Expected.{Gives};
@@ -11,13 +11,18 @@ use jiff_core::Error;
 use jiff_tz::Tzif;
 use std::alloc::Global;
 
-/// The zone of a zone file, whose clock goes by the file's table and by the rule of its footer. A
-/// file has at most 1,048,576 bytes.
+/// Reads the zone file `bytes`, and returns its zone, whose clock follows the file's table and the rule
+/// of its footer. A file has at most 1,048,576 bytes.
 ///
 /// # Errors
-/// [`ZoneFault::BadZone`] where `jiff` refuses the bytes: they aren't in the format, or the rule of
-/// the footer says something else of the table's last change than the table.
-/// [`ZoneFault::NoMemory`] at any time.
+/// [`ZoneFault::BadZone`] if `jiff` refuses the bytes: they aren't in the format, or the rule of the
+/// footer contradicts the last change of the table. [`ZoneFault::NoMemory`] if memory runs out.
+///
+/// # Examples
+/// ```
+/// let fault = read_zone(rt.alloc(), b"no zone").err();
+/// assert_eq!(rt; fault, Some(ZoneFault::BadZone));
+/// ```
 #[tactic(auto, unfolding(crate::specs::Zones::zone_of))]
 pub fn read_zone(alloc: Global, bytes: &[u8]) -> Result<Zone, ZoneFault>
     ensures exact { Gives wants_memory (zone_of bytes.now) result }

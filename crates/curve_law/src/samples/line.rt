@@ -1,12 +1,12 @@
-//! A line.
+//! A straight line.
 
 ghost use Rattle.std.specs.Prelude.{◌≡◌, ◌^◌, ◌≤◌, unsigned_abs, pos, ◌+ℤ◌, ◌-ℤ◌, ◌≤ℤ◌, if◌then◌else◌};
 
 use crate::curve::Curve;
 use crate::kind::Kind;
 
-/// A value that rises or falls by 1 each minute, over the minutes from -1,000,000 to 1,000,000. Its
-/// level is the minute, its rate may be greater than it need be, and a near value is 1 too high.
+/// A value that rises or falls by 1 each minute, over the minutes from -1,000,000 to 1,000,000. Its level
+/// is the minute, its rate may be greater than necessary, and each approximate value is 1 too high.
 #[derive(Debug, Drop)]
 pub struct Line {
     start: i64,
@@ -21,7 +21,7 @@ pub struct Line {
 impl Line {
     ghost use Rattle.curve_law.specs.Samples.{line};
 
-    /// The line through `start` at minute 0. No value was asked yet.
+    /// Returns the line through `start` at minute 0, not yet evaluated.
     pub fn new(start: i64, falls: bool, rate: i64) -> Line
         requires near { unsigned_abs start ≤ 10 ^ 12 }
         requires gentle { pos 1 ≤ℤ rate }

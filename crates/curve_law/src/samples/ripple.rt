@@ -1,4 +1,4 @@
-//! A value that changes side after each minute.
+//! A value that changes its side of zero after each minute.
 
 ghost use Rattle.std.specs.Prelude.{◌≡◌, ◌≤◌, pos, unsigned_abs};
 ghost use Rattle.curve_law.specs.Samples.{ripple};
@@ -6,8 +6,8 @@ ghost use Rattle.curve_law.specs.Samples.{ripple};
 use crate::curve::Curve;
 use crate::kind::Kind;
 
-/// 1 at even minutes and -1 at odd ones, from -1,000,000 to 1,000,000, with no rate. A near value is
-/// 0, which tells nothing.
+/// A curve that is 1 at even minutes and -1 at odd ones, from -1,000,000 to 1,000,000, with no rate. Each
+/// approximate value is 0, which decides nothing.
 #[derive(Debug, Default, Drop)]
 pub struct Ripple {
     asked: u64,
@@ -16,7 +16,7 @@ pub struct Ripple {
 impl Ripple {
     ghost use Rattle.curve_law.specs.Samples.{ripple};
 
-    /// A ripple of which no value was asked yet.
+    /// Returns a ripple that is not yet evaluated.
     pub fn new() -> Ripple
         ensures meaning { ⟦<Ripple as Curve>⟧.meaning result ≡ ripple }
         ensures count { ⟦<Ripple as Curve>⟧.count result ≡ 0 }
@@ -90,7 +90,7 @@ impl Curve for Ripple {
     }
 }
 
-/// The value at a minute.
+/// Returns the value at minute `m`.
 fn wave(m: i64) -> i128
     ensures value { result ≡ ripple.track.value m }
     ensures size { unsigned_abs result ≤ 1 }

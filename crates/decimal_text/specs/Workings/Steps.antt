@@ -1,8 +1,9 @@
--- How far a decimal's digits have been read, while its fraction is gone through.
+-- The state of reading a decimal's fraction digit by digit.
 use Rattle.std.specs.Prelude.{◌≡◌, ℕ, ◌+◌, ◌*◌, ◌^◌, ◌<◌, ◌≤◌, true, false, ◌⊎◌}
 use Rattle.decimal_text.specs.declared.steps.Steps.{Steps}
 
--- the digits so far are the number n, `count` of them in the fraction and `extra` of these past the places
+-- the digits read so far are the number n; `count` of them are of the fraction, `extra` of these after
+-- the last place
 pub record Stands (places count n : ℕ) (s : Steps) : Type 0 where
   pub extra : ℕ
   pub counted : count + s.left ≡ places + extra

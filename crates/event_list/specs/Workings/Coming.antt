@@ -1,4 +1,4 @@
--- The events that are to come from one search. No public clause cites this.
+-- The events still to come from one search. No public clause cites this.
 use Rattle.std.specs.Prelude.{◌≡◌, ℕ, ◌+◌, ◌^◌, ◌<◌, true, false, List, [], ◌∷◌, ◌++◌, All, length, Option, Some, None}
 use Rattle.curve_law.specs.declared.event.Event.{Event}
 use Rattle.curve_law.specs.Cells.{event_in, turns}
@@ -9,23 +9,25 @@ use Rattle.event_list.specs.declared.leading.Leading.TheVariants.{Turn, Slack, M
 use Rattle.event_list.specs.Order.{comes_before, ordered}
 use Rattle.event_list.specs.Merging.{Merging, Waiting, minute_of, cells_of, waiting, searched, leads}
 
--- the events that the cells that a search has left have
+-- the events in the cells that a search has left
 abbrev pub events_ahead : {C : Type 0} → Option (Looking C) → List Event
 events_ahead None = []
 events_ahead (Some search) = turns search.at search.left
 
+-- the number of cells that a search has left
 abbrev pub cells_ahead : {C : Type 0} → Option (Looking C) → ℕ
 cells_ahead search = length (cells_of search)
 
--- what comes of asking a search up to its next event, and of asking it on past a cell
+-- the state of a search after it has run to its next event
 abbrev pub searched_by : {C : Type 0} → Option (Looking C) → Waiting
 searched_by search = searched (minute_of search) (cells_of search)
 
+-- the state of a search after a cell with these events was returned
 abbrev pub searched_past : {C : Type 0} → List Event → Option (Looking C) → Waiting
 searched_past [] search = searched_by search
 searched_past (event ∷ events) search = waiting (Some event) search
 
--- a step gives the first of the cells that are ahead, and none where there is none
+-- a step returns the first of the cells left, or none if there is none
 abbrev pub FindsNext : {C : Type 0} → Option (Looking C) → Option Found → Option (Looking C) → Type 0
 FindsNext old None new =
     (events_ahead old ≡ []) × (cells_ahead old ≡ 0) × (events_ahead new ≡ []) × (cells_ahead new ≡ 0) × (searched_by old ≡ waiting None new)
@@ -33,7 +35,7 @@ FindsNext old (Some found) new =
     (events_ahead old ≡ event_in found.at found.cell ++ events_ahead new) × (cells_ahead old ≡ cells_ahead new + 1)
     × (searched_by old ≡ searched_past (event_in found.at found.cell) new)
 
--- the first event that is ahead; where there is none, no cell is ahead afterwards
+-- the result is the first event left; if there is none, no cell is left afterwards
 abbrev pub GivesEvent : {C : Type 0} → Option (Looking C) → Option Event → Option (Looking C) → Type 0
 GivesEvent old None new = (events_ahead old ≡ []) × (events_ahead new ≡ []) × (cells_ahead new ≡ 0)
 GivesEvent old (Some event) new = events_ahead old ≡ event ∷ events_ahead new
@@ -43,26 +45,26 @@ abbrev pub first_of : List Event → Option Event
 first_of [] = None
 first_of (e ∷ es) = Some e
 
--- a track's event comes before those of the others, or none has one
+-- the event of this track comes before those of the others, or none has one
 abbrev pub IsLeading : Leading → Option Event → Option Event → Option Event → Type 0
 IsLeading Turn turn slack mark = (leads turn slack ≡ true) × (leads turn mark ≡ true)
 IsLeading Slack turn slack mark = (leads slack turn ≡ true) × (leads slack mark ≡ true)
 IsLeading Mark turn slack mark = (leads mark turn ≡ true) × (leads mark slack ≡ true)
 
--- no event stands before one that comes earlier in the list
+-- no event comes before one that is earlier in the list
 unfoldable pub IsAscending : List Event → Type 0
 IsAscending [] = Unit {0}
 IsAscending (e ∷ es) = All (λ d. comes_before d e ≡ false) es × IsAscending es
 
--- one track of a merge is seen as its events that are left, what there is of its search, the number of cells that this has given
--- so far, and the number of all its cells
+-- one track of a merge: the events left, the state of its search, the number of cells that it has
+-- returned so far, and the number of all its cells
 pub record Strand : Type 0 where
   pub left : List Event
   pub waiting : Waiting
   pub cells : ℕ
   pub all : ℕ
 
--- what is known of the three tracks of a merge
+-- the invariant of the three tracks of a merge
 pub record Stands (t s m : Strand) : Type 0 where
   pub turn : IsAscending t.left
   pub slack : IsAscending s.left
@@ -72,6 +74,7 @@ pub record Stands (t s m : Strand) : Type 0 where
   pub mark_counted : m.cells + length m.waiting.cells ≡ m.all
   pub few : t.all + s.all + m.all < 2 ^ 64
 
+-- the merge of three tracks
 abbrev pub merging_of : Strand → Strand → Strand → Merging
 merging_of turn slack mark = record {
   left = ordered (turn.left ++ (slack.left ++ mark.left));

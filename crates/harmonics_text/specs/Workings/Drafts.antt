@@ -1,5 +1,5 @@
--- The inner account of reading line by line: what holds of a draft, and the draft after one more line. It is proved to give
--- the book of Reading.antt (this project).
+-- The parser states of reading line by line: their invariant, and the state after one more line. They are
+-- proved to result in the book of Reading.antt (this project).
 use Rattle.std.specs.Prelude.{[], ◌∷◌, ◌++◌, ◌-◌, ◌==◌, nat_lt, nat_le, if◌then◌else◌, Option, Some, None, Result, Ok, Err, slice_index_or, ◌≡◌, ℕ, ℤ, pos, negsuc, ◌+◌, ◌*◌, ◌<◌, ◌≤◌, List, length, All}
 use Rattle.harmonics_text.specs.declared.book.Constituent.{Constituent}
 use Rattle.harmonics_text.specs.declared.book.Station.{Station}
@@ -25,23 +25,25 @@ use Rattle.harmonics_text.specs.Rules.{count_of, constituent_of, first_year_of, 
 use Rattle.std.specs.List.{list_all}
 use Rattle.harmonics_text.specs.Books.{IsWithin, IsName, IsConstituent, IsBook}
 
+-- from 1 to 500 valid constituents
 pub record AreConstituents (cs : List Constituent) : Type 0 where
   pub some : 1 ≤ length cs
   pub few : length cs ≤ 500
   pub each : All IsConstituent cs
 
+-- a valid heading
 pub record IsHeading (h : Heading) : Type 0 where
   pub constituents : AreConstituents h.constituents
   pub first_year : IsWithin (pos 2) (pos 8800) h.first_year
   pub some_years : 1 ≤ h.years
   pub few_years : h.years ≤ 500
 
--- the values of so many constituents, for each of the years
+-- the values of `count` constituents, for each of the years
 pub record AreValues (least most : ℤ) (count years : ℕ) (values : List ℤ) : Type 0 where
   pub all : length values ≡ count * years
   pub each : All (IsWithin least most) values
 
--- the values of the constituents before the place, and a part of those at it
+-- the values of the constituents before the index, and a part of those at it
 pub record IsTable (least most : ℤ) (count years : ℕ) (t : Table) : Type 0 where
   pub before : t.left ≡ 0 → length t.values ≡ t.place * years
   pub inside : 1 ≤ t.left → length t.values + t.left ≡ t.place * years + years
@@ -49,7 +51,7 @@ pub record IsTable (least most : ℤ) (count years : ℕ) (t : Table) : Type 0 w
   pub place : t.place ≤ count
   pub each : All (IsWithin least most) t.values
 
--- the constants of some of so many constituents, but not all
+-- the constants of some of `count` constituents, but not all
 pub record AreConstants (count : ℕ) (c : Constants) : Type 0 where
   pub name : IsName 200 c.name
   pub meridian : IsWithin (negsuc 958) (pos 959) c.local_time.meridian
@@ -59,22 +61,26 @@ pub record AreConstants (count : ℕ) (c : Constants) : Type 0 where
   pub amplitude : All (IsWithin (negsuc 9999999999) (pos 10000000000)) c.amplitude
   pub epoch : All (IsWithin (negsuc 7199999999) (pos 7200000000)) c.epoch
 
+-- the station of constants that are complete
 abbrev pub station_of : Constants → Station
 station_of c = record { name = c.name; meridian = c.local_time.meridian; zone = c.local_time.zone; datum = c.datum; units = c.units; amplitude = c.amplitude; epoch = c.epoch }
 
--- room for one more station, where one is being read
+-- if a station is being read, there is room for one more
 abbrev pub IsRecord : Book → Record → Type 0
 IsRecord b records.Nothing = Unit {0}
 IsRecord b (records.Name n) = (length b.stations < 20000) × IsName 200 n
 IsRecord b (records.LocalTime n p) = (length b.stations < 20000) × IsName 200 n × IsWithin (negsuc 958) (pos 959) p.meridian
 IsRecord b (records.Constants c) = (length b.stations < 20000) × AreConstants (length b.constituents) c
 
+-- the equilibrium arguments of a heading's constituents and years
 abbrev pub IsAngles : Heading → List ℤ → Type 0
 IsAngles h values = AreValues (negsuc 7199999999) (pos 7200000000) (length h.constituents) h.years values
 
+-- the node factors of a heading's constituents and years
 abbrev pub IsFactors : Heading → List ℤ → Type 0
 IsFactors h values = AreValues (pos 0) (pos 10000000) (length h.constituents) h.years values
 
+-- the invariant of a parser state
 abbrev pub IsDraft : Draft → Type 0
 IsDraft drafts.Count = Unit {0}
 IsDraft (drafts.Constituents left earlier) = (1 ≤ left) × (left + length earlier ≤ 500) × All IsConstituent earlier
@@ -87,34 +93,40 @@ IsDraft (drafts.Factors h angles t) = IsHeading h × IsAngles h angles × (t.pla
 IsDraft (drafts.FactorsEnd h angles factors) = IsHeading h × IsAngles h angles × IsFactors h factors
 IsDraft (drafts.Stations b r) = IsBook b × IsRecord b r
 
--- What a function returned, seen by view, is what the rule gives, unless memory ran out.
+-- An error of a function is that of the rule, unless it is out of memory.
 abbrev pub Fails : {Y : Type 0} → LineFault → Result Y Why → Type 0
 Fails NoMemory rule = Unit {0}
 Fails (Bad why) rule = rule ≡ Err why
 
+-- A result of a function, seen by `view`, is that of the rule, unless it is out of memory.
 abbrev pub Follows : {X Y : Type 0} → (X → Y) → Result X LineFault → Result Y Why → Type 0
 Follows view (Ok x) rule = rule ≡ Ok (view x)
 Follows view (Err e) rule = Fails e rule
 
--- a line's fault as a file's
+-- a line's fault as a fault of the file
 abbrev pub placed : ℕ → LineFault → BookFault
 placed line NoMemory = faults.NoMemory
 placed line (Bad why) = faults.At line why
 
--- ---- The draft after one more line
+-- ---- the state after one more line
 
+-- the state after the line with the number of constituents
 unfoldable pub after_count : List ℕ → Result Draft Why
 after_count text = count_of text >>= λ n. Ok (drafts.Constituents n [])
 
+-- the state after one more constituent
 abbrev pub with_constituents : ℕ → List Constituent → Draft
 with_constituents left cs = if nat_lt 1 left then drafts.Constituents (left - 1) cs else drafts.FirstYear cs
 
+-- the state after the line of a constituent
 unfoldable pub after_constituent : ℕ → List Constituent → List ℕ → Result Draft Why
 after_constituent left earlier text = constituent_of earlier text >>= λ c. Ok (with_constituents left (earlier ++ c ∷ []))
 
+-- the table before any line
 abbrev pub new_table : Table
 new_table = record { place = 0; left = 0; values = [] }
 
+-- the state after the line with the number of years
 unfoldable pub after_years : List Constituent → ℤ → List ℕ → Result Draft Why
 after_years cs year text = count_of text >>= λ n. Ok (drafts.Angles (record { constituents = cs; first_year = year; years = n }) new_table)
 
@@ -122,58 +134,73 @@ after_years cs year text = count_of text >>= λ n. Ok (drafts.Angles (record { c
 unfoldable pub pushed : Scale → List ℤ → List ℕ → Result (List ℤ) Why
 pushed s values token = number_of s token >>= λ n. Ok (values ++ n ∷ [])
 
+-- the constituent's index after a line that leaves `left` values to come
 abbrev pub at_place : ℕ → ℕ → ℕ
 at_place left place = if left == 0 then place + 1 else place
 
+-- the table after a line of values
 unfoldable pub after_values : Scale → Table → List ℕ → Result Table Why
 after_values s t text = values_from s t.left t.values (tokens text) >>= λ v. Ok (record { place = at_place v.0 t.place; left = v.0; values = v.1 })
 
+-- the table after the line with a constituent's name
 unfoldable pub after_name : Table → ℕ → List ℕ → List ℕ → Result Table Why
 after_name t years name text = named name text >>= λ _. Ok (record { place = t.place; left = years; values = t.values })
 
+-- the table after its next line
 unfoldable pub after_table_line : Scale → Heading → Table → List ℕ → Result Table Why
 after_table_line s h t text =
     if nat_lt 0 t.left then after_values s t text
     else after_name t h.years (slice_index_or h.constituents t.place (record { name = []; speed = pos 0 })).name text
 
+-- the state with a table of arguments, which may be complete
 abbrev pub with_angles : Heading → Table → Draft
 with_angles h t = if nat_lt t.place (length h.constituents) then drafts.Angles h t else drafts.AnglesEnd h t.values
 
+-- the state after a line of the table of arguments
 unfoldable pub after_angles : Heading → Table → List ℕ → Result Draft Why
 after_angles h t text = after_table_line Angle h t text >>= λ t. Ok (with_angles h t)
 
+-- the state after the number of years of the second table
 unfoldable pub after_years_again : Heading → List ℤ → List ℕ → Result Draft Why
 after_years_again h angles text = same_count_of h.years text >>= λ _. Ok (drafts.Factors h angles new_table)
 
+-- the state with a table of factors, which may be complete
 abbrev pub with_factors : Heading → List ℤ → Table → Draft
 with_factors h angles t = if nat_lt t.place (length h.constituents) then drafts.Factors h angles t else drafts.FactorsEnd h angles t.values
 
+-- the state after a line of the table of factors
 unfoldable pub after_factors : Heading → List ℤ → Table → List ℕ → Result Draft Why
 after_factors h angles t text = after_table_line Factor h t text >>= λ t. Ok (with_factors h angles t)
 
+-- the book without any station
 abbrev pub new_book : Heading → List ℤ → List ℤ → Book
 new_book h angles factors = record { constituents = h.constituents; first_year = h.first_year; years = h.years; angles = angles; factors = factors; stations = [] }
 
+-- the state after the name of a station
 unfoldable pub after_nothing : Book → List ℕ → Result Draft Why
 after_nothing b text =
     if nat_le 20000 (length b.stations) then Err TooManyStations
     else station_name_of text >>= λ name. Ok (drafts.Stations b (records.Name name))
 
+-- the state with one more pair of constants, which may be the station's last
 abbrev pub with_pair : Book → Constants → Draft
 with_pair b c =
     if nat_lt (length c.amplitude) (length b.constituents) then drafts.Stations b (records.Constants c)
     else drafts.Stations (record b { stations = b.stations ++ station_of c ∷ [] }) records.Nothing
 
+-- the state after a line of constants
 unfoldable pub after_pair : Book → Constants → List ℕ → Result Draft Why
 after_pair b c text =
     pair_of (slice_index_or b.constituents (length c.amplitude) (record { name = []; speed = pos 0 })).name text >>= λ p. Ok (with_pair b (record c { amplitude = c.amplitude ++ p.0 ∷ []; epoch = c.epoch ++ p.1 ∷ [] }))
 
+-- the state after a line of a station's record
 unfoldable pub after_record : Book → Record → List ℕ → Result Draft Why
 after_record b records.Nothing text = after_nothing b text
 after_record b (records.Name name) text = local_time_of text >>= λ t. Ok (drafts.Stations b (records.LocalTime name t))
 after_record b (records.LocalTime name local_time) text = datum_of text >>= λ d. Ok (drafts.Stations b (records.Constants (record { name = name; local_time = local_time; datum = d.0; units = d.1; amplitude = []; epoch = [] })))
 after_record b (records.Constants c) text = after_pair b c text
 
+-- the state after a line that isn't skipped
 unfoldable pub after_text : Draft → List ℕ → Result Draft Why
 after_text drafts.Count text = after_count text
 after_text (drafts.Constituents left earlier) text = after_constituent left earlier text
@@ -186,7 +213,7 @@ after_text (drafts.Factors h angles t) text = after_factors h angles t text
 after_text (drafts.FactorsEnd h angles factors) text = end_of text >>= λ _. Ok (drafts.Stations (new_book h angles factors) records.Nothing)
 after_text (drafts.Stations b r) text = after_record b r text
 
--- comments and lines of white space alone change nothing
+-- comments and lines of white space don't change the state
 unfoldable pub after_line : Draft → List ℕ → Result Draft Why
 after_line d line =
     if is_comment line then Ok d
@@ -194,13 +221,14 @@ after_line d line =
     else if list_all is_blank (without_cr line) then Ok d
     else after_text d (without_cr line)
 
+-- the book, if no station is incomplete
 abbrev pub book_at : Book → Record → Option Book
 book_at b records.Nothing = Some b
 book_at b (records.Name n) = None
 book_at b (records.LocalTime n p) = None
 book_at b (records.Constants c) = None
 
--- the book of a draft whose last part is complete
+-- the book of a state whose last part is complete
 abbrev pub book_in : Draft → Option Book
 book_in drafts.Count = None
 book_in (drafts.Constituents left earlier) = None

@@ -1,4 +1,4 @@
--- What the server's own types are in the definitions, and what is known of them (this project).
+-- The server's types as values of the definitions, and facts about them (this project).
 use Rattle.std.specs.Prelude.{◌≤◌, length}
 use Rattle.http_rows.specs.Heads as heads
 use Rattle.http_rows.specs.Paths.{text_of}
@@ -30,10 +30,11 @@ abbrev pub row_seen : Row → rows.Row
 row_seen (Rejects rejection bodiless) = rows.rejects rejection bodiless
 row_seen (Asks asking) = rows.asks (asking_seen asking)
 
--- what is asked stands behind the fixed rows
+-- the body of a request that passes the fixed rows is within the limit
 abbrev pub IsAsking : rows.Asking → Type 0
 IsAsking a = length a.body ≤ MOST_BODY
 
+-- the body of a row's request is within the limit
 abbrev pub IsAskingRow : rows.Row → Type 0
 IsAskingRow (rows.rejects rejection bodiless) = Unit {0}
 IsAskingRow (rows.asks asking) = IsAsking asking

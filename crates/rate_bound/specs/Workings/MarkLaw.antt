@@ -1,4 +1,4 @@
--- The level's curve against a mark is lawful.
+-- The curve of the level less a mark is lawful.
 use Rattle.std.proofs.Common.{◌≡◌, ℕ, zero, suc, ◌+◌, ◌-◌, ◌*◌, ◌^◌, ◌<◌, ◌≤◌, length, Bool, Some, sym, ap, ◌∙◌, arith, ℤ, pos, ◌+ℤ◌, ◌-ℤ◌, ◌*ℤ◌, ◌≤ℤ◌, ◌<ℤ◌}
 use Rattle.std.specs.Prelude.{unsigned_abs}
 use Rattle.std.proofs.lemmas.Int.{ints}
@@ -26,10 +26,11 @@ use Rattle.station_curve.proofs.PlainSteps.{IsSpan, plain_step}
 use Rattle.rate_bound.specs.Workings.RateForms.{blended_level_rate-pos, some-same}
 use Rattle.station_curve.proofs.Ranges.{are_ends, level_small}
 
--- the mark and what is added fall out of a step
+-- the mark and the added level cancel in a step
 pub same_mark : (x y c : ℤ) → (x +ℤ c) -ℤ (y +ℤ c) ≡ x -ℤ y
 same_mark x y c = omega (arith, ints)
 
+-- a factor in its range, which isn't negative
 pub record IsTimes (times : ℤ) : Type 0 where
   pub size : unsigned_abs times ≤ 10 ^ 8
   pub same : pos (unsigned_abs times) ≡ times
@@ -101,6 +102,7 @@ mark_rate version tide times plus mark slack a n rate gentle scale cell is =
     } in
     rate_in version tide times plus mark slack a n rate _ gentle scale span (stretch_of-found tide.first_year (length tide.years) a n span.are span.first span.last) is
 
+-- a level less a mark is below its limit
 pub mark_small : (times plus mark level : ℤ) → IsScale times plus mark → unsigned_abs level ≤ total_weight * (11 * 10 ^ 18) → unsigned_abs (over_mark times plus mark level) < 5 * 10 ^ 36
 mark_small times plus mark level scale small =
     let t = times_of times plus mark scale in
@@ -112,6 +114,7 @@ mark_small times plus mark level scale small =
     let all = abs_plus (times *ℤ level) (pos (10 ^ 6 * total_weight * 10 ^ 9) *ℤ (plus -ℤ mark)) (10 ^ 8 * (total_weight * (11 * 10 ^ 18))) (10 ^ 6 * total_weight * 10 ^ 9 * (2 * 10 ^ 10)) scaled raised in
     omega (arith, all)
 
+-- the curve of the level less a mark meets the law of a curve
 pub mark_lawful : (version : Version) (tide : Tide) (times plus mark : ℤ) (slack : Bool) → IsGentle tide → IsScale times plus mark → IsLawful (mark_meaning version tide times plus mark slack)
 mark_lawful version tide times plus mark slack gentle scale =
     let ends = are_ends tide.first_year (length tide.years) gentle.years in

@@ -1,4 +1,4 @@
--- Near values of both curves are near enough for sums of such.
+-- The errors of both curves are small enough to add approximate values.
 use Rattle.std.proofs.Common.{◌*◌, ◌^◌, ◌≤◌, ℕ, ℤ, pos, ◌-ℤ◌, ◌*ℤ◌, unsigned_abs, length, Bool, refl, arith}
 use Rattle.std.proofs.lemmas.Int.{ints}
 use Rattle.std.proofs.lemmas.Nat.{mul-le}
@@ -21,12 +21,14 @@ use Rattle.rate_bound.specs.Meanings.{over_mark, turn_meaning, mark_meaning}
 use Rattle.rate_bound.specs.Scale.{IsScale}
 use Rattle.rate_bound.specs.Workings.MarkLaw.{same_mark}
 
+-- the error of a slope is small enough
 pub slope_narrow : (tide : Tide) → IsGentle tide → slope_error_of tide ≤ 10 ^ 36
 unfolding slope_error_of
 slope_narrow tide gentle =
     let most = greatest-most steepness_of tide.years (10 ^ 17) gentle.steepnesses in
     omega (arith, most)
 
+-- the error of a scaled level is small enough
 pub level_narrow : (tide : Tide) (times plus mark : ℤ) → IsGentle tide → IsScale times plus mark → unsigned_abs times * level_error_of tide ≤ 10 ^ 36
 unfolding level_error_of
 level_narrow tide times plus mark gentle scale =
@@ -42,17 +44,19 @@ place_near : (tide : Tide) (m : ℤ) → IsGentle tide → InDomain tide.first_y
 place_near tide m gentle domain =
     near_place tide.first_year (length tide.years) m (place_in_tide tide m) gentle.years.least (place_of-rule tide.first_year (length tide.years) m gentle.years domain)
 
+-- an approximate slope is within its error
 pub slope_close : (version : Version) (tide : Tide) (m : ℤ) → IsGentle tide → IsMinute (turn_meaning version tide) m
     → IsNearValue (turn_meaning version tide) (slope_error_of tide) m (near_slope_of tide m)
 slope_close version tide m gentle at =
     slope_near tide m (place_in_tide tide m) refl (place_near tide m gentle (record { least = at.first; most = at.last }))
 
--- a level that is near the station's, scaled and set against a mark
+-- an approximate level, scaled and less a mark, is within the scaled error
 near-mark : (times plus mark near level : ℤ) (error : ℕ) → unsigned_abs (near -ℤ level) ≤ error → unsigned_abs (over_mark times plus mark near -ℤ over_mark times plus mark level) ≤ unsigned_abs times * error
 near-mark times plus mark near level error close =
     let raised = pos (10 ^ 6 * total_weight * 10 ^ 9) *ℤ (plus -ℤ mark) in
     rw (same_mark (times *ℤ near) (times *ℤ level) raised) (scaled_gap times near level error close)
 
+-- an approximate level less a mark is within its error
 pub level_close : (version : Version) (tide : Tide) (times plus mark : ℤ) (slack : Bool) (m : ℤ) → IsGentle tide → IsMinute (mark_meaning version tide times plus mark slack) m
     → IsNearValue (mark_meaning version tide times plus mark slack) (unsigned_abs times * level_error_of tide) m (over_mark times plus mark (near_level_of tide m))
 level_close version tide times plus mark slack m gentle at =

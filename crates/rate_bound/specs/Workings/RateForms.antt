@@ -1,4 +1,4 @@
--- The rates as natural numbers, and how large they are.
+-- The rates as natural numbers, and bounds on them.
 use Rattle.std.proofs.Common.{◌≡◌, ℕ, ◌+◌, ◌*◌, ◌^◌, ◌≤◌, max, Bool, true, false, cond, Some, None, List, refl, sym, ap, arith, ℤ, pos, ◌≤ℤ◌, int_le}
 use Rattle.std.specs.Int.{int_max}
 use Rattle.std.proofs.lemmas.Int.{ints, clamps}
@@ -17,7 +17,7 @@ blended_level_rate-pos hs gs = rw (int_max-pos (near_of hs) (near_of gs)) (ap po
 pub blended_slope_rate-pos : (hs gs : List Harmonic) → blended_slope_rate (sums_of hs) (sums_of gs) ≡ pos (total_weight * max (far_of hs) (far_of gs) + 64800000 * (10 ^ 9 * steepness_of gs + 10 ^ 9 * steepness_of hs) + (64800000 * radian * (near_of gs + near_of hs) + 1663000 * radian * (10 ^ 9 * (amount_of gs + amount_of hs))))
 blended_slope_rate-pos hs gs = rw (int_max-pos (far_of hs) (far_of gs)) (ap pos (omega arith))
 
--- a limited rate that there is
+-- a rate that `limited` returns
 pub record IsLimited (rate given : ℤ) : Type 0 where
   pub same : given ≡ rate
   pub small : rate ≤ℤ pos (4 * 10 ^ 34)

@@ -1,4 +1,4 @@
--- The slope's curve is lawful.
+-- The curve of the slope is lawful.
 use Rattle.std.proofs.Common.{◌≡◌, ℕ, zero, suc, ◌-◌, ◌*◌, ◌^◌, ◌≤◌, length, Some, sym, ◌∙◌, arith, ℤ, pos, ◌+ℤ◌, ◌*ℤ◌, ◌≤ℤ◌, ◌<ℤ◌}
 use Rattle.std.proofs.lemmas.Int.{ints}
 use Rattle.curve_law.specs.Meaning.{IsCell, IsRate, IsLawful}
@@ -62,6 +62,7 @@ turn_rate version tide a n rate gentle cell is =
     } in
     rate_in version tide a n rate _ gentle span (stretch_of-found tide.first_year (length tide.years) a n span.are span.first span.last) is
 
+-- the curve of the slope meets the law of a curve
 pub turn_lawful : (version : Version) (tide : Tide) → IsGentle tide → IsLawful (turn_meaning version tide)
 turn_lawful version tide gentle =
     let ends = are_ends tide.first_year (length tide.years) gentle.years in

@@ -1,4 +1,4 @@
--- What a station's curve keeps, and the tide that it is seen as.
+-- The fields of a station's curve, and the tide that is its value in contracts.
 use Rattle.std.specs.Prelude.{◌≡◌, ℕ, suc, ◌<◌, length, map, pos, slice_index_or}
 use Rattle.year_blend.specs.Places.{start_of}
 use Rattle.station_curve.specs.declared.years.Year.{Year}
@@ -8,10 +8,11 @@ use Rattle.station_curve.specs.Errors.{greatest_of}
 use Rattle.station_curve.specs.Limits.{IsGentle}
 use Rattle.station_curve.specs.Sums.{sums_of}
 
--- the tide of its years
+-- the tide of the curve's years
 abbrev pub tide_in : Inside → Tide
 tide_in s = record { first_year = s.first_year; datum = s.datum; years = map (λ y. y.waves.items) s.years.items }
 
+-- the invariant of a station's curve
 pub record IsReady (s : Inside) : Type 0 where
   pub gentle : IsGentle (tide_in s)
   pub starts : (k : ℕ) (d : Year) → k < length s.years.items → (slice_index_or s.years.items k d).start ≡ start_of s.first_year k

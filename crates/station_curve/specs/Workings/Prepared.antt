@@ -1,4 +1,4 @@
--- The years of a book's station as a curve keeps them.
+-- The years of a station as its curve stores them.
 use Rattle.std.specs.Prelude.{◌≡◌, ℕ, suc, ◌<◌, ◌==◌, not, Bool, List, length, filter, None, ℤ, pos, unsigned_abs, slice_index_or}
 use Rattle.harmonics_text.specs.declared.book.Station.{Station}
 use Rattle.harmonics_text.specs.declared.book.Book.{Book}
@@ -8,15 +8,15 @@ use Rattle.station_curve.specs.Curves.{waves_over, first_fault}
 use Rattle.station_curve.specs.Schureman.{constituents_of}
 use Rattle.station_curve.specs.Sums.{sums_of}
 
--- a constituent that the station has an amplitude for
+-- the station has an amplitude for constituent k
 abbrev pub has_amplitude : Station → ℕ → Bool
 has_amplitude s k = not (unsigned_abs (slice_index_or s.amplitude k (pos 0)) == 0)
 
--- the places of these
+-- the indices of the constituents with an amplitude
 abbrev pub present_in : Book → Station → List ℕ
 present_in b s = filter (has_amplitude s) (constituents_of b)
 
--- the first years, that many, none of them beyond a limit, for minutes from one to another
+-- the first years, `count` of them, none beyond a limit, for the minutes from `first` to `last`
 pub record AreReady (b : Book) (s : Station) (first last : ℤ) (count : ℕ) (years : List Year) : Type 0 where
   pub counted : length years ≡ count
   pub waves : (k : ℕ) (d : Year) → k < count → (slice_index_or years k d).waves.items ≡ waves_over b s first last k

@@ -1,4 +1,4 @@
--- How far the records of a text have been read.
+-- The state of reading the records of a text.
 use Rattle.std.specs.Prelude.{◌≡◌, ℕ, ◌<◌, List, [], ◌∷◌, Option, Some, Result, Ok, Err}
 use Rattle.std.specs.Borrow.{Bor}
 use Rattle.csv.specs.Reading.{Ready, Reached, default_config, owned_rows_left, owned_rows_reader, reader_config, reader_state, reader_trim, source_of, strip_bom}
@@ -11,13 +11,15 @@ use Rattle.station_table.specs.declared.header.Header.{Header}
 use Rattle.station_table.specs.Reasons.{wants_memory}
 use Rattle.station_table.specs.Table.{header_of, table_of}
 
+-- the iterator over the records of borrowed bytes
 abbrev pub Records : Type 0
 Records = ByteRecordsIntoIter (Bor (List ℕ))
 
+-- the known bytes of a borrowed slice
 abbrev pub held : Bor (List ℕ) → Option (List ℕ)
 held bytes = Some bytes.now
 
--- these records of the text were given
+-- the reader has returned these records of the text
 pub record HasGiven (text : List ℕ) (rows : List (List (List ℕ))) (records : Records) : Type 0 where
   pub trim : reader_trim (owned_rows_reader records) ≡ trim.None
   pub ready : Ready (owned_rows_reader records)
@@ -27,13 +29,13 @@ pub record HasGiven (text : List ℕ) (rows : List (List (List ℕ))) (records :
   pub source : source_of held (owned_rows_reader records) ≡ Some rest
   pub reached : Reached default_config st.StartRecord (strip_bom text) rows (reader_state (owned_rows_reader records)) rest
 
--- the text's header was given, and nothing more
+-- the reader has returned the text's header only
 pub record HasHeader (text : List ℕ) (header : Header) (records : Records) : Type 0 where
   pub names : List (List ℕ)
   pub given : HasGiven text (names ∷ []) records
   pub first : header_of names ≡ Ok header
 
--- the text's header, or the fault of its table
+-- the result is the text's header, or the fault of its table
 abbrev pub GivesHeader : List ℕ → Records → Result Header OffsetFault → Type 0
 GivesHeader text records (Ok header) = HasHeader text header records
 GivesHeader text records (Err fault) = Excused (wants_memory fault) (table_of text) fault

@@ -1,13 +1,14 @@
--- A row of the code, which borrows its names, beside the offsets that it stands for.
+-- A row with borrowed names, and the station that it represents.
 use Rattle.std.specs.Prelude.{◌≡◌, Result, Ok, Err}
 use Rattle.station_table.specs.declared.fault.OffsetWhy.{OffsetWhy}
 use Rattle.station_table.specs.declared.offsets.Offsets.{Offsets}
 use Rattle.station_table.specs.declared.row.Row.{Row}
 
+-- the station that a row represents
 abbrev pub offsets_in : Row → Offsets
 offsets_in r = record { name = r.name.now; reference = r.reference.now; high = r.high; low = r.low; slack = r.slack }
 
--- what was read, seen by view, is what the rule gives
+-- a result, seen by `view`, is that of the rule
 abbrev pub Reads : {A B : Type 0} → (A → B) → Result B OffsetWhy → Result A OffsetWhy → Type 0
 Reads view rule (Ok value) = rule ≡ Ok (view value)
 Reads view rule (Err why) = rule ≡ Err why

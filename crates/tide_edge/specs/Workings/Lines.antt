@@ -1,18 +1,18 @@
--- The connections of a door in memory (this project).
+-- The bytes and replies of a door in memory (this project).
 use Rattle.std.specs.Prelude.{ℕ, List, [], ◌∷◌, take, drop}
 
--- the pieces left where so many bytes of the first were read
+-- the pieces without the first `at` bytes of the first piece
 abbrev pub pieces_from : ℕ → List (List ℕ) → List (List ℕ)
 pieces_from at [] = []
 pieces_from at (piece ∷ more) = drop at piece ∷ more
 
--- the bytes cut where the parts begin, of which each ends where the next begins
+-- the bytes cut into parts at these starts; each part ends where the next begins
 abbrev pub parts : List ℕ → List ℕ → List (List ℕ)
 parts [] bytes = []
 parts (start ∷ []) bytes = drop start bytes ∷ []
 parts (start ∷ next ∷ more) bytes = drop start (take next bytes) ∷ parts (next ∷ more) bytes
 
--- the replies, how many more bytes they may take, and how many more replies there may be
+-- the replies, the bytes that they may still grow by, and the number of replies still to come
 pub record HeldReplies : Type 0 where
   pub replies : List (List ℕ)
   pub room : ℕ

@@ -4,11 +4,11 @@ use Rattle.std.specs.List.{slice_get}
 use Rattle.std.specs.Option.{option_map_or}
 use Rattle.tide_edge.specs.declared.named_file.NamedFile.{NamedFile}
 
--- the bytes of the file at a place
+-- the bytes of the file with index `place`
 abbrev pub bytes_at : List NamedFile → ℕ → List ℕ
 bytes_at files place = option_map_or (λ file. file.bytes) (slice_get files place) []
 
--- what is left of the open file, from a byte on
+-- the unread bytes of the open file, from byte `at` on
 abbrev pub rest_of : List NamedFile → Option ℕ → ℕ → List ℕ
 rest_of files None at = []
 rest_of files (Some place) at = drop at (bytes_at files place)

@@ -1,4 +1,4 @@
--- Reading the open file on (this project).
+-- Reading the open file to its end (this project).
 use Rattle.std.specs.Prelude.{◌≡◌, ◌<◌, ◌≤◌, ◌+◌, ℕ, Bool, true, List, length, Option, Some, Result}
 use Rattle.decimal_text.specs.Expected.{Source, Meets}
 use Rattle.tide_edge.specs.Faults.{faults_after}
@@ -6,7 +6,8 @@ use Rattle.tide_edge.specs.FileStates.{FilesState, Opening, Openings, just_opene
 use Rattle.tide_edge.specs.Whole.{as_came}
 use Rattle.tide_edge.specs.declared.piece.TheConstants.{PIECE}
 
--- the open file was read on, by a piece past the limit at most, and its end was found once at most; no other was opened
+-- the open file was read on: at most one piece past the limit, its end found at most once, and no other
+-- file opened
 pub record IsReadOn (limit : ℕ) (failed : Bool) (before after : FilesState) : Type 0 where
   pub store : after.store ≡ before.store
   pub opens : after.reads.opens ≡ before.reads.opens
@@ -18,7 +19,7 @@ pub record IsReadOn (limit : ℕ) (failed : Bool) (before after : FilesState) : 
 abbrev pub IsFresh : Openings → Type 0
 IsFresh o = (name : List ℕ) × (o.latest ≡ Some (just_opened true name))
 
--- the latest opening was read on, and the answer is what is expected of it as it came
+-- the latest opening was read on, and the result is the expected one for the bytes read of it
 abbrev pub HasCome : {T E : Type 0} → (E → Source) → (Option (List ℕ) → Result T E) → ℕ → Openings → Openings → Result T E → Type 0
 HasCome source expected limit before after result =
     (name bytes : List ℕ) × (is_ended : Bool)
@@ -26,6 +27,6 @@ HasCome source expected limit before after result =
     × (after ≡ record before { latest = Some (record { name = name; is_open = true; bytes = bytes; is_ended = is_ended }) })
     × Meets source (Unit {0}) (expected (as_came limit (record { name = name; is_open = true; bytes = bytes; is_ended = is_ended }))) result
 
--- more than `limit` bytes came of the latest opening
+-- more than `limit` bytes were read after the latest opening
 abbrev pub IsPassed : ℕ → Openings → Type 0
 IsPassed limit o = (opening : Opening) × (o.latest ≡ Some opening) × (limit < length opening.bytes)

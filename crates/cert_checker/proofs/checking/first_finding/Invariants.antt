@@ -4,7 +4,7 @@ use Rattle.curve_law.specs.Cells.{all_minutes}
 use Rattle.curve_law.specs.Verdicts.{cells_verdict}
 use Rattle.cert_checker.proofs.checking.first_finding.Given as goal
 
--- nothing was wrong so far, and the cells that are left lie from here on
+-- no fault so far, and the cells left begin here
 abbrev pub invariant-loop-cell : goal.invariant-loop-cell
 invariant-loop-cell g l =
     let meaning = g.C.Curve.meaning l.fn.curve in

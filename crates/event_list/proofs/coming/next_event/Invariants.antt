@@ -2,7 +2,7 @@ use Rattle.std.proofs.Common.{◌≡◌, ◌+◌}
 use Rattle.event_list.specs.Workings.Coming.{events_ahead, cells_ahead, searched_by}
 use Rattle.event_list.proofs.coming.next_event.Given as goal
 
--- no event was ahead in the cells so far
+-- the cells so far have no event
 abbrev pub invariant-loop-found : goal.invariant-loop-found
 invariant-loop-found g l = record {
   events : events_ahead l.search ≡ events_ahead l.fn.search;

@@ -2,7 +2,7 @@ use Rattle.std.proofs.Common.{◌≡◌, ◌++◌, pos, ◌+ℤ◌, drop}
 use Rattle.curve_law.specs.Cells.{all_minutes, turns}
 use Rattle.event_list.proofs.turning.add_track_events.Given as goal
 
--- the events so far and those of the cells that are left are all events
+-- the events so far and those of the cells left are all events
 abbrev pub invariant-loop-cell : goal.invariant-loop-cell
 invariant-loop-cell l =
     let left = drop l.cell-index l.cell-items in

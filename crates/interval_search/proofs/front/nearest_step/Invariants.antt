@@ -2,7 +2,7 @@ use Rattle.std.proofs.Common.{◌≡◌, ◌+◌, ◌∷◌, length}
 use Rattle.interval_search.specs.Workings.Ahead.{minutes_to, cells_ahead, Stands}
 use Rattle.interval_search.proofs.front.nearest_step.Given as goal
 
--- the piece is halved, and nothing else changes
+-- the piece is halved, and the rest of the state is unchanged
 abbrev pub invariant-loop-cell : goal.invariant-loop-cell
 invariant-loop-cell g l =
     let meaning = g.C.Curve.meaning l.fn.curve in

@@ -4,7 +4,7 @@ use Rattle.curve_law.specs.Cover.{cover}
 use Rattle.interval_search.specs.Workings.Ahead.{cells_ahead, Stands}
 use Rattle.interval_search.proofs.span_cells.search.Given as goal
 
--- the cells so far and those that are left are all cells
+-- the cells so far and those left are all cells
 abbrev pub invariant-loop-found : goal.invariant-loop-found
 invariant-loop-found g l =
     let meaning = g.C.Curve.meaning l.fn.curve in

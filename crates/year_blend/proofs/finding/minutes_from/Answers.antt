@@ -5,7 +5,7 @@ use Rattle.year_blend.specs.Years.{year_start_of}
 use Rattle.year_blend.proofs.YearLemmas.{year_start_of_low, year_start_of_high}
 use Rattle.year_blend.proofs.finding.minutes_from.Goals as goal
 
--- what `year_start` gave
+-- the result of `year_start`
 start : (c : goal.After-year_start) → c.year_start.result ≡ year_start_of (c.args.first_year +ℤ pos c.args.year)
 start c =
     let year : to_z w32 (of_z w32 (to_z w32 (of_z w32 c.args.first_year) +ℤ to_z w32 c.args.year)) ≡ c.args.first_year +ℤ pos c.args.year =

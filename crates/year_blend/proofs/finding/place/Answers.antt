@@ -10,7 +10,7 @@ minutes_from-x-requires-clause-minute c =
     rw (to_z-of_z w64 c.args.m c.ranges.m)
     (domain_small c.args.first_year c.args.years c.args.m c.requires.years c.requires.domain)
 
--- a distance from a new year, freed of the casts
+-- a distance from a new year without casts
 plain_distance : (first_year m x : ℤ) (n : ℕ) → FitsSigned w32 first_year → FitsSigned w64 m → FitsSigned w64 x → x ≡ to_z w64 (of_z w64 m) -ℤ start_of (to_z w32 (of_z w32 first_year)) n → to_z w64 (of_z w64 x) ≡ m -ℤ start_of first_year n
 plain_distance first_year m x n first_fits fits x_fits distance =
     to_z-of_z w64 x x_fits

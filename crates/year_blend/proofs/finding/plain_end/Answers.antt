@@ -5,7 +5,7 @@ use Rattle.year_blend.specs.Places.{AreYears, start_of}
 use Rattle.year_blend.proofs.PlainLemmas.{plain_end_of-inner, plain_end_of-last, next_start_size}
 use Rattle.year_blend.proofs.finding.plain_end.Goals as goal
 
--- what `year_start` gave, freed of the casts
+-- the result of `year_start` without casts
 next_start : (first_year : ℤ) (years year : ℕ) (end : ℤ) → AreYears first_year years → year < years → end ≡ year_start_of (to_z w32 (of_z w32 (to_z w32 (of_z w32 first_year) +ℤ to_z w32 (year + 1)))) → end ≡ start_of first_year (suc year)
 next_start first_year years year end are one_of e =
     let least = are.least in

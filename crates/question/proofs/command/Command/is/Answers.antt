@@ -1,4 +1,4 @@
--- `==` is true just where the commands are the same, and so are their words then.
+-- `==` is true exactly if the commands are the same, and then their names are the same too.
 use Rattle.std.proofs.Common.{◌≡◌, ap, sym, ◌∙◌, Decides}
 use Rattle.std.proofs.lemmas.Bool.Decides.{same_from_decides, Decides-like}
 use Rattle.std.proofs.lemmas.Slice.Eq.{bytes_eq-Decides}

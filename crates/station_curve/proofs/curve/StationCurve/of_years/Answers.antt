@@ -17,7 +17,7 @@ use Rattle.station_curve.proofs.curve.StationCurve.of_years.Goals as goal
 first_cast : (b : Book) → IsBook b → to_z w32 (of_z w32 b.first_year) ≡ b.first_year
 first_cast b sound = cast_small w32 b.first_year 8800 (abs_within b.first_year 2 8800 sound.first_year.least sound.first_year.most) (lit< tt)
 
--- what is kept is the tide
+-- the stored years are those of the tide
 kept : (b : Book) (s : Station) (first last : ℤ) (years : List Year) → IsBook b → IsStation (length b.constituents) s → AreReady b s first last b.years years
     → record { first_year = to_z w32 (of_z w32 b.first_year); datum = to_z w64 (of_z w64 s.datum); years = map (λ y. y.waves.items) years } ≡ tide_over b s first last
 kept b s first last years sound station ready =
