@@ -1,4 +1,4 @@
--- What `check` prints after `Accepted`, beside what `predict` prints (this project).
+-- The output of `check` after `Accepted`, and the output of `predict` (this project).
 use Rattle.std.specs.Prelude.{◌≡◌, ℕ, ℤ, List, ◌∷◌, codes, Result, Ok}
 use Rattle.named_files.specs.declared.no_answer.NoAnswer.{NoAnswer}
 use Rattle.named_files.specs.Readings.{zone_named}
@@ -29,7 +29,8 @@ CheckShowsPredict = (sheets : List SheetMeaning) (before after : Folder) (minute
     Asks sheets others Predict predict → AsksListing check (subject_of certify) predict →
     PrintsAccepted (answer_of sheets after last others) (answer_of sheets after later more)
 
--- `predict` asks with the arguments of a `certify` for its station, span, mark and files, in universal time and in plain lines
+-- the arguments of a `certify` are a request to `predict` for its station, span, mark and files, in
+-- universal time and as text
 abbrev pub TakesItsArguments : Type 0
 TakesItsArguments = (sheets : List SheetMeaning) (arguments : List (List ℕ)) (certify : Question) →
     asked_of sheets (codes "certify" ∷ arguments) ≡ Ok certify →

@@ -1,4 +1,4 @@
--- The events on the sheets of a report, beside those that `predict` lists (this project).
+-- The events on the sheets of a report, and those that `predict` lists (this project).
 use Rattle.std.specs.Prelude.{◌≡◌, ◌<◌, ◌≤◌, ℕ, ℤ, List, ◌++◌, All, length, map, filter, Ok}
 use Rattle.std.specs.List.{flat_map, Contains}
 use Rattle.curve_law.specs.declared.event.Event.{Event}
