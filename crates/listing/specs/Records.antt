@@ -1,4 +1,5 @@
--- The listings of a station's events and levels as comma-separated values (RFC 4180's records, with LF, as `csv` writes them).
+-- The listings of a station's events and levels as comma-separated values (RFC 4180's records, with LF, as
+-- `csv` writes them).
 use Rattle.std.specs.Prelude.{ℕ, ℤ, List, [], ◌∷◌, ◌++◌, codes}
 use Rattle.std.specs.List.{flat_map}
 use Rattle.csv.specs.Writing.{default_writer, row_text}
