@@ -52,8 +52,8 @@ pub record RunThrough (dates days : List ℤ) : Type 0 where
 abbrev pub DatesAscend : Zone → List Event → Type 0
 DatesAscend zone events = AllPairs (λ event later. day_in zone event.minute ≤ℤ day_in zone later.minute) events
 
--- a calendar that has each event once, on the line of its local date: `dated` has the events of each line, in their order, and
--- `once` says that all lines together have exactly the events
+-- a calendar that has each event once, on the line of its local date: `dated` has the events of each line,
+-- in their order, and `once` says that all lines together have exactly the events
 pub record IsCalendar (name : List ℕ) (units : Units) (zone : Zone) (events : List Event) (begin end : ℤ) (text : List ℕ) : Type 0 where
   pub pages : List Page
   pub text_is : text ≡ listing_of name (map (line_of zone units) pages)

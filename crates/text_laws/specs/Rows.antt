@@ -1,4 +1,5 @@
--- Comma-separated values and the lines of the same events and levels (RFC 4180's records, as `csv` reads them; this project).
+-- Comma-separated values and the lines of the same events and levels (RFC 4180's records, as `csv` reads
+-- them; this project).
 use Rattle.std.specs.Prelude.{◌≡◌, ℕ, ℤ, List, ◌∷◌, ◌++◌, All, codes}
 use Rattle.std.specs.List.{AllZip}
 use Rattle.csv.specs.Reading.{records, default_config, strip_bom}
