@@ -1,4 +1,5 @@
--- The text of a certificate of a highest water: lines of words and whole numbers, each ended by LF (this project).
+-- The text of a certificate of a highest water: lines of words and whole numbers, each ended by LF (this
+-- project).
 use Rattle.std.specs.Prelude.{ℕ, ◌<◌, ◌≤◌, ◌^◌, ℤ, unsigned_abs, List, [], ◌∷◌, ◌++◌, map, All, codes, decimal}
 use Rattle.std.specs.Fmt.{signed_decimal}
 use Rattle.zone_time.specs.Moments.{IsMoment, moment_text}
