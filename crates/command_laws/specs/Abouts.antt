@@ -1,4 +1,5 @@
--- The level in the minutes after the turns that `predict` lists, and the bound that `about` prints (this project).
+-- The level in the minutes after the turns that `predict` lists, and the bound that `about` prints (this
+-- project).
 use Rattle.std.specs.Prelude.{◌≡◌, ℕ, ◌*◌, ◌^◌, ℤ, pos, neg_ℤ, ◌+ℤ◌, ◌-ℤ◌, ◌*ℤ◌, ◌≤ℤ◌, List, All, IsSomeAnd, Some, Ok}
 use Rattle.curve_law.specs.declared.event.Event.{Event}
 use Rattle.curve_law.specs.declared.kind.Kind.{Kind}
@@ -27,7 +28,8 @@ use Rattle.tide_edge.specs.FileStates.{Folder}
 use Rattle.year_blend.specs.Weights.{total_weight}
 use Rattle.zone_time.specs.declared.zone.Zone.{Zone}
 
--- the number of a bound that is the unit of the station's levels, 142,570,234,078,617,600,000,000,000,000,000,000
+-- the number of a bound that is the unit of the station's levels,
+-- 142,570,234,078,617,600,000,000,000,000,000,000
 abbrev pub unit_of_bound : ℕ
 unit_of_bound = radian * (total_weight * 10 ^ 15)
 

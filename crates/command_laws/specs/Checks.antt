@@ -18,8 +18,9 @@ use Rattle.zone_time.specs.declared.zone.Zone.{Zone}
 abbrev pub PrintsAccepted : Result Answer NoAnswer → Result Answer NoAnswer → Type 0
 PrintsAccepted predicted checked = (listing : Answer) × (predicted ≡ Ok listing) × (checked ≡ Ok (text_accepted listing.text))
 
--- For the text that `certify` returned `check` prints `Accepted`, and then what `predict` prints for the station, the span and the mark
--- of the certificate, over the files of the check and in its zone. The certificate may be checked in another folder.
+-- For the text that `certify` returned `check` prints `Accepted`, and then what `predict` prints for the
+-- station, the span and the mark of the certificate, over the files of the check and in its zone. The
+-- certificate may be checked in another folder.
 abbrev pub CheckShowsPredict : Type 0
 CheckShowsPredict = (sheets : List SheetMeaning) (before after : Folder) (minute later last : ℤ) (words more others : List (List ℕ))
     (certify check predict : Question) (certificate : Answer) (zone : Zone) →
@@ -36,8 +37,8 @@ TakesItsArguments = (sheets : List SheetMeaning) (arguments : List (List ℕ)) (
     asked_of sheets (codes "certify" ∷ arguments) ≡ Ok certify →
     asked_of sheets (codes "predict" ∷ arguments) ≡ Ok (record certify { command = Predict; zone = Utc; layout = Plain })
 
--- For the text that `certify` returned `check` prints `Accepted`, and then what `predict` prints with the same arguments, if the check
--- names the same files and no other zone.
+-- For the text that `certify` returned `check` prints `Accepted`, and then what `predict` prints with the
+-- same arguments, if the check names the same files and no other zone.
 abbrev pub CheckShowsSameArguments : Type 0
 CheckShowsSameArguments = (sheets : List SheetMeaning) (before after : Folder) (minute later last : ℤ) (arguments more : List (List ℕ))
     (certify check : Question) (certificate : Answer) →

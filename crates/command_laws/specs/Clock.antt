@@ -54,7 +54,8 @@ turns_in events = filter (λ event. is_turn event.kind) events
 abbrev pub next_turn : Bool → Kind
 next_turn rising = if rising then High else Low
 
--- the answer of `clock`: `line` is the line that `heights` has of the level, and `lines` are those that `predict` has of the events
+-- the answer of `clock`: `line` is the line that `heights` has of the level, and `lines` are those that
+-- `predict` has of the events
 pub record IsClock (book : Book) (table : List Offsets) (clock : Question) (given : Given) (answer : Answer) : Type 0 where
   pub name : List ℕ
   pub line : List ℕ

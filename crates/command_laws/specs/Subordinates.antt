@@ -1,4 +1,5 @@
--- The events of a subordinate station in two steps: those of its reference, and then its offsets (this project).
+-- The events of a subordinate station in two steps: those of its reference, and then its offsets (this
+-- project).
 use Rattle.std.specs.Prelude.{◌≡◌, ℕ, ℤ, pos, ◌-ℤ◌, ◌*ℤ◌, ◌≤ℤ◌, Bool, false, not, ◌&&◌, ◌||◌, is_none, List, filter, slice_get, Option, Some, None, Ok}
 use Rattle.std.specs.Ordering.{int_eq}
 use Rattle.curve_law.specs.declared.event.Event.{Event}
