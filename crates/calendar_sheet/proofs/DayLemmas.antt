@@ -1,4 +1,4 @@
--- Days one after the other, and stretches of them.
+-- Consecutive days, and ranges of them.
 use Rattle.std.proofs.Common.{◌≡◌, ◌≢◌, int_lt, ℕ, zero, suc, ◌+◌, ◌<◌, ℤ, pos, ◌+ℤ◌, ◌-ℤ◌, ◌≤ℤ◌, unsigned_abs, true, List, [], ◌∷◌, ◌++◌, length, get_or, All, refl, sym, ap, ◌∙◌, arith}
 use Rattle.std.specs.Int.{int_min, int_max}
 use Rattle.std.specs.List.{fold}
@@ -10,7 +10,7 @@ use Rattle.zone_time.specs.Dates.{IsDay}
 use Rattle.calendar_sheet.specs.Calendars.{day_in, days_from, days_through, event_days}
 use Rattle.calendar_sheet.specs.Workings.Dates.{AreDays, IsAmong}
 
--- one day more
+-- days with one more day
 pub days_from-more : (day : ℤ) (n : ℕ) → days_from day (n + 1) ≡ days_from day n ++ (day +ℤ pos n) ∷ []
 unfolding days_from
 days_from-more day zero =
@@ -33,7 +33,7 @@ get_or-days_from day (suc n) (suc place) d within =
     let later : (day +ℤ pos 1) +ℤ pos place ≡ day +ℤ pos (suc place) = omega (arith, ints) in
     get_or-days_from (day +ℤ pos 1) n place d (omega arith) ∙ later
 
--- a stretch with one day more
+-- a range with one more day
 pub wider : (first last day : ℤ) → AreDays first last → IsDay day → AreDays (int_min first day) (int_max last day)
 wider first last day days is = record {
   first_day = record { first = omega (arith, ints, clamps); last = omega (arith, ints, clamps) };
@@ -41,7 +41,7 @@ wider first last day days is = record {
   forward = omega (arith, ints, clamps);
 }
 
--- each day of a stretch has a date
+-- each day of a range has a date
 pub dated_days : (first last : ℤ) → AreDays first last → All IsDay (days_through first last)
 dated_days first last days = λ k d within.
     let count : ℕ = unsigned_abs (last -ℤ first) + 1 in
@@ -49,7 +49,7 @@ dated_days first last days = λ k d within.
     rw (get_or-days_from first count k d below)
     (record { first = omega (arith, ints, days.first_day.first); last = omega (arith, ints, below, days.last_day.last, days.forward) })
 
--- the local dates of events lie between the least and the greatest of them
+-- the local dates of events are between the least and the greatest of them
 pub among_days : (zone : Zone) (events : List Event) (a b first last : ℤ)
     → first ≡ fold int_min a (event_days zone events) → last ≡ fold int_max b (event_days zone events)
     → All (IsAmong zone first last) events
@@ -62,6 +62,6 @@ among_days zone events a b first last least greatest = λ k d within.
       most = rw at at ((fold-int_max_bounds b (event_days zone events) last greatest).1 k (day d) many);
     }
 
--- a test of order between two that differ
+-- the order of two numbers that differ
 pub before_test : (a b : ℤ) → a ≤ℤ b → a ≢ b → int_lt a b ≡ true
 before_test a b least differ = grind (arith, ints, least, differ)

@@ -21,7 +21,7 @@ page day events = record { day = day; events = events }
 cons_equal : {X : Type 0} {x y : X} {xs ys : List X} → x ≡ y → xs ≡ ys → x ∷ xs ≡ y ∷ ys
 cons_equal head tail = cc (head, tail)
 
--- an event more, on its own date and on another
+-- one more event, on its own date and on another
 page_of-here : (zone : Zone) (events : List Event) (event : Event) (day : ℤ) → day_in zone event.minute ≡ day
     → page_of zone (events ++ event ∷ []) day ≡ page day (events_on zone events day ++ event ∷ [])
 page_of-here zone events event day here =
@@ -46,7 +46,7 @@ pages-later zone events event first (suc n) before =
     let tail = pages-later zone events event (first +ℤ pos 1) n (omega (arith, ints)) in
     cons_equal head tail
 
--- an event more changes the page of its date alone
+-- one more event changes the page of its date alone
 pages-push : (zone : Zone) (events : List Event) (event : Event) (first : ℤ) (n place : ℕ) → place < n
     → day_in zone event.minute ≡ first +ℤ pos place
     → map (page_of zone (events ++ event ∷ [])) (days_from first n)
@@ -64,7 +64,7 @@ pages-push zone events event first (suc n) (suc place) within at =
     let tail = pages-push zone events event (first +ℤ pos 1) n place (omega arith) (at ∙ sym later) in
     cons_equal head (rw later at tail)
 
--- what stands in the place of a day
+-- the page at the index of a day
 page_at : (zone : Zone) (events : List Event) (first : ℤ) (n place : ℕ) (found : Page) → place < n
     → get_or (map (page_of zone events) (days_from first n)) place found ≡ found → found ≡ page_of zone events (first +ℤ pos place)
 page_at zone events first n place found within at =
@@ -74,7 +74,7 @@ page_at zone events first n place found within at =
 pub length-pages_of : (zone : Zone) (events : List Event) (first last : ℤ) → length (pages_of zone events first last) ≡ unsigned_abs (last -ℤ first) + 1
 length-pages_of zone events first last = rw length-map (length-days_from first (unsigned_abs (last -ℤ first) + 1))
 
--- an event more is put on the page of its date
+-- one more event is put on the page of its date
 pub pages_of-push : (zone : Zone) (events : List Event) (event : Event) (first last : ℤ) (place : ℕ) (pages : List Page) (found pushed : Page)
     → pages ≡ pages_of zone events first last
     → pos place ≡ day_in zone event.minute -ℤ first
@@ -94,7 +94,7 @@ pub dated_pages : (zone : Zone) (events : List Event) (first last : ℤ) → Are
 dated_pages zone events first last days =
     All-map (λ (page : Page). IsDay page.day) (page_of zone events) (days_through first last) (dated_days first last days)
 
--- and only events that can be listed
+-- each page has only events that can be listed
 pub listed_pages : (zone : Zone) (events : List Event) (units : Units) (days : List ℤ) → All (IsListed units) events
     → All (λ (page : Page). All (IsListed units) page.events) (map (page_of zone events) days)
 listed_pages zone events units days listed =

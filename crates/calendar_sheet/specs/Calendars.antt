@@ -1,4 +1,5 @@
--- The calendar of a station's events, with a line for each local date (the layout of XTide's calendars; this project).
+-- The calendar of a station's events, with a line for each local date (the layout of XTide's calendars;
+-- this project).
 use Rattle.std.specs.Prelude.{ℕ, zero, suc, ◌+◌, ℤ, pos, ◌+ℤ◌, ◌-ℤ◌, int_lt, unsigned_abs, if◌then◌else◌, List, [], ◌∷◌, ◌++◌, codes, map, filter, fold}
 use Rattle.std.specs.Int.{int_min, int_max}
 use Rattle.std.specs.List.{flat_map}
@@ -12,11 +13,11 @@ use Rattle.zone_time.specs.Dates.{clock_text, date_text}
 use Rattle.zone_time.specs.Moments.{day_of, minute_of_day}
 use Rattle.zone_time.specs.Zones.{local_in}
 
--- the local date of a minute, by its day number
+-- the local date of a minute, as its day number
 abbrev pub day_in : Zone → ℤ → ℤ
 day_in zone minute = day_of (local_in zone minute).minute
 
--- the time of day, the level and the name of an event
+-- the local time, the level and the name of an event
 abbrev pub entry_in : Zone → Units → Event → List ℕ
 entry_in zone units event =
     codes "  " ++ clock_text (minute_of_day (local_in zone event.minute).minute) ++ codes " " ++ level_text event.level
@@ -26,7 +27,7 @@ entry_in zone units event =
 abbrev pub events_on : Zone → List Event → ℤ → List Event
 events_on zone events day = filter (λ event. int_eq (day_in zone event.minute) day) events
 
--- a date and its events
+-- the line of a date with its events
 abbrev pub day_line : Zone → Units → List Event → ℤ → List ℕ
 day_line zone units events day = date_text day ++ flat_map (entry_in zone units) (events_on zone events day) ++ codes "\n"
 
@@ -34,14 +35,15 @@ day_line zone units events day = date_text day ++ flat_map (entry_in zone units)
 abbrev pub event_days : Zone → List Event → List ℤ
 event_days zone events = map (λ event. day_in zone event.minute) events
 
--- the least and the greatest local date of the span's first and last minute and of the events
+-- the least local date of the span's first and last minute and of the events
 abbrev pub first_day : Zone → List Event → ℤ → ℤ → ℤ
 first_day zone events begin end = fold int_min (day_in zone begin) (day_in zone (end -ℤ pos 1) ∷ event_days zone events)
 
+-- the greatest local date of the span's first and last minute and of the events
 abbrev pub last_day : Zone → List Event → ℤ → ℤ → ℤ
 last_day zone events begin end = fold int_max (day_in zone begin) (day_in zone (end -ℤ pos 1) ∷ event_days zone events)
 
--- that many days, from the first one on
+-- the days from the first one on, as many as the number
 unfoldable pub days_from : ℤ → ℕ → List ℤ
 days_from day zero = []
 days_from day (suc n) = day ∷ days_from (day +ℤ pos 1) n
@@ -50,7 +52,7 @@ days_from day (suc n) = day ∷ days_from (day +ℤ pos 1) n
 abbrev pub days_through : ℤ → ℤ → List ℤ
 days_through first last = days_from first (unsigned_abs (last -ℤ first) + 1)
 
--- the dates that have a line: none where the span is empty
+-- the dates that have a line: none if the span is empty
 abbrev pub days_shown : Zone → List Event → ℤ → ℤ → List ℤ
 days_shown zone events begin end =
     if int_lt begin end then days_through (first_day zone events begin end) (last_day zone events begin end) else []

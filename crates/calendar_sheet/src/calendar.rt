@@ -1,4 +1,4 @@
-//! The calendar.
+//! The text of a calendar.
 
 ghost use Rattle.std.specs.Prelude.{◌≡◌, ◌++◌, ◌≤ℤ◌, All, IfOk, OnOk};
 ghost use Rattle.std.specs.List.{flat_map};
@@ -18,13 +18,18 @@ use harmonics_text::Units;
 use std::alloc::{AllocError, Global};
 use zone_time::{MINUTES_OF_DAY, Zone, ZoneClock, write_clock, write_date};
 
-/// The station's name, and a line such as
-/// `2000-01-10  06:00 -1.00 Low Tide  11:59 1.00 High Tide` for each date in the zone's local time,
-/// from the least to the greatest date of `begin`, `end - 1` and the events. An empty span has no
-/// date.
+/// Returns the station's `name`, and a line such as `2000-01-10  06:00 -1.00 Low Tide  11:59 1.00
+/// High Tide` for each date in the zone's local time, from the least to the greatest date of
+/// `begin`, `end - 1` and the events. An empty span has no date.
 ///
-/// `begin` isn't after `end`. Each event has a [`word`] in that unit, and each minute is of the years
-/// from 2 to 9300 or of the day before them.
+/// `begin` isn't after `end`. Each event has a [`word`] in `units`. Each minute is since
+/// 1970-01-01T00:00Z, in the years 2 to 9300 or on the day before them.
+///
+/// # Examples
+/// ```
+/// let zone = Zone::Utc;
+/// let text = calendar_text(alloc, &name, Units::Feet, &events, &zone, 15791040, 15792480)?;
+/// ```
 pub fn calendar_text(
     alloc: Global,
     name: &Text,
@@ -49,6 +54,7 @@ pub fn calendar_text(
     Ok(Bytes::from_vec(text))
 }
 
+/// Appends a line for each date.
 fn push_pages(
     text: &mut Vec<u8>,
     units: Units,
@@ -65,6 +71,7 @@ fn push_pages(
     Ok(())
 }
 
+/// Appends the line of one date.
 fn push_page(
     text: &mut Vec<u8>,
     units: Units,
@@ -83,6 +90,7 @@ fn push_page(
     Ok(())
 }
 
+/// Appends the date of the day number `day`, such as `2000-01-10`.
 fn push_date(text: &mut Vec<u8>, day: i64) -> Result<(), AllocError>
     requires { IsDay day }
     ensures { OnOk result (text.new.items ≡ text.old.items ++ date_text day) }
@@ -92,6 +100,7 @@ fn push_date(text: &mut Vec<u8>, day: i64) -> Result<(), AllocError>
     text.extend_from_slice(date.as_str().as_bytes())
 }
 
+/// Appends the local time, the level and the name of `event`.
 fn push_entry(
     text: &mut Vec<u8>,
     units: Units,

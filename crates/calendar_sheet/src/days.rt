@@ -1,4 +1,4 @@
-//! The dates that a calendar has.
+//! The dates of a calendar.
 
 ghost use Rattle.std.specs.Prelude.{◌≡◌, ◌+◌, ◌≤◌, pos, unsigned_abs, ◌+ℤ◌, ◌-ℤ◌, ◌≤ℤ◌, ◌<ℤ◌, All, fold};
 ghost use Rattle.std.specs.Int.{int_min, int_max};
@@ -10,7 +10,7 @@ ghost use Rattle.zone_time.specs.Zones.{InZoneYears};
 use curve_law::Event;
 use zone_time::{MINUTES_OF_DAY, ZoneClock};
 
-/// A stretch of days, by their numbers, where 1970-01-01 is 0. Both ends are included.
+/// A range of days by their numbers, in which 1970-01-01 is 0. Both ends are included.
 #[derive(Clone, Copy)]
 pub struct Days {
     pub first: i64,
@@ -18,7 +18,7 @@ pub struct Days {
 }
 
 impl Days {
-    /// The shortest stretch that has the day too.
+    /// Returns the shortest range that contains this one and `day`.
     fn with_day(self, day: i64) -> Days
         requires days { AreDays self.first self.last }
         requires day { IsDay day }
@@ -31,7 +31,7 @@ impl Days {
         }
     }
 
-    /// The shortest stretch that has the local date of the event too.
+    /// Returns the shortest range that contains this one and the local date of `event`.
     fn with_event(self, event: &Event, zone: &ZoneClock<'_>) -> Days
         requires days { AreDays self.first self.last }
         requires year { InZoneYears event.now.minute }
@@ -41,7 +41,7 @@ impl Days {
         self.with_day(local_day(zone, event.minute))
     }
 
-    /// The shortest stretch that has the local dates of the events too.
+    /// Returns the shortest range that contains this one and the local dates of `events`.
     fn with_events(self, events: &[Event], zone: &ZoneClock<'_>) -> Days
         requires days { AreDays self.first self.last }
         requires years { All (λ event. InZoneYears event.minute) events.now }
@@ -55,7 +55,7 @@ impl Days {
         days
     }
 
-    /// How many days there are.
+    /// Returns the number of days, at most 3,652,425.
     pub fn count(self) -> usize
         requires { AreDays self.first self.last }
         ensures value { result ≡ unsigned_abs (self.last -ℤ self.first) + 1 }
@@ -64,7 +64,7 @@ impl Days {
         self.place_of(self.last) + 1
     }
 
-    /// The day that comes so many days after the first one.
+    /// Returns the day at index `place`: the day `place` days after the first.
     pub fn day_at(self, place: usize) -> i64
         requires days { AreDays self.first self.last }
         requires place { pos place ≤ℤ (self.last -ℤ self.first) }
@@ -73,7 +73,7 @@ impl Days {
         self.first + place as i64
     }
 
-    /// How many days after the first one a day of the stretch comes.
+    /// Returns the index of `day`, which is in the range: the number of days from the first to it.
     pub fn place_of(self, day: i64) -> usize
         requires days { AreDays self.first self.last }
         requires least { self.first ≤ℤ day }
@@ -85,7 +85,7 @@ impl Days {
     }
 }
 
-/// The local date of a minute.
+/// Returns the day number of the local date of `minute`.
 pub fn local_day(zone: &ZoneClock<'_>, minute: i64) -> i64
     requires minute { InZoneYears minute }
     ensures exact { result ≡ day_in zone.now minute }
@@ -94,7 +94,8 @@ pub fn local_day(zone: &ZoneClock<'_>, minute: i64) -> i64
     zone.local(minute).minute.div_euclid(MINUTES_OF_DAY)
 }
 
-/// The days from the least to the greatest local date of a span, which has a minute, and of events.
+/// Returns the days from the least to the greatest local date of `events` and of the minutes from
+/// `begin` up to `end`, which isn't one of them. There is at least one.
 pub fn days_of(events: &[Event], zone: &ZoneClock<'_>, begin: i64, end: i64) -> Days
     requires begin { InZoneYears begin }
     requires end { InZoneYears end }
@@ -107,7 +108,7 @@ pub fn days_of(events: &[Event], zone: &ZoneClock<'_>, begin: i64, end: i64) -> 
     days_between(zone, begin, end - 1).with_events(events, zone)
 }
 
-/// The days from the local date of one minute to that of another, whichever comes first.
+/// Returns the days between the local dates of `minute` and of `other`, in either order.
 fn days_between(zone: &ZoneClock<'_>, minute: i64, other: i64) -> Days
     requires minute { InZoneYears minute }
     requires other { InZoneYears other }

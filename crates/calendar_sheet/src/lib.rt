@@ -1,8 +1,8 @@
 //! The calendar of a station's events, with a line for each local date.
 //!
-//! [`calendar_text`] puts the events of a span below the station's name, each on the line of its date
-//! in the zone's local time. A date without an event has a line too. `specs/Calendars.antt` has the
-//! layout.
+//! [`calendar_text`] lists the events of a span below the station's name, each on the line of its
+//! date in the zone's local time. A date without an event has a line too. `specs/Calendars.antt`
+//! has the layout.
 #![tactic(auto)]
 
 mod calendar;

@@ -4,7 +4,7 @@ use curve_law::Event;
 use std::alloc::{AllocError, Global};
 use std::marker::Model;
 
-/// A date, by its day number, where 1970-01-01 is 0, and the events on it in their order.
+/// A date, by its day number, in which 1970-01-01 is 0, with the events on it in their order.
 #[derive(Drop)]
 pub struct Page {
     day: i64,
@@ -22,7 +22,7 @@ impl Model for Page {
 impl Page {
     ghost use Rattle.std.specs.Prelude.{◌≡◌, [], ◌∷◌, ◌++◌, OnOk};
 
-    /// The date without an event. It takes no memory.
+    /// Returns the date `day` without an event. Doesn't allocate.
     pub fn new(alloc: Global, day: i64) -> Page
         ensures { result ≡ record { day = day; events = [] } }
     {
@@ -32,7 +32,7 @@ impl Page {
         }
     }
 
-    /// Adds an event at the end.
+    /// Appends `event`.
     pub fn push(&mut self, event: Event) -> Result<(), AllocError>
         ensures { OnOk result (self.new ≡ record self.old { events = self.old.events ++ event ∷ [] }) }
     {
@@ -40,14 +40,14 @@ impl Page {
         Ok(())
     }
 
-    /// Its day number.
+    /// Returns the day number.
     pub fn day(&self) -> i64
         ensures { result ≡ self.now.day }
     {
         self.day
     }
 
-    /// The events, lent.
+    /// Returns the events as a slice.
     pub fn events(&self) -> &[Event]
         ensures { result.now ≡ self.now.events }
     {

@@ -12,8 +12,9 @@ use curve_law::Event;
 use std::alloc::{AllocError, Global};
 use zone_time::ZoneClock;
 
-/// A page for each date from the least to the greatest one of a span and of events, with the events
-/// on it. An empty span has no page. Each event is gone over twice.
+/// Returns the dates from the least to the greatest one of a span and of `events`, each with the
+/// events on it. The span is the minutes from `begin` up to `end`, which isn't one of them; an
+/// empty span has no date. Each event is visited twice.
 pub fn pages_shown(
     alloc: Global,
     events: &[Event],
@@ -35,7 +36,7 @@ pub fn pages_shown(
     pages_of(alloc, events, zone, days)
 }
 
-/// A page for each day, with the events on it.
+/// Returns the dates of `days`, each with the events on it.
 fn pages_of(
     alloc: Global,
     events: &[Event],
@@ -56,6 +57,7 @@ fn pages_of(
     Ok(pages)
 }
 
+/// Returns the dates of `days` without events.
 fn empty_pages(alloc: Global, days: Days) -> Result<Vec<Page>, AllocError>
     requires days { AreDays days.first days.last }
     ensures { IfOk result (λ pages. pages.items ≡ map empty_page (days_through days.first days.last)) }
@@ -67,7 +69,7 @@ fn empty_pages(alloc: Global, days: Days) -> Result<Vec<Page>, AllocError>
     Ok(pages)
 }
 
-/// How many days after the first one an event's date comes.
+/// Returns the index in `days` of the date of `event`.
 fn place_of(event: &Event, zone: &ZoneClock<'_>, days: Days) -> usize
     requires days { AreDays days.first days.last }
     requires year { InZoneYears event.now.minute }

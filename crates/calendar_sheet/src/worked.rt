@@ -1,4 +1,4 @@
-//! Calendars that were worked out by hand.
+//! Calendars worked out by hand.
 
 ghost use Rattle.std.specs.Prelude.{◌≡◌, [], ◌∷◌, pos, negsuc, codes};
 ghost use Rattle.calendar_sheet.specs.Calendars.{calendar_text_of};
@@ -6,8 +6,9 @@ ghost use Rattle.harmonics_text.specs.declared.book.Units.{Units};
 ghost use Rattle.event_text.specs.Worked.{high_tide, low_tide};
 ghost use Rattle.zone_time.specs.declared.zone.Zone.{Zone};
 
-/// A day with two events in universal time, by a clock that is behind it, where the span begins on
-/// the date before, and by one that is ahead; a span without an event, and one without a minute.
+/// Calendars of two events: in universal time; by a clock behind it, for which the span begins on
+/// the date before; and by a clock ahead of it. And those of a span without an event and of one
+/// without a minute.
 pub fn worked_calendars()
     ensures universal { calendar_text_of (codes "Pier") Units.Feet (low_tide ∷ high_tide ∷ []) Zone.Utc (pos 15791040) (pos 15792480)
         ≡ codes "Pier\n2000-01-10  06:00 -1.00 Low Tide  11:59 1.00 High Tide\n" }

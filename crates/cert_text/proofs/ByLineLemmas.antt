@@ -1,4 +1,4 @@
--- Reading line by line goes by the grammar, where the draft does.
+-- Reading line by line follows the grammar, if the parser's states do.
 use Rattle.std.proofs.Common.{◌≡◌, ℕ, ◌+◌, ◌<◌, ◌≤◌, cond, eqb, true, false, List, [], ◌∷◌, ◌++◌, length, take, drop, Option, Some, None, Result, Ok, Err, ◌⊎◌, inl, inr, refl, sym, ap, ◌∙◌, subst, add-zero, append-nil, append_assoc, take-append-drop, length-append, arith}
 use Rattle.std.specs.Prelude.{option_and_then}
 use Rattle.std.specs.Option.{ok_or}
@@ -37,15 +37,15 @@ front_runs : {D : Type 0} (after : D → List ℕ → Option D) (xs ys : List (L
 front_runs after xs ys d e k =
     option_and_then_some (λ x. run after x ys) (run after d xs) e (sym (run-append after xs ys d) ∙ k) (λ x found rest. (x, found))
 
--- ---- drafts that know which lines they were read from
+-- ---- states that know the lines that led to them
 
--- what lines leave of a draft was read from them too
+-- the state after some lines, and these lines led to it
 pub record Reached {P D : Type 0} (Knows : P → D → Type 0) (said : P → D → List (List ℕ)) (p : P) (d e : D) (lines : List (List ℕ)) : Type 0 where
   pub place : P
   pub knows : Knows place e
   pub says : said place e ≡ said p d ++ lines
 
--- many lines, where one is so
+-- the state after many lines, if this holds of one
 pub reached : {P D : Type 0} (Knows : P → D → Type 0) (said : P → D → List (List ℕ)) (after : D → List ℕ → Option D)
     → ((p : P) (d e : D) (line : List ℕ) → Knows p d → after d line ≡ Some e → Reached Knows said p d e (line ∷ []))
     → (lines : List (List ℕ)) (p : P) (d e : D) → Knows p d → run after d lines ≡ Some e → Reached Knows said p d e lines
@@ -76,7 +76,7 @@ module _ {C D : Type 0} (after : D → List ℕ → Option D) (whole : D → Opt
   stops : (d : D) (n : ℕ) (line : List ℕ) (more : List (List ℕ)) → 0 < length more → after d line ≡ None → read_from after whole d n (line ∷ more) ≡ refused n
   stops d n line more h is = read_line d n line more h ∙ rw is refl
 
-  -- as a loop over the lines goes
+  -- the step of a loop over the lines
   pub goes_on : (d e : D) (n : ℕ) (line rest next : List ℕ) (total : Result C CertFault) → pieces rest ≡ line ∷ pieces next → after d line ≡ Some e → read_from after whole d n (pieces rest) ≡ total → read_from after whole e (n + 1) (pieces next) ≡ total
   goes_on d e n line rest next total cut_is is so_far =
       sym (takes d e n line (pieces next) (some_piece next) is) ∙ sym (ap (read_from after whole d n) cut_is) ∙ so_far
@@ -89,7 +89,7 @@ module _ {C D : Type 0} (after : D → List ℕ → Option D) (whole : D → Opt
   unfolding read_from
   ends d n rest total cut_is so_far = sym so_far ∙ ap (read_from after whole d n) cut_is
 
-  -- a refused line is the fault's, unless memory ran out
+  -- the fault of a refused line, unless memory ran out
   pub gives_fault : (d : D) (n : ℕ) (line rest next : List ℕ) (total : Result C CertFault) (fault : LineFault) → pieces rest ≡ line ∷ pieces next → TakesFault (after d line) fault → read_from after whole d n (pieces rest) ≡ total → Gives wants_memory total (Err (placed n fault))
   gives_fault d n line rest next total lines.NoMemory cut_is h so_far = tt
   gives_fault d n line rest next total lines.Bad cut_is h so_far = fails d n line rest next total cut_is h so_far
@@ -101,13 +101,13 @@ gives_same total (Err (NotACertificate line)) e = e
 
 -- ---- all lines
 
--- each line was taken
+-- each line was read
 record Whole {C D : Type 0} (after : D → List ℕ → Option D) (whole : D → Option C) (d : D) (n : ℕ) (lines : List (List ℕ)) (rest : List ℕ) : Type 0 where
   at : D
   ran : run after d lines ≡ Some at
   gives : read_from after whole d n (lines ++ rest ∷ []) ≡ finished whole at (n + length lines) rest
 
--- one was not
+-- one line was refused
 record Broken {C D : Type 0} (after : D → List ℕ → Option D) (whole : D → Option C) (d : D) (n : ℕ) (lines : List (List ℕ)) (rest : List ℕ) : Type 0 where
   before : List (List ℕ)
   bad : List ℕ
@@ -168,7 +168,7 @@ never_memory after whole d bytes h =
       | inr b ↦ let e : refused (1 + length b.before) ≡ Err NoMemory = sym (ap (read_from after whole d 1) c.all ∙ b.gives) ∙ h in absurd (cc)
     ]
 
--- ---- where bytes stop
+-- ---- the line of a fault
 
 pub one_fault_line : {C : Type 0} (spells : C → List (List ℕ) → Type 0) (bytes : List ℕ) (m n : ℕ) → IsFaultBy spells bytes m → IsFaultBy spells bytes n → m ≡ n
 one_fault_line spells bytes m n hm hn =
@@ -177,21 +177,21 @@ one_fault_line spells bytes m n hm hn =
       | inr other ↦ elim other [ inl lt ↦ absurd (hm.none (hn.least m lt)) | inr gt ↦ absurd (hn.none (hm.least n gt)) ]
     ]
 
--- two cuts of one list, where one is a line longer
+-- two divisions of one list, one of which is a line longer
 front_is : (before : List (List ℕ)) (bad : List ℕ) (more front back : List (List ℕ)) → before ++ bad ∷ more ≡ front ++ back → length front ≡ 1 + length before → front ≡ before ++ bad ∷ []
 front_is before bad more front back e len =
     sym (take_at front back (1 + length before) len)
     ∙ ap (λ (xs : List (List ℕ)). take (1 + length before) xs) (sym e ∙ sym (append_assoc before (bad ∷ []) more))
     ∙ take_at (before ++ bad ∷ []) more (1 + length before) (omega (arith, length-append before (bad ∷ [])))
 
--- ---- drafts that go by a grammar
+-- ---- states that follow a grammar
 
 pub record IsReader {C D : Type 0} (spells : C → List (List ℕ) → Type 0) (start : D) (after : D → List ℕ → Option D) (whole : D → Option C) : Type 0 where
-  -- the lines of a text are taken, and leave what it says
+  -- the lines of a text are read, and lead to a state with its value
   pub taken : (c : C) (lines : List (List ℕ)) → spells c lines → (d : D) × (run after start lines ≡ Some d) × (whole d ≡ Some c)
-  -- with lines that are taken some text begins
+  -- lines that are read begin some text
   pub begun : (lines : List (List ℕ)) (d : D) → run after start lines ≡ Some d → (c : C) × (more : List (List ℕ)) × spells c (lines ++ more)
-  -- what they leave, if it is whole, is what they say
+  -- the value of a state, if it has one, is what the lines that led to it spell
   pub spelled : (lines : List (List ℕ)) (d : D) (c : C) → run after start lines ≡ Some d → whole d ≡ Some c → spells c lines
   -- no line of a text has an LF
   pub free : (c : C) (lines : List (List ℕ)) → spells c lines → AreFree lines
@@ -203,7 +203,7 @@ module _ {C D : Type 0} (spells : C → List (List ℕ) → Type 0) (start : D) 
       let same : tc.0 ≡ td.0 = same_Some _ _ (sym tc.1 ∙ td.1) in
       same_Some c d (sym tc.2 ∙ ap whole same ∙ td.2)
 
-  -- the lines of a text are cut from it
+  -- the pieces of a text are its lines
   text_cut : (c : C) (bytes : List ℕ) (h : IsTextBy spells c bytes) → pieces bytes ≡ h.0 ++ [] ∷ []
   text_cut c bytes h =
       ap (λ (bs : List ℕ). pieces bs) (h.2 ∙ sym (append-nil (joined h.0))) ∙ pieces-joined h.0 [] (reader.free c h.0 h.1)
@@ -236,7 +236,7 @@ module _ {C D : Type 0} (spells : C → List (List ℕ) → Type 0) (start : D) 
             ∙ append_assoc (joined (take count lines)) (joined (drop count lines)) rest;
       }
 
-  -- the lines with which some text begins are cut from the bytes
+  -- the lines that begin some text are the first pieces of the bytes
   begun_cut : (bytes : List ℕ) (count : ℕ) (b : BeginsBy spells bytes count) → pieces bytes ≡ b.lines ++ pieces b.rest
   begun_cut bytes count b =
       ap (λ (bs : List ℕ). pieces bs) b.front ∙ pieces-joined b.lines b.rest (are_free_front b.lines b.more (reader.free b.said (b.lines ++ b.more) b.spelled))
@@ -277,7 +277,7 @@ module _ {C D : Type 0} (spells : C → List (List ℕ) → Type 0) (start : D) 
         | false ↦ λ h. cut_early bytes lines rest e all ran (λ c none _. eqb-false _ _ h (ap length none))
       ] refl
 
-  -- ---- at a line that wasn't taken
+  -- ---- at a refused line
 
   bad_stops : (before more : List (List ℕ)) (bad : List ℕ) (e x : D) → run after start before ≡ Some e → after e bad ≡ None → run after start (before ++ bad ∷ more) ≡ Some x → ⊥
   unfolding run
@@ -321,11 +321,11 @@ module _ {C D : Type 0} (spells : C → List (List ℕ) → Type 0) (start : D) 
   read_again c bytes (Err NoMemory) text h never = absurd (never refl)
   read_again c bytes (Err (NotACertificate line)) text h never = absurd (h.0 c text)
 
-  -- a text reads as what it says
+  -- a text reads as its value
   pub text_reads : (c : C) (bytes : List ℕ) → IsTextBy spells c bytes → read_from after whole start 1 (pieces bytes) ≡ Ok c
   text_reads c bytes text = read_again c bytes (read_from after whole start 1 (pieces bytes)) text (reads bytes) (never_memory after whole start bytes)
 
-  -- what reading gives goes by the grammar
+  -- the result of reading follows the grammar
   pub reads_given : (bytes : List ℕ) (result : Result C CertFault) → Gives wants_memory (read_from after whole start 1 (pieces bytes)) result → ReadsBy spells bytes result
   reads_given bytes (Ok c) h = subst (ReadsBy spells bytes) h (reads bytes)
   reads_given bytes (Err NoMemory) h = tt

@@ -1,4 +1,4 @@
--- Lines without LF, each with its LF, are cut from the bytes again.
+-- The pieces of lines that have no LF, each with its LF, are these lines.
 use Rattle.std.proofs.Common.{◌≡◌, ℕ, ◌<◌, Bool, true, List, [], ◌∷◌, ◌++◌, length, refl, sym, ap, ◌∙◌, append_assoc, arith}
 use Rattle.std.specs.Prelude.{not}
 use Rattle.std.specs.List.{list_all, AllByRecursion, join_with_byte}

@@ -1,4 +1,4 @@
--- A draft and the lines that it was read from: a certificate begins with them.
+-- A state of the parser and the lines that led to it: a certificate begins with these lines.
 use Rattle.std.proofs.Common.{◌≡◌, ℕ, Bool, true, false, cond, List, [], ◌∷◌, ◌++◌, codes, map, drop, Some, None, ◌⊎◌, inl, refl, sym, ap, ◌∙◌, subst, append-nil, append_assoc}
 use Rattle.std.specs.Prelude.{is_some, All, IfSome}
 use Rattle.std.specs.List.{AllByRecursion}
@@ -24,12 +24,12 @@ use Rattle.cert_text.proofs.OptionLemmas.{option_map_some}
 use Rattle.cert_text.proofs.ByLineLemmas.{Reached}
 use Rattle.cert_text.proofs.LineLemmas.{same_bytes, x_is_name, moment_zero, version_is, station_is, moment_is, mark_is, cell_is}
 
--- ---- what a draft knows
+-- ---- the facts of a state
 
 abbrev Fresh : Draft → Type 0
 Fresh d = (d.turn ≡ []) × (d.has_slack ≡ false) × (d.slack ≡ []) × (d.crossings ≡ [])
 
--- by what the next line has to be
+-- the facts of a state, by the part that comes next
 abbrev KnowsAt : Part → Draft → Type 0
 KnowsAt Title d = Fresh d
 KnowsAt Station d = Fresh d
@@ -66,13 +66,13 @@ knows_start = record {
   here = (refl, refl, refl, refl);
 }
 
--- ---- the lines that it was read from
+-- ---- the lines that led to a state
 
 abbrev pub head_on : Draft → List (List ℕ) → List (List ℕ)
 head_on d lines =
     title_of d.version ∷ station_line_of d.station ∷ begin_line_of d.begin ∷ end_line_of d.end ∷ mark_line_of d.mark ∷ lines
 
--- the turn and slack tracks
+-- the lines of the turn and slack tracks
 abbrev before_mark : Draft → List (List ℕ)
 before_mark d = track_lines_of tracks.Turn d.turn ++ lines_if_there tracks.Slack (if_there d.has_slack d.slack)
 
@@ -161,7 +161,7 @@ heading_steps d e line h k =
 
 -- ---- the end of the tracks
 
--- the last line, where the mark's track is there exactly where there is a mark
+-- the last line; the mark's track is present exactly if there is a mark
 last_steps : (p : Part) (d e : Draft) (line : List ℕ) (body : List (List ℕ)) → Knows p d → IsStationName d.station → said_at p d ≡ head_on d body
     → body_lines_of d.turn (if_there d.has_slack d.slack) (if_there (is_some d.mark) d.crossings) ≡ body ++ last_line ∷ [] → after_last d line ≡ Some e → Steps p d e line
 unfolding last_line
@@ -177,7 +177,7 @@ last_steps p d e line body h name said all k =
 lines_with : (d : Draft) (there : Bool) → is_some d.mark ≡ there → lines_if_there tracks.Mark (if_there (is_some d.mark) d.crossings) ≡ lines_if_there tracks.Mark (if_there there d.crossings)
 lines_with d there is = ap (λ t. lines_if_there tracks.Mark (if_there t d.crossings)) is
 
--- with no mark the body ends after the slack track
+-- without a mark the lines end after the slack track
 unmarked_body : (d : Draft) → is_some d.mark ≡ false → body_lines_of d.turn (if_there d.has_slack d.slack) (if_there (is_some d.mark) d.crossings) ≡ before_mark d ++ last_line ∷ []
 unmarked_body d none =
     ap (λ ls. track_lines_of tracks.Turn d.turn ++ (lines_if_there tracks.Slack (if_there d.has_slack d.slack) ++ (ls ++ last_line ∷ []))) (lines_with d false none)
@@ -212,7 +212,7 @@ All-push track cs c h k = All-from_recursion (IsCellOf track) (cs ++ c ∷ []) (
   push [] h = (k, tt)
   push (b ∷ bs) h = (h.0, push bs h.1)
 
--- one more line of a track
+-- the lines of a track with one more cell
 pushed_line : (cs : List Cell) (c : Cell) (line : List ℕ) → cell_line_of c ≡ line → map cell_line_of (cs ++ c ∷ []) ≡ map cell_line_of cs ++ line ∷ []
 pushed_line cs c line is = map_push cell_line_of cs c ∙ ap (λ l. map cell_line_of cs ++ l ∷ []) is
 
@@ -290,12 +290,12 @@ step_at Slack d e line h k = slack_steps d e line h k
 step_at Crossings d e line h k = crossing_steps d e line h k
 step_at Done d e line h k = absurd cc
 
--- the draft after one more line was read from that line too
+-- the lines that led to the state after one more line are those before and this line
 pub step : (p : Part) (d e : Draft) (line : List ℕ) → Knows p d → next d line ≡ Some e → Steps p d e line
 unfolding next
 step p d e line h k = step_at p d e line h (subst (λ q. next_at q d line ≡ Some e) h.part k)
 
--- ---- a certificate begins so
+-- ---- a certificate begins with these lines
 
 there_all : (track : TrackName) (there : Bool) (cs : List Cell) → All (IsCellOf track) cs → IfSome (if_there there cs) (All (IsCellOf track))
 there_all track true cs h = h
@@ -318,7 +318,7 @@ certificate_known p d name h is = record {
   marked = is_some-if_there (is_some d.mark) d.crossings;
 }
 
--- there is a certificate whose first lines these are
+-- a certificate whose first lines these are
 pub record Front (lines : List (List ℕ)) : Type 0 where
   pub certificate : Certificate
   pub more : List (List ℕ)

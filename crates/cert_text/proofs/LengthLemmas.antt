@@ -1,4 +1,4 @@
--- How long the text of a certificate is.
+-- The length of a certificate's text.
 use Rattle.std.proofs.Common.{◌≡◌, ℕ, ◌+◌, ◌*◌, ◌<◌, ◌≤◌, List, [], ◌∷◌, ◌++◌, codes, map, length, get_or, Option, Some, None, ℤ, pos, ◌⊎◌, inl, inr, refl, sym, ap, ◌∙◌, append_assoc, length-append, lit<, arith}
 use Rattle.std.specs.Prelude.{unsigned_abs, unwrap_or, decimal, All, IfSome}
 use Rattle.std.specs.Fmt.{signed_decimal}
@@ -81,12 +81,12 @@ cell_short (cells.Quiet n) h = omega (arith, length-ended (codes "q " ++ decimal
 cell_short cells.Still h = omega arith
 cell_short (cells.Turn kind level) h = omega (arith, length-ended (front_of kind ++ signed_decimal level), length-append (front_of kind) (signed_decimal level), front_short kind, length-signed level h)
 
--- ---- and of texts
+-- ---- lengths of texts
 
 pub joined-cons : (line : List ℕ) (lines : List (List ℕ)) → length (joined (line ∷ lines)) ≡ length line + 1 + length (joined lines)
 joined-cons line lines = omega (arith, length-append (ended line) (joined lines), length-ended line)
 
--- a cell whose line has at most so many bytes
+-- a cell whose line has at most the number of bytes
 abbrev IsShort : ℕ → Cell → Type 0
 IsShort most c = length (ended (cell_line_of c)) ≤ most
 
@@ -123,7 +123,7 @@ pub last_short : length (ended last_line) ≡ 5
 unfolding last_line
 last_short = refl
 
--- where no cell's line is longer
+-- the length of all tracks, if no cell's line is longer
 tracks_short : (most : ℕ) (c : Certificate) → IsCertificate c → All (IsShort most) c.tracks.turn → IfSome c.tracks.slack (All (IsShort most)) → IfSome c.tracks.mark (All (IsShort most)) → length (certificate_text c) ≤ 536 + most * cell_count c
 tracks_short most c h turn_short slack_short crossings_short =
     let head = joined (head_lines_of c) in let turn = joined (track_lines_of Turn c.tracks.turn) in
@@ -158,7 +158,7 @@ pub text_short : (c : Certificate) → IsCertificate c → length (certificate_t
 text_short c h =
     tracks_short 24 c h (track_cells Turn c.tracks.turn h.turn) (cells_there Slack c.tracks.slack h.slack) (cells_there Mark c.tracks.mark h.crossings)
 
--- ---- of usual ones
+-- ---- certificates with usual levels
 
 length-level : (z : ℤ) → unsigned_abs z ≤ 11000000000 → length (signed_decimal z) ≤ 12
 length-level z h = length-number 11 z (lit< tt) (omega arith) (omega (arith, h))

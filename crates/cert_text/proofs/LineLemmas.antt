@@ -1,4 +1,4 @@
--- What is read of a line is what the line says, and no other line says it.
+-- The meaning that is read of a line is what the line spells, and no other line spells it.
 use Rattle.std.proofs.Common.{◌≡◌, ◌≢◌, ℕ, zero, suc, ◌<◌, ◌≤◌, Bool, true, false, cond, List, [], ◌∷◌, ◌++◌, codes, length, get_or, take, drop, Option, Some, None, ℤ, pos, negsuc, ◌⊎◌, inl, inr, refl, sym, ap, ◌∙◌, subst, take-append-drop, lit<, lit≤, arith}
 use Rattle.std.specs.Prelude.{unsigned_abs, decimal, nat_lt, nat_le, ◌&&◌, IfSome, option_and_then}
 use Rattle.std.specs.Fmt.{signed_decimal}
@@ -261,7 +261,7 @@ turn_read : (kind : Kind) (level : ℤ) → IsLevel level → turn_of kind (fron
 unfolding turn_of
 turn_read kind level h = rw (after-append (front_of kind) (signed_decimal level), level_read level h) refl
 
--- no event is quiet or still, and the second kind of a track isn't its first
+-- the line of an event is neither quiet nor still, and the second kind of a track isn't its first
 not_before : (kind : Kind) (text : List ℕ) → (bytes_eq (front_of kind ++ text) (codes "s") ≡ false) × (quiet_of (front_of kind ++ text) ≡ None)
 unfolding quiet_of after kind_word
 not_before High text = (refl, refl)

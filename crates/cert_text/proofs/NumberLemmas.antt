@@ -1,4 +1,4 @@
--- Whole numbers as text, both ways.
+-- Whole numbers as text, read and written.
 use Rattle.std.proofs.Common.{◌≡◌, ℕ, zero, suc, ◌+◌, ◌*◌, ◌/◌, ◌%◌, ◌<◌, ◌≤◌, ◌^◌, true, false, ltb, leb, eqb, List, [], ◌∷◌, ◌++◌, codes, length, get_or, Option, Some, None, ℤ, pos, negsuc, inl, inr, refl, sym, ap, ◌∙◌, subst, append-nil, append_assoc, lit<, arith, rules}
 use Rattle.std.specs.Prelude.{unsigned_abs, decimal, ◌&&◌}
 use Rattle.std.specs.Fmt.{signed_decimal}
@@ -24,7 +24,7 @@ digit_is b h = grind (arith, nat_tests)
 pub within : (most n : ℕ) → most ≤ 38 → n < 10 ^ most → n < 10 ^ 38
 within most n few h = omega (arith, pow-le-pow_right {n = 10} (lit< tt) few)
 
--- ---- how long a number is
+-- ---- the length of a number
 
 pub length-number : (most : ℕ) (z : ℤ) → 0 < most → most ≤ 38 → unsigned_abs z < 10 ^ most → length (signed_decimal z) ≤ most + 1
 length-number most (pos n) some few h = omega (arith, length-decimal-le_wide most n some h (omega (arith, within most n few h)))
@@ -47,11 +47,11 @@ decimal_some n h = (decimal_is_IsNumeral_wide n (omega (arith, h))).0.0
 value-decimal : (n : ℕ) → n < 10 ^ 38 → digits_value 10 (decimal n) ≡ n
 value-decimal n h = (decimal_is_IsNumeral_wide n (omega (arith, h))).1
 
--- digits begin with no other byte
+-- the first byte of a number is a digit
 pub first_digit : (n : ℕ) → n < 10 ^ 38 → (48 ≤ get_or (decimal n) 0 0) × (get_or (decimal n) 0 0 ≤ 57)
 first_digit n h = digit_is _ (AllPass-from_list_all is_ascii_digit (decimal n) (digits_of_decimal n h) 0 0 (decimal_some n h))
 
--- and with no 0, unless the number is 0
+-- the first digit of a number isn't 0, unless the number is
 record StartsAbove (n : ℕ) (ds : List ℕ) : Type 0 where
   some : 0 < length ds
   above : 0 < n → 48 < get_or ds 0 0
@@ -73,13 +73,13 @@ starts_above n h =
     })
     n (omega (arith, h))
 
--- ---- a number read is the one that is written so
+-- ---- a number that is read is the one that was written
 
 value_grows : (n : ℕ) (ds : List ℕ) → n ≤ digits_value_after 10 n ds
 value_grows n [] = omega arith
 value_grows n (c ∷ cs) = omega (arith, value_grows (n * 10 + digit_value c) cs)
 
--- more digits behind a number that isn't 0
+-- the digits of a number that isn't 0, followed by more digits
 decimal-after : (n : ℕ) (ds : List ℕ) → 0 < n → AllDigits 10 ds → digits_value_after 10 n ds < 10 ^ 38 → decimal (digits_value_after 10 n ds) ≡ decimal n ++ ds
 decimal-after n [] some d small = sym (append-nil (decimal n))
 decimal-after n (c ∷ cs) some d small =
@@ -90,7 +90,7 @@ decimal-after n (c ∷ cs) some d small =
     let one : decimal m ≡ decimal n ++ c ∷ [] = decimal_step_wide m (omega arith) (omega (arith, value_grows m cs, small)) ∙ rw (front, end) refl in
     decimal-after m cs (omega arith) d.1 small ∙ ap (λ x. x ++ cs) one ∙ append_assoc (decimal n) (c ∷ []) cs
 
--- without a 0 before others, digits are what their value is written as
+-- digits without a leading zero are the decimal text of their value
 decimal-value : (ds : List ℕ) → AllDigits 10 ds → 0 < length ds → (get_or ds 0 0 ≡ 48 → length ds ≡ 1) → digits_value 10 ds < 10 ^ 38 → decimal (digits_value 10 ds) ≡ ds
 decimal-value [] d some lead small = absurd (omega arith)
 decimal-value (c ∷ []) d some lead small =
@@ -104,7 +104,7 @@ decimal-value (c ∷ e ∷ cs) d some lead small =
     let one : decimal (0 * 10 + digit_value c) ≡ c ∷ [] = decimal_digit (0 * 10 + digit_value c) (omega (arith, d.0)) ∙ ap (λ x. x ∷ []) is in
     decimal-after (0 * 10 + digit_value c) (e ∷ cs) (omega (arith, byte, no, digit_from_value c d.0)) d.1 small ∙ ap (λ x. x ++ e ∷ cs) one
 
--- what a numeral is
+-- a numeral: the text of a number
 record IsNumeral (most : ℕ) (text : List ℕ) : Type 0 where
   some : 0 < length text
   few : length text ≤ most

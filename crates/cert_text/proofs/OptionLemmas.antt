@@ -1,4 +1,4 @@
--- What a step over an option came from.
+-- The source of an option's value.
 use Rattle.std.proofs.Common.{◌≡◌, Bool, true, false, if◌then◌else◌, Option, Some, None, refl}
 use Rattle.std.specs.Option.{option_map, option_or}
 use Rattle.std.proofs.lemmas.Option.{same_Some}
@@ -7,12 +7,12 @@ pub option_map_some : {A B P : Type 0} (f : A → B) (o : Option A) (y : B) → 
 option_map_some f None y e k = absurd cc
 option_map_some f (Some x) y e k = k x refl (same_Some _ _ e)
 
--- one of two options, and the first that is there
+-- the value of two options is that of the first that has one
 pub option_or_some : {A P : Type 0} (o p : Option A) (y : A) → option_or o p ≡ Some y → (o ≡ Some y → P) → (p ≡ Some y → P) → P
 option_or_some None p y e first second = second e
 option_or_some (Some x) p y e first second = first e
 
--- what isn't none is the other branch
+-- a value comes from the branch that isn't none
 pub cond_none : {A : Type 0} (b : Bool) (o : Option A) (y : A) → (if b then None else o) ≡ Some y → (b ≡ false) × (o ≡ Some y)
 cond_none true o y e = absurd cc
 cond_none false o y e = (refl, e)

@@ -1,4 +1,4 @@
--- Reading bytes gives the certificate whose text they are, or the line of the first fault.
+-- Reading bytes returns the certificate whose text they are, or the line of the first fault.
 use Rattle.std.proofs.Common.{◌≡◌, ℕ, true, List, ◌++◌, Some, Result, Ok, Err, refl, sym, ap, ◌∙◌, subst}
 use Rattle.std.specs.Prelude.{IfOk}
 use Rattle.std.proofs.lemmas.Option.{cond_some}
@@ -23,7 +23,7 @@ use Rattle.cert_text.proofs.CutLemmas.{AreFree}
 use Rattle.cert_text.proofs.FreeLemmas.{lines_free}
 use Rattle.cert_text.proofs.GrammarLemmas.{spells-lines_of, lines_of-spelled}
 
--- ---- drafts of certificates go by their grammar
+-- ---- states of certificates follow their grammar
 
 taken : (c : Certificate) (lines : List (List ℕ)) → Spells c lines → (d : Draft) × (run next start lines ≡ Some d) × (whole d ≡ Some c)
 taken c lines h =
@@ -90,7 +90,7 @@ pub certificate_of-text : (c : Certificate) → IsCertificate c → certificate_
 unfolding certificate_of
 certificate_of-text c h = by_line.text_reads Spells start next whole reader c (certificate_text c) (text_of-itself c h)
 
--- what reading gives goes by the grammar
+-- the result of reading follows the grammar
 pub reads_given : (bytes : List ℕ) (result : Result Certificate CertFault) → Gives wants_memory (certificate_of bytes) result → Reads bytes result
 unfolding certificate_of
 reads_given = by_line.reads_given Spells start next whole reader

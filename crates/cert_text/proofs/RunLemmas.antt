@@ -1,4 +1,4 @@
--- A draft after many lines: reading the lines of a certificate leaves the certificate.
+-- The state after many lines: reading the lines of a certificate leads to the certificate.
 use Rattle.std.proofs.Common.{◌≡◌, ℕ, Bool, true, false, List, [], ◌∷◌, ◌++◌, codes, map, Option, Some, None, ℤ, refl, sym, ap, ◌∙◌, append-nil, append_assoc}
 use Rattle.std.specs.Prelude.{is_some, unwrap_or, All, IfSome}
 use Rattle.std.specs.List.{AllByRecursion}
@@ -71,7 +71,7 @@ last_cell : (d : Draft) → run next (record d { part = Crossings }) (last_line 
 unfolding run next
 last_cell d = rw (last_no_cell tracks.Mark, done_line) refl
 
--- a draft at which the mark's heading or the last line may come
+-- a state after which the mark's heading or the last line may come
 record MayEnd (d : Draft) : Type 0 where
   heading : next d (heading_of tracks.Mark) ≡ after_slack d (heading_of tracks.Mark)
   last : next d last_line ≡ after_slack d last_line
@@ -141,7 +141,7 @@ tracks_run d turn (Some cs) crossings no_slack no_cells none marked turns slacks
     ∙ ends (in_slack (in_turn d turn) (d.slack ++ cs)) crossings (may_end_slack (in_turn d turn) (d.slack ++ cs)) none marked marks
     ∙ ap (λ (xs : List Cell). Some (record d { part = Done; turn = turn; has_slack = true; slack = xs ++ cs; crossings = unwrap_or crossings [] })) no_cells)
 
--- the draft that a certificate's lines leave
+-- the state after all lines of a certificate
 abbrev pub final : Certificate → Draft
 final c = record {
   part = Done;

@@ -1,4 +1,4 @@
--- Lines cut from bytes, and how long a moment's text is.
+-- The first line of bytes, and the length of a moment's text.
 use Rattle.std.proofs.Common.{◌≡◌, ℕ, ◌+◌, ◌<◌, ◌≤◌, true, false, cond, ltb, List, [], ◌∷◌, length, take, drop, Option, Some, None, ℤ, refl, arith}
 use Rattle.std.specs.Prelude.{position}
 use Rattle.std.specs.List.{position_or_len}

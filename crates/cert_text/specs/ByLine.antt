@@ -1,4 +1,4 @@
--- Reading line by line. What is read so far is a draft, which the next line makes another one, or can't stand behind (this project).
+-- Texts of lines, read line by line by a parser whose state each line changes or refuses (this project).
 use Rattle.std.specs.Prelude.{◌≡◌, ℕ, ◌+◌, ◌==◌, Bool, true, false, if◌then◌else◌, List, [], ◌∷◌, length, Option, None, Some, Result, Ok, Err}
 use Rattle.std.specs.List.{slice_split}
 use Rattle.std.specs.Option.{ok_or}
@@ -10,6 +10,7 @@ use Rattle.cert_text.specs.declared.fault.LineFault.TheVariants as lines
 
 -- ---- lines
 
+-- the byte LF
 abbrev pub is_lf : ℕ → Bool
 is_lf b = b == 10
 
@@ -19,34 +20,37 @@ pieces bytes = slice_split is_lf bytes
 
 -- ---- one line
 
--- what a call that takes a line says: the draft after it, or that there is none; want of memory says nothing
+-- the fault of a line: it is bad only if the expected state is none; out of memory allows any
 abbrev pub TakesFault : {D : Type 0} → Option D → LineFault → Type 0
 TakesFault expected lines.NoMemory = Unit {0}
 TakesFault expected lines.Bad = expected ≡ None
 
+-- the outcome of reading a line: the new state is the expected one, or the fault is right
 abbrev pub Takes : {D : Type 0} → Option D → D → Result (Unit {0}) LineFault → Type 0
 Takes expected new (Ok _) = expected ≡ Some new
 Takes expected new (Err fault) = TakesFault expected fault
 
 -- ---- faults
 
--- a line's fault as that of the bytes
+-- the fault of a line as the fault of the bytes
 abbrev pub placed : ℕ → LineFault → CertFault
 placed line lines.NoMemory = NoMemory
 placed line lines.Bad = NotACertificate line
 
+-- true if memory ran out
 abbrev pub wants_memory : CertFault → Bool
 wants_memory NoMemory = true
 wants_memory (NotACertificate line) = false
 
 -- ---- to the end
 
--- after the last LF nothing may stand, and what is read has to be whole
+-- the value of a state before the bytes after the last LF: there may be none, and no line may be missing
 abbrev pub finished : {D C : Type 0} → (D → Option C) → D → ℕ → List ℕ → Result C CertFault
 finished whole d number rest =
     if length rest == 0 then ok_or (whole d) (NotACertificate number) else Err (NotACertificate number)
 
--- what comes of a draft before a line of that number, and the lines from there on; the last of them is what no LF ends
+-- the value that the lines from a state and a line number on lead to, or the first fault; the last of them
+-- is what no LF ends
 unfoldable pub read_from : {D C : Type 0} → (D → List ℕ → Option D) → (D → Option C) → D → ℕ → List (List ℕ) → Result C CertFault
 read_from after whole d number [] = Err (NotACertificate number)
 read_from after whole d number (rest ∷ []) = finished whole d number rest

@@ -1,4 +1,4 @@
--- What a certificate may hold: the ranges of its parts, and whose events a track may have (this project).
+-- The ranges of a certificate's parts, and the events that a track may have (this project).
 use Rattle.std.specs.Prelude.{◌≡◌, ◌≢◌, ℕ, ◌+◌, ◌≤◌, ℤ, unsigned_abs, ◌⊎◌, List, [], length, All, IfSome, is_some, unwrap_or}
 use Rattle.std.specs.Str.{IsUtf8}
 use Rattle.curve_law.specs.declared.cell.Cell.{Cell}
@@ -10,14 +10,14 @@ use Rattle.cert_text.specs.declared.track_name.TrackName.{TrackName}
 use Rattle.cert_text.specs.declared.track_name.TrackName.TheVariants.{Turn, Slack, Mark}
 use Rattle.cert_text.specs.Tracks.{track_of}
 
--- UTF-8 of 1 to 400 bytes, none of them below 32 and none 127
+-- a station's name: UTF-8 of 1 to 400 bytes, none of them below 32 and none 127
 pub record IsStationName (name : List ℕ) : Type 0 where
   pub text : IsUtf8 name
   pub some : 1 ≤ length name
   pub short : length name ≤ 400
   pub printed : All (λ b. (32 ≤ b) × (b ≢ 127)) name
 
--- a level that is passed, in millionths
+-- a level whose crossings are followed, in millionths
 abbrev pub IsMark : ℤ → Type 0
 IsMark mark = unsigned_abs mark ≤ 10000000000
 
@@ -31,13 +31,13 @@ IsCell (cells.Quiet n) = (2 ≤ n) × (n ≤ MOST_MINUTES)
 IsCell cells.Still = Unit {0}
 IsCell (cells.Turn kind level) = IsLevel level
 
--- a cell that may stand in a track: its event, if it has one, is of the track
+-- a cell of a track: its event, if it has one, is of the track
 abbrev pub IsCellOf : TrackName → Cell → Type 0
 IsCellOf track (cells.Quiet n) = (2 ≤ n) × (n ≤ MOST_MINUTES)
 IsCellOf track cells.Still = Unit {0}
 IsCellOf track (cells.Turn kind level) = (track_of kind ≡ track) × IsLevel level
 
--- a certificate that has a text; the mark's track is there exactly where there is a mark
+-- a certificate that has a text; the mark's track is present exactly if there is a mark
 pub record IsCertificate (c : Certificate) : Type 0 where
   pub version : (c.version ≡ 1) ⊎ (c.version ≡ 2)
   pub station : IsStationName c.station
@@ -49,18 +49,19 @@ pub record IsCertificate (c : Certificate) : Type 0 where
   pub crossings : IfSome c.tracks.mark (All (IsCellOf Mark))
   pub marked : is_some c.tracks.mark ≡ is_some c.mark
 
--- an event's level is at most 11,000 units in size: a station's datum is at most 10,000, and its waves sum to at most 1,000
+-- a cell whose event has a level of at most 11,000 units in size: a station's datum is at most 10,000, and
+-- its waves sum to at most 1,000
 abbrev pub HasUsualLevel : Cell → Type 0
 HasUsualLevel (cells.Quiet n) = Unit {0}
 HasUsualLevel cells.Still = Unit {0}
 HasUsualLevel (cells.Turn kind level) = unsigned_abs level ≤ 11000000000
 
--- and so each event's in all tracks
+-- a certificate whose cells all have such levels
 pub record HasUsualLevels (c : Certificate) : Type 0 where
   pub turn : All HasUsualLevel c.tracks.turn
   pub slack : IfSome c.tracks.slack (All HasUsualLevel)
   pub crossings : IfSome c.tracks.mark (All HasUsualLevel)
 
--- how many cells its tracks have
+-- the number of cells of all tracks
 abbrev pub cell_count : Certificate → ℕ
 cell_count c = length c.tracks.turn + length (unwrap_or c.tracks.slack []) + length (unwrap_or c.tracks.mark [])

@@ -1,4 +1,4 @@
--- The certificate that bytes are, as a function of them; it goes by the grammar (this project).
+-- The certificate of a text, as a function of its bytes; it is proved to follow the grammar (this project).
 use Rattle.std.specs.Prelude.{ℕ, List, Result}
 use Rattle.cert_text.specs.declared.certificate.Certificate.{Certificate}
 use Rattle.cert_text.specs.declared.fault.CertFault.{CertFault}
@@ -6,6 +6,6 @@ pub use Rattle.cert_text.specs.ByLine.{wants_memory}
 use Rattle.cert_text.specs.ByLine.{read_from, pieces}
 use Rattle.cert_text.specs.Workings.Drafts.{start, next, whole}
 
--- the certificate, or the line of the fault
+-- the certificate whose text the bytes are, or the line of the fault
 unfoldable pub certificate_of : List ℕ → Result Certificate CertFault
 certificate_of bytes = read_from next whole start 1 (pieces bytes)

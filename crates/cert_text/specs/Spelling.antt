@@ -1,4 +1,5 @@
--- The grammar of certificates: which lines spell which certificate, and where bytes stop being one (this project).
+-- The grammar of certificates: the lines that spell a certificate, and the line at which bytes stop being
+-- one (this project).
 use Rattle.std.specs.Prelude.{◌≡◌, ℕ, ◌≤◌, ℤ, ◌⊎◌, List, [], ◌∷◌, ◌++◌, Option, Some, None, Result, codes, decimal}
 use Rattle.std.specs.List.{AllZip}
 use Rattle.std.specs.Fmt.{signed_decimal}
@@ -17,45 +18,48 @@ use Rattle.cert_text.specs.Texts.{IsTextBy, IsFaultBy, ReadsBy}
 
 -- ---- the lines of a certificate
 
+-- the first line, with the version
 abbrev pub SpellsVersion : ℕ → List ℕ → Type 0
 SpellsVersion version line = ((version ≡ 1) × (line ≡ codes "tide certificate 1")) ⊎ ((version ≡ 2) × (line ≡ codes "tide certificate 2"))
 
+-- the line of the station
 abbrev pub SpellsStation : List ℕ → List ℕ → Type 0
 SpellsStation name line = IsStationName name × (line ≡ codes "station " ++ name)
 
--- a moment after a word
+-- the line of a moment after a word
 abbrev pub SpellsMoment : List ℕ → ℤ → List ℕ → Type 0
 SpellsMoment word m line = IsMoment m × (line ≡ word ++ moment_text m)
 
+-- the line of the mark
 abbrev pub SpellsMark : Option ℤ → List ℕ → Type 0
 SpellsMark None line = line ≡ codes "mark none"
 SpellsMark (Some mark) line = IsMark mark × (line ≡ codes "mark " ++ signed_decimal mark)
 
--- a cell of a track; no event of another track stands there
+-- the line of a cell in a track, which has no event of another track
 abbrev pub SpellsCell : TrackName → Cell → List ℕ → Type 0
 SpellsCell track (cells.Quiet n) line = (2 ≤ n) × (n ≤ MOST_MINUTES) × (line ≡ codes "q " ++ decimal n)
 SpellsCell track cells.Still line = line ≡ codes "s"
 SpellsCell track (cells.Turn kind level) line =
     (track_of kind ≡ track) × IsLevel level × (line ≡ codes "t " ++ kind_word kind ++ codes " " ++ signed_decimal level)
 
--- the track's name, and then a line for each cell
+-- the lines of a track: its name, and then a line for each cell
 abbrev pub SpellsTrack : TrackName → List Cell → List (List ℕ) → Type 0
 SpellsTrack track cells [] = ⊥
 SpellsTrack track cells (line ∷ lines) = (line ≡ codes "track " ++ track_word track) × AllZip (SpellsCell track) cells lines
 
--- the slack track may be left out
+-- the lines of the slack track, which may be absent
 abbrev pub SpellsSlack : Option (List Cell) → List (List ℕ) → Type 0
 SpellsSlack None lines = lines ≡ []
 SpellsSlack (Some cells) lines = SpellsTrack Slack cells lines
 
--- the mark's track is there exactly where there is a mark
+-- the lines of the mark's track, which is present exactly if there is a mark
 abbrev pub SpellsCrossings : Option ℤ → Option (List Cell) → List (List ℕ) → Type 0
 SpellsCrossings None None lines = lines ≡ []
 SpellsCrossings (Some mark) (Some cells) lines = SpellsTrack Mark cells lines
 SpellsCrossings None (Some cells) lines = ⊥
 SpellsCrossings (Some mark) None lines = ⊥
 
--- the tracks one after the other, and the last line
+-- the lines of the tracks one after the other, and the last line
 pub record SpellsTracks (mark : Option ℤ) (tracks : Tracks) (lines : List (List ℕ)) : Type 0 where
   pub turn : List (List ℕ)
   pub slack : List (List ℕ)
@@ -79,11 +83,14 @@ Spells c [] = ⊥
 
 -- ---- the text of a certificate, and where bytes are none's
 
+-- the bytes are the text of the certificate
 abbrev pub IsTextOf : Certificate → List ℕ → Type 0
 IsTextOf c bytes = IsTextBy Spells c bytes
 
+-- the line of the first fault of bytes that are no certificate's text
 abbrev pub IsFaultLine : List ℕ → ℕ → Type 0
 IsFaultLine bytes line = IsFaultBy Spells bytes line
 
+-- the result of reading is right: the certificate of the text, or the line of its first fault
 abbrev pub Reads : List ℕ → Result Certificate CertFault → Type 0
 Reads bytes result = ReadsBy Spells bytes result

@@ -5,11 +5,13 @@ use Rattle.curve_law.specs.declared.kind.Kind.TheVariants.{High, Low, FloodBegin
 use Rattle.cert_text.specs.declared.track_name.TrackName.{TrackName}
 use Rattle.cert_text.specs.declared.track_name.TrackName.TheVariants.{Turn, Slack, Mark}
 
+-- the word of a track
 unfoldable pub track_word : TrackName → List ℕ
 track_word Turn = codes "turn"
 track_word Slack = codes "slack"
 track_word Mark = codes "mark"
 
+-- the word of a kind of event
 unfoldable pub kind_word : Kind → List ℕ
 kind_word High = codes "high"
 kind_word Low = codes "low"
@@ -18,7 +20,7 @@ kind_word EbbBegins = codes "ebb"
 kind_word MarkRising = codes "rise"
 kind_word MarkFalling = codes "fall"
 
--- the track that an event of the kind stands in
+-- the track that holds events of a kind
 abbrev pub track_of : Kind → TrackName
 track_of High = Turn
 track_of Low = Turn

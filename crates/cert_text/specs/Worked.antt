@@ -1,11 +1,11 @@
--- Two certificates with their texts, and the faults where a line is another (this project).
+-- Two certificates with their texts, and the faults of changed lines (this project).
 use Rattle.std.specs.Prelude.{ℕ, ◌-◌, pos, negsuc, List, [], ◌∷◌, Some, None, codes, slice_set}
 use Rattle.curve_law.specs.declared.cell.Cell.TheVariants.{Quiet, Still, Turn}
 use Rattle.curve_law.specs.declared.kind.Kind.TheVariants.{Low, FloodBegins, EbbBegins, MarkRising, MarkFalling}
 use Rattle.cert_text.specs.declared.certificate.Certificate.{Certificate}
 use Rattle.cert_text.specs.Lines.{joined}
 
--- eight minutes at Pier, without a mark
+-- a certificate of eight minutes at Pier, without a mark
 abbrev pub pier : Certificate
 pier = record {
   version = 1;
@@ -16,12 +16,13 @@ pier = record {
   tracks = record { turn = Still ∷ Still ∷ Quiet 2 ∷ Quiet 4 ∷ []; slack = None; mark = None };
 }
 
+-- the lines of its text
 abbrev pub pier_lines : List (List ℕ)
 pier_lines =
     codes "tide certificate 1" ∷ codes "station Pier" ∷ codes "begin 2000-01-10T00:00Z" ∷ codes "end 2000-01-10T00:08Z" ∷ codes "mark none"
     ∷ codes "track turn" ∷ codes "s" ∷ codes "s" ∷ codes "q 2" ∷ codes "q 4" ∷ codes "done" ∷ []
 
--- all three tracks, with numbers of each size
+-- a certificate of all three tracks, with numbers of each size
 abbrev pub narrows : Certificate
 narrows = record {
   version = 2;
@@ -36,6 +37,7 @@ narrows = record {
   };
 }
 
+-- the lines of its text
 abbrev pub narrows_lines : List (List ℕ)
 narrows_lines =
     codes "tide certificate 2" ∷ codes "station Narrows" ∷ codes "begin 2000-01-10T05:59Z" ∷ codes "end 2000-01-10T06:01Z" ∷ codes "mark -500000"
@@ -43,18 +45,21 @@ narrows_lines =
     ∷ codes "track slack" ∷ codes "t flood 0" ∷ codes "t ebb 99999999999999" ∷ codes "q 1024"
     ∷ codes "track mark" ∷ codes "t rise -99999999999999" ∷ codes "t fall 7" ∷ codes "done" ∷ []
 
--- another text for a line of Pier's, and the line of the fault that comes of it
+-- a text in place of one line of Pier's, and the line of the fault that follows
 pub record Change : Type 0 where
   pub line : ℕ
   pub text : List ℕ
   pub at : ℕ
 
+-- such a change
 abbrev pub change : ℕ → List ℕ → ℕ → Change
 change line text at = record { line = line; text = text; at = at }
 
+-- Pier's text with a change
 abbrev pub pier_with : Change → List ℕ
 pier_with c = joined (slice_set pier_lines (c.line - 1) c.text)
 
+-- changes of each line
 abbrev pub changes : List Change
 changes =
     change 1 (codes "tide certificate 3") 1

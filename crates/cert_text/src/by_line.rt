@@ -1,4 +1,4 @@
-//! Reading line by line.
+//! Texts of lines, read line by line.
 
 ghost use Rattle.std.specs.Prelude.{◌≡◌, ℕ, ◌≤◌, List, Option, length};
 ghost use Rattle.decimal_text.specs.Expected.{Gives};
@@ -9,26 +9,32 @@ use crate::fault::{CertFault, LineFault};
 use crate::lines::next_line;
 use std::alloc::Global;
 
-/// What is read so far of a text of lines, and with it what the next line may be.
+/// The state of a parser that reads a text line by line: the lines so far, and which line may come
+/// next.
 pub trait LineDraft: Drop {
-    /// What the text says.
+    /// The value that a whole text means.
     type Whole;
 
-    // The draft after one more line, where the line may come next.
+    // The state after one more line, or `None` if this line can't come next.
     ghost draft_after: { Self → List ℕ → Option Self };
 
-    // What the text says, where no line is missing.
+    // The value of the lines so far, or `None` if lines are missing.
     ghost said: { Self → Option Self.Whole };
 
-    /// Takes the next line, without its LF.
+    /// Reads the next line, `line`, which is without its LF.
+    ///
+    /// # Errors
+    /// [`LineFault::Bad`] if this line can't come next, and [`LineFault::NoMemory`] if memory runs
+    /// out.
     fn take_line(&mut self, alloc: Global, line: &[u8]) -> Result<(), LineFault>
         ensures { Takes (draft_after self.old line.now) self.new result };
 
-    /// What the text says, where the last line has come.
+    /// Returns the value of the lines read, or `None` if lines are missing.
     fn finish(self) -> Option<Self::Whole>
         ensures { result ≡ said self };
 }
 
+/// Returns `fault` as the fault of a text at line `line`, counted from 1.
 fn at_line(line: u32, fault: LineFault) -> CertFault
     ensures { result ≡ placed line fault }
 {
@@ -38,13 +44,13 @@ fn at_line(line: u32, fault: LineFault) -> CertFault
     }
 }
 
-/// What a text says, read by a draft that stands before its first line, from at most 400,000,000
-/// bytes. They are gone over once.
+/// Reads `bytes` line by line and returns the value that they mean. `draft` is the parser's state
+/// before the first line, and `bytes` has at most 400,000,000 bytes. Each byte is read once.
 ///
 /// # Errors
-/// [`CertFault::NotACertificate`] exactly where the draft refuses a line, bytes stand behind the last
-/// LF, or lines are missing. Its line is the one refused, or one past the last that LF ends.
-/// [`CertFault::NoMemory`] may come in its place.
+/// [`CertFault::NotACertificate`] exactly if `draft` refuses a line, bytes follow the last LF, or
+/// lines are missing. Its line is the line refused, or one past the last line that LF ends.
+/// [`CertFault::NoMemory`] may be returned in place of any result.
 pub fn read_lines<D: LineDraft>(
     alloc: Global,
     draft: D,

@@ -1,4 +1,4 @@
-//! Cells, read from their lines.
+//! Cells read from the lines of a certificate.
 
 ghost use Rattle.std.specs.Prelude.{◌≡◌, ◌<◌, ◌^◌};
 ghost use Rattle.cert_text.specs.Workings.LineReading.{quiet_for, quiet_of, turn_of, cell_of};
@@ -9,6 +9,7 @@ use crate::track_name::TrackName;
 use crate::words::{first_kind, front_of, second_kind};
 use curve_law::{Cell, Kind, MOST_MINUTES};
 
+/// Returns a quiet cell of `minutes`, or `None` unless they are 2 to 1,024.
 fn quiet_for(minutes: u128) -> Option<Cell>
     ensures { result ≡ quiet_for minutes }
 {
@@ -19,6 +20,7 @@ fn quiet_for(minutes: u128) -> Option<Cell>
     }
 }
 
+/// Reads a line such as `q 1024`; `None` if `line` isn't a quiet cell.
 #[tactic(auto, unfolding(crate::specs::Workings::LineReading::quiet_of))]
 fn quiet_of(line: &[u8]) -> Option<Cell>
     ensures { result ≡ quiet_of line.now }
@@ -27,6 +29,7 @@ fn quiet_of(line: &[u8]) -> Option<Cell>
     quiet_for(minutes)
 }
 
+/// Reads the line of an event of `kind`, such as `t low -1000000`; `None` if `line` isn't one.
 #[tactic(auto, unfolding(crate::specs::Workings::LineReading::turn_of))]
 fn turn_of(kind: Kind, line: &[u8]) -> Option<Cell>
     ensures { result ≡ turn_of kind line.now }
@@ -35,7 +38,7 @@ fn turn_of(kind: Kind, line: &[u8]) -> Option<Cell>
     Some(Cell::Turn(kind, level as i64))
 }
 
-/// The cell of a line in a track.
+/// Reads the cell on `line`, or returns `None` if `line` is no cell of `track`.
 #[tactic(auto, unfolding(crate::specs::Workings::LineReading::cell_of))]
 pub fn cell_of(track: TrackName, line: &[u8]) -> Option<Cell>
     ensures { result ≡ cell_of track line.now }

@@ -1,4 +1,4 @@
-//! A certificate that is read line by line.
+//! The parser of a certificate, line by line.
 
 ghost use Rattle.std.specs.Prelude.{◌≡◌};
 ghost use Rattle.cert_text.specs.Workings.Drafts.{if_there};
@@ -15,7 +15,7 @@ use curve_law::{Cell, Cells, Tracks};
 use decimal_text::Text;
 use std::alloc::Global;
 
-/// What is read so far, and with it what the next line has to be.
+/// The state of the parser of certificates: what the lines so far said, and which line comes next.
 #[derive(Drop)]
 pub struct Draft {
     part: Part,
@@ -34,7 +34,7 @@ impl Draft {
     ghost use Rattle.cert_text.specs.ByLine.{Takes};
     ghost use Rattle.cert_text.specs.Workings.Drafts.{start, next_at, after_heading, after_last, after_slack, after_turn, with_turn, with_slack, with_crossing, is_done, certificate_in};
 
-    /// Before the first line. It takes no memory.
+    /// Returns the state before the first line. Doesn't allocate.
     pub fn new(alloc: Global) -> Draft
         ensures { result ≡ start }
     {
@@ -152,7 +152,8 @@ impl Draft {
         self.end_tracks(line)
     }
 
-    /// Takes the line after the turn and slack tracks.
+    /// Reads the line after the turn and slack tracks: the heading of the mark's track, or `done`
+    /// if there is no mark.
     fn end_slack(&mut self, line: &[u8]) -> Result<(), LineFault>
         ensures { Takes (after_slack self.old line.now) self.new result }
     {
@@ -166,7 +167,7 @@ impl Draft {
         Ok(())
     }
 
-    /// Takes the last line.
+    /// Reads the last line, `done`.
     fn end_tracks(&mut self, line: &[u8]) -> Result<(), LineFault>
         ensures { Takes (after_last self.old line.now) self.new result }
     {
@@ -177,12 +178,14 @@ impl Draft {
         Ok(())
     }
 
+    /// Returns true if the last line was read.
     fn is_done(&self) -> bool
         ensures { result ≡ is_done self.now.part }
     {
         matches!(self.part, Part::Done)
     }
 
+    /// Returns the certificate of the lines read.
     fn into_certificate(self) -> Certificate
         ensures { result ≡ certificate_in self }
     {
@@ -236,7 +239,7 @@ impl LineDraft for Draft {
     }
 }
 
-/// The cells of a track that may be left out.
+/// Returns the cells of a track if `there`, and `None` otherwise.
 fn if_there(there: bool, cells: ItemList<Cell>) -> Option<Cells>
     ensures { result ≡ if_there there cells }
 {

@@ -1,26 +1,28 @@
-//! Why bytes have no certificate.
+//! The errors of reading a certificate.
 
 ghost use Rattle.std.specs.Prelude.{◌≡◌};
 
 use std::alloc::AllocError;
 use thiserror::Error;
 
-/// Why bytes gave no certificate.
+/// An error of reading bytes as a certificate.
 #[derive(Clone, Copy, Debug, PartialEq, Eq, Error)]
 pub enum CertFault {
-    /// There was no memory for the certificate.
+    /// Memory ran out.
     #[error("no memory for the certificate")]
     NoMemory,
-    /// The first line with which no certificate goes on, counted from 1.
+    /// The bytes are no certificate's text. `line`, counted from 1, is the first line such that no
+    /// certificate begins with the lines up to it.
     #[error("line {line} is of no certificate")]
     NotACertificate { line: u32 },
 }
 
-/// Why a line was not taken.
+/// An error of reading one line.
 #[derive(Clone, Copy, Debug, PartialEq, Eq)]
 pub enum LineFault {
+    /// Memory ran out.
     NoMemory,
-    /// It can't stand behind the lines before it.
+    /// The line can't follow the lines before it.
     Bad,
 }
 

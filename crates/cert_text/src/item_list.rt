@@ -1,11 +1,11 @@
-//! A list that grows as it is read.
+//! A growing list.
 
 ghost use Rattle.std.specs.Prelude.{◌≡◌, [], ◌∷◌, ◌++◌, OnOk};
 
 use std::alloc::{AllocError, Global};
 use std::marker::Model;
 
-/// The items so far. Contracts see them as a list.
+/// A growing list of items. Contracts see it as a list.
 #[derive(Drop)]
 pub struct ItemList<T> {
     items: Vec<T>,
@@ -20,7 +20,7 @@ impl<T> Model for ItemList<T> {
 }
 
 impl<T: Drop> ItemList<T> {
-    /// The empty list. It takes no memory.
+    /// Returns the empty list. Doesn't allocate.
     pub fn new(alloc: Global) -> ItemList<T>
         ensures { result ≡ [] }
     {
@@ -29,7 +29,7 @@ impl<T: Drop> ItemList<T> {
         }
     }
 
-    /// Adds an item at the end.
+    /// Appends `item`.
     pub fn push(&mut self, item: T) -> Result<(), AllocError>
         ensures { OnOk result (self.new ≡ self.old ++ item ∷ []) }
     {
@@ -37,7 +37,7 @@ impl<T: Drop> ItemList<T> {
         Ok(())
     }
 
-    /// The items, complete.
+    /// Returns the items as a vector. Doesn't allocate.
     pub fn into_vec(self) -> Vec<T>
         ensures { result.items ≡ self }
     {

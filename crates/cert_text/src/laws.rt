@@ -1,4 +1,4 @@
-//! What follows of the grammar.
+//! Consequences of the grammar of certificates.
 
 ghost use Rattle.std.specs.Prelude.{◌≡◌, ◌≢◌, ℕ, ◌+◌, ◌*◌, ◌<◌, ◌≤◌, List, ◌++◌, length, Ok, Err};
 ghost use Rattle.curve_law.specs.declared.cell.Cell.{Cell};
@@ -10,8 +10,8 @@ ghost use Rattle.cert_text.specs.Lines.{cell_line_of, last_line, head_lines_of, 
 ghost use Rattle.cert_text.specs.Spelling.{Spells, IsTextOf, IsFaultLine, Reads};
 ghost use Rattle.cert_text.specs.Readings.{certificate_of};
 
-/// Each certificate whose parts lie within their ranges has exactly one text, no other has one, and
-/// each text has at most one certificate.
+/// Each certificate whose parts are within their ranges has exactly one text, no other certificate
+/// has one, and each text has at most one certificate.
 pub fn certificates_have_one_text()
     ensures lines { (c : Certificate) → IsCertificate c → Spells c (lines_of c) }
     ensures only_lines { (c : Certificate) (lines : List (List ℕ)) →
@@ -23,8 +23,8 @@ pub fn certificates_have_one_text()
         IsTextOf c bytes → IsTextOf d bytes → c ≡ d }
 {}
 
-/// The text is the texts of its parts, one after the other. A cell has at most 24 bytes, and all the
-/// rest at most 536.
+/// The text of a certificate is the texts of its parts, one after the other. A cell has at most 24
+/// bytes, and all the rest together at most 536.
 pub fn texts_come_in_parts()
     ensures parts { (c : Certificate) → certificate_text c
         ≡ joined (head_lines_of c) ++ joined (track_lines_of TrackName.Turn c.tracks.turn)
@@ -35,8 +35,9 @@ pub fn texts_come_in_parts()
         length (certificate_text c) ≤ 536 + 24 * cell_count c }
 {}
 
-/// With levels of at most 11,000 units in size a cell has at most 21 bytes. Three tracks of 5,273,280
-/// single minutes, more than the longest span has, are shorter than 333,000,000 bytes.
+/// A certificate whose levels are at most 11,000 units in size has at most 21 bytes for a cell.
+/// Three tracks of 5,273,280 single minutes, more than the longest span has, have fewer than
+/// 333,000,000 bytes.
 pub fn certificates_are_short()
     ensures cell { (cell : Cell) → IsCell cell → HasUsualLevel cell → length (ended (cell_line_of cell)) ≤ 21 }
     ensures short { (c : Certificate) → IsCertificate c → HasUsualLevels c →
@@ -45,9 +46,9 @@ pub fn certificates_are_short()
         length (certificate_text c) < 333000000 }
 {}
 
-/// Reading by lines goes by the grammar for all bytes, and never tells of want of memory: it gives
-/// the certificate whose text they are, or the one line of the fault where they are none's. The text
-/// of a certificate reads as the certificate.
+/// Reading by lines follows the grammar for all bytes, memory apart: it yields the certificate
+/// whose text the bytes are, or the one line of the fault if they are no certificate's. The text of
+/// a certificate reads as this certificate.
 pub fn readings_go_by_the_grammar()
     ensures reads { (bytes : List ℕ) → Reads bytes (certificate_of bytes) }
     ensures never_memory { (bytes : List ℕ) → certificate_of bytes ≢ Err CertFault.NoMemory }

@@ -1,9 +1,9 @@
-//! The text of a certificate, both ways.
+//! The text of a certificate, read and written.
 //!
-//! A [`Certificate`] names a station, a span and a mark, and cuts the span into cells for each track
-//! that is followed. Its text is lines of words and whole numbers, which anybody can write:
-//! [`write_certificate`] gives the one text, and [`read_certificate`] the certificate or the line of
-//! the first fault. `specs/Spelling.antt` is the grammar.
+//! A [`Certificate`] names a station, a span and a mark, and divides the span into cells for each
+//! track that is followed. Its text is lines of words and whole numbers, which any program can
+//! write: [`write_certificate`] returns the one text of a certificate, and [`read_certificate`] the
+//! certificate of a text or the line of its first fault. `specs/Spelling.antt` is the grammar.
 #![tactic(auto)]
 
 mod by_line;

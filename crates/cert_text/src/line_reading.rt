@@ -1,4 +1,4 @@
-//! The first five lines, read.
+//! The first five lines of a certificate, read.
 
 ghost use Rattle.std.specs.Prelude.{◌≡◌, option_copied};
 ghost use Rattle.cert_text.specs.Workings.LineReading.{version_of, named, station_of, moment_after, mark_within, mark_of};
@@ -8,7 +8,7 @@ use crate::numbers::{LEVEL_DIGITS, number_of};
 use decimal_text::are_name_bytes;
 use zone_time::read_moment;
 
-/// The version of a title.
+/// Reads the version, 1 or 2, from the title line, or returns `None` if `line` is no title.
 #[tactic(auto, unfolding(crate::specs::Workings::LineReading::version_of))]
 pub fn version_of(line: &[u8]) -> Option<u32>
     ensures { result ≡ version_of line.now }
@@ -22,7 +22,7 @@ pub fn version_of(line: &[u8]) -> Option<u32>
     }
 }
 
-/// The bytes as text, where they may name a station.
+/// Returns `bytes` as text if they can be a station's name.
 fn named(bytes: &[u8]) -> Option<&str>
     ensures { option_copied result ≡ named bytes.now }
 {
@@ -35,7 +35,8 @@ fn named(bytes: &[u8]) -> Option<&str>
     }
 }
 
-/// The station's name.
+/// Reads the station's name from a line such as `station Pier`, or returns `None` if `line` isn't
+/// one.
 #[tactic(auto, unfolding(crate::specs::Workings::LineReading::station_of))]
 pub fn station_of(line: &[u8]) -> Option<&str>
     ensures { option_copied result ≡ station_of line.now }
@@ -43,7 +44,8 @@ pub fn station_of(line: &[u8]) -> Option<&str>
     named(after(b"station ".as_slice(), line)?)
 }
 
-/// The moment after a word.
+/// Reads the moment that follows `word` on `line`, in minutes since 1970-01-01T00:00Z. Returns
+/// `None` unless `line` is `word` and a moment of the years 1 to 9999, such as `2000-01-10T06:00Z`.
 #[tactic(auto, unfolding(crate::specs::Workings::LineReading::moment_after))]
 pub fn moment_after(word: &[u8], line: &[u8]) -> Option<i64>
     ensures { result ≡ moment_after word.now line.now }
@@ -51,6 +53,7 @@ pub fn moment_after(word: &[u8], line: &[u8]) -> Option<i64>
     read_moment(after(word, line)?)
 }
 
+/// Returns `mark`, in millionths, if it is at most 10,000,000,000 in size.
 fn mark_within(mark: i128) -> Option<Option<i64>>
     ensures { result ≡ mark_within mark }
 {
@@ -61,7 +64,8 @@ fn mark_within(mark: i128) -> Option<Option<i64>>
     }
 }
 
-/// The mark of its line, if there is one.
+/// Reads the line of the mark: `Some(None)` for `mark none`, `Some(Some(mark))` for a mark in
+/// millionths, and `None` if `line` is neither.
 #[tactic(auto, unfolding(crate::specs::Workings::LineReading::mark_of))]
 pub fn mark_of(line: &[u8]) -> Option<Option<i64>>
     ensures { result ≡ mark_of line.now }

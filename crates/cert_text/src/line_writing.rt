@@ -1,4 +1,4 @@
-//! Lines written, each with its LF. None takes memory.
+//! The lines of a certificate, written with their LF. None allocates.
 
 ghost use Rattle.std.specs.Prelude.{◌≡◌, ◌≤◌, ◌+◌, ◌++◌, ◌⊎◌, [], length, IfSome, unsigned_abs};
 ghost use Rattle.std.specs.Fmt.{signed_decimal};
@@ -14,7 +14,7 @@ use curve_law::Cell;
 use itoa::Buffer;
 use zone_time::write_moment;
 
-/// Appends a whole number below 10^14 in size.
+/// Appends `number`, which is below 10^14 in size, in decimal.
 fn push_number(number: i64, out: &mut ArrayString<24>)
     requires size { unsigned_abs number ≤ 99999999999999 }
     requires room { array_string_len out.old + 15 ≤ 24 }
@@ -25,7 +25,7 @@ fn push_number(number: i64, out: &mut ArrayString<24>)
     out.push_str(buffer.format(number));
 }
 
-/// Appends a moment as text.
+/// Appends the moment `m`, minutes since 1970-01-01T00:00Z, as `2000-01-10T06:00Z`.
 fn push_moment(m: i64, out: &mut ArrayString<24>)
     requires moment { IsMoment m }
     requires room { array_string_len out.old + 17 ≤ 24 }
@@ -37,6 +37,7 @@ fn push_moment(m: i64, out: &mut ArrayString<24>)
     out.push_str(text.as_str());
 }
 
+/// Returns the first line of a certificate of `version` without its LF.
 #[tactic(auto, unfolding(crate::specs::Lines::title_of))]
 fn title_of(version: u32) -> &'static str
     ensures text { result.now ≡ title_of version }
@@ -49,7 +50,7 @@ fn title_of(version: u32) -> &'static str
     }
 }
 
-/// Writes the first line, as `tide certificate 2`. The version is 1 or 2.
+/// Writes the first line, such as `tide certificate 2`. `version` is 1 or 2.
 pub fn title_line(version: u32, out: &mut ArrayString<24>)
     requires version { (version ≡ 1) ⊎ (version ≡ 2) }
     requires empty { out.old.bytes ≡ [] }
@@ -59,7 +60,7 @@ pub fn title_line(version: u32, out: &mut ArrayString<24>)
     out.push('\n');
 }
 
-/// Writes the line of the span's begin, as `begin 2000-01-10T00:00Z`.
+/// Writes the line of the span's first minute `m`, such as `begin 2000-01-10T00:00Z`.
 #[tactic(auto, unfolding(crate::specs::Lines::begin_line_of))]
 pub fn begin_line(m: i64, out: &mut ArrayString<24>)
     requires moment { IsMoment m }
@@ -71,7 +72,7 @@ pub fn begin_line(m: i64, out: &mut ArrayString<24>)
     out.push('\n');
 }
 
-/// Writes the line of the span's end, as `end 2000-01-11T00:00Z`.
+/// Writes the line of the minute `m` after the span's last one, such as `end 2000-01-11T00:00Z`.
 #[tactic(auto, unfolding(crate::specs::Lines::end_line_of))]
 pub fn end_line(m: i64, out: &mut ArrayString<24>)
     requires moment { IsMoment m }
@@ -83,6 +84,7 @@ pub fn end_line(m: i64, out: &mut ArrayString<24>)
     out.push('\n');
 }
 
+/// Writes the line of the mark without its LF.
 #[tactic(auto, unfolding(crate::specs::Lines::mark_line_of))]
 fn push_mark(mark: Option<i64>, out: &mut ArrayString<24>)
     requires mark { IfSome mark IsMark }
@@ -99,7 +101,7 @@ fn push_mark(mark: Option<i64>, out: &mut ArrayString<24>)
     }
 }
 
-/// Writes the line of the mark, as `mark none` or `mark 1500000`.
+/// Writes the line of `mark`, in millionths, such as `mark none` or `mark 1500000`.
 pub fn mark_line(mark: Option<i64>, out: &mut ArrayString<24>)
     requires mark { IfSome mark IsMark }
     requires empty { out.old.bytes ≡ [] }
@@ -109,7 +111,7 @@ pub fn mark_line(mark: Option<i64>, out: &mut ArrayString<24>)
     out.push('\n');
 }
 
-/// Writes the heading of a track, as `track turn`.
+/// Writes the heading of `track`, such as `track turn`.
 #[tactic(auto, unfolding(crate::specs::Lines::heading_of))]
 pub fn heading_line(track: TrackName, out: &mut ArrayString<24>)
     requires { out.old.bytes ≡ [] }
@@ -120,6 +122,7 @@ pub fn heading_line(track: TrackName, out: &mut ArrayString<24>)
     out.push('\n');
 }
 
+/// Writes the line of `cell` without its LF.
 #[tactic(auto, unfolding(crate::specs::Lines::cell_line_of))]
 fn push_cell(cell: Cell, out: &mut ArrayString<24>)
     requires cell { IsCell cell }
@@ -140,8 +143,8 @@ fn push_cell(cell: Cell, out: &mut ArrayString<24>)
     }
 }
 
-/// Writes the line of a cell, as `q 1024`, `s` or `t low -1000000`. Quiet minutes are 2 to 1,024, and
-/// a level is at most 99,999,999,999,999 in size.
+/// Writes the line of `cell`, such as `q 1024`, `s` or `t low -1000000`. Quiet minutes are 2 to
+/// 1,024, and a level is at most 99,999,999,999,999 millionths in size.
 pub fn cell_line(cell: &Cell, out: &mut ArrayString<24>)
     requires cell { IsCell cell.now }
     requires empty { out.old.bytes ≡ [] }

@@ -1,16 +1,18 @@
-//! Lines of bytes.
+//! Lines and prefixes of bytes.
 
 ghost use Rattle.std.specs.Prelude.{◌≡◌, ◌<◌, ◌∷◌, [], length, MatchOption, IfSome, position, option_copied};
 ghost use Rattle.cert_text.specs.ByLine.{is_lf, pieces};
 ghost use Rattle.cert_text.specs.Workings.LineReading.{after};
 
+/// Returns the index of the first LF.
 fn lf_at(bytes: &[u8]) -> Option<usize>
     ensures { result ≡ position is_lf bytes.now }
 {
     bytes.iter().position(|b| *b == b'\n')
 }
 
-/// The first line without its LF, and what follows it. There is none where no LF is left.
+/// Returns the first line of `bytes` without its LF, and the bytes after the LF; `None` if `bytes`
+/// has no LF.
 pub fn next_line(bytes: &[u8]) -> Option<(&[u8], &[u8])>
     ensures shorter { IfSome result (λ r. length r.1.now < length bytes.now) }
     ensures exact { MatchOption result (pieces bytes.now ≡ bytes.now ∷ []) (λ r. pieces bytes.now ≡ r.0.now ∷ pieces r.1.now) }
@@ -25,7 +27,7 @@ pub fn next_line(bytes: &[u8]) -> Option<(&[u8], &[u8])>
     }
 }
 
-/// What follows a word at the front of a line.
+/// Returns what follows the prefix `word` of `line`, or `None` if `line` doesn't begin with it.
 #[tactic(auto, unfolding(crate::specs::Workings::LineReading::after))]
 pub fn after<'a>(word: &[u8], line: &'a [u8]) -> Option<&'a [u8]>
     ensures { option_copied result ≡ after word.now line.now }

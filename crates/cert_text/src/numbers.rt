@@ -1,4 +1,4 @@
-//! Whole numbers read.
+//! Whole numbers read from text.
 
 ghost use Rattle.std.specs.Prelude.{◌≡◌, ◌<◌, ◌≤◌, ◌^◌, IfSome, unsigned_abs};
 ghost use Rattle.cert_text.specs.Workings.LineReading.{size_of, negative, number_of};
@@ -6,10 +6,11 @@ ghost use Rattle.cert_text.specs.Workings.LineReading.{size_of, negative, number
 use crate::lines::after;
 use decimal_text::wide_digits;
 
-/// The most digits of a level in millionths.
+/// The greatest number of digits of a level in millionths.
 pub const LEVEL_DIGITS: usize = 14;
 
-/// The number of one digit or more without leading zeros, at most so many, which are up to thirty-eight.
+/// Reads a number of 1 to `most` digits without leading zeros, or returns `None` if `text` isn't
+/// one. `most` is at most 38.
 #[tactic(auto, unfolding(crate::specs::Workings::LineReading::size_of))]
 pub fn size_of(text: &[u8], most: usize) -> Option<u128>
     requires { most ≤ 38 }
@@ -22,6 +23,7 @@ pub fn size_of(text: &[u8], most: usize) -> Option<u128>
     wide_digits(text, most)
 }
 
+/// Returns `-size`, or `None` if `size` is 0.
 fn negative(size: u128) -> Option<i128>
     requires { size < 10 ^ 38 }
     ensures { result ≡ negative size }
@@ -33,7 +35,8 @@ fn negative(size: u128) -> Option<i128>
     }
 }
 
-/// The number of such digits, which `-` may stand before unless it is 0.
+/// Reads a number of 1 to `most` digits without leading zeros, with `-` before it if it is
+/// negative, or returns `None` if `text` isn't one; `-0` isn't. `most` is at most 38.
 #[tactic(auto, unfolding(crate::specs::Workings::LineReading::number_of))]
 pub fn number_of(text: &[u8], most: usize) -> Option<i128>
     requires { most ≤ 38 }

@@ -1,6 +1,6 @@
-//! Where a certificate's lines stand.
+//! The parts of a certificate's text.
 
-/// What the next line has to be.
+/// The part of the text to which the next line belongs.
 #[derive(Clone, Copy)]
 pub enum Part {
     Title,
@@ -12,10 +12,10 @@ pub enum Part {
     Heading,
     /// A cell of the turn track, or the line after its last.
     Turn,
-    /// The same of the slack track.
+    /// A cell of the slack track, or the line after its last.
     Slack,
-    /// The same of the mark's track.
+    /// A cell of the mark's track, or the line after its last.
     Crossings,
-    /// Nothing: the last line has come.
+    /// No part: the last line was read.
     Done,
 }

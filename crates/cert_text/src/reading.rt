@@ -1,4 +1,4 @@
-//! Reading a certificate.
+//! Certificates read from text.
 
 ghost use Rattle.std.specs.Prelude.{◌≡◌, ◌≤◌, length, IfOk};
 ghost use Rattle.decimal_text.specs.Expected.{Gives};
@@ -13,13 +13,13 @@ use crate::draft::Draft;
 use crate::fault::CertFault;
 use std::alloc::Global;
 
-/// The certificate whose text the bytes are, at most 400,000,000 of them. They are gone over once.
+/// Reads the certificate whose text `bytes` is, at most 400,000,000 bytes. Each byte is read once.
 ///
 /// # Errors
-/// [`CertFault::NotACertificate`] exactly where they are no certificate's text. Its line is the
-/// first, counted from 1, such that no certificate begins with the lines up to it, each with its LF:
-/// a last piece without LF is no line of one, and where the bytes end too early the line is one past
-/// the last. [`CertFault::NoMemory`] may come in its place.
+/// [`CertFault::NotACertificate`] exactly if `bytes` is no certificate's text. Its line is the
+/// first, counted from 1, such that no certificate begins with the lines up to it, each with its
+/// LF: a last piece without LF is no line, and if the bytes end too early the line is one past the
+/// last. [`CertFault::NoMemory`] may be returned in place of any result.
 pub fn read_certificate(alloc: Global, bytes: &[u8]) -> Result<Certificate, CertFault>
     requires { length bytes.now ≤ MOST_BYTES }
     ensures exact { Gives wants_memory (certificate_of bytes.now) result }

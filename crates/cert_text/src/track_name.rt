@@ -1,13 +1,13 @@
-//! The names of tracks.
+//! The tracks of a certificate.
 
-/// Names a track of a certificate.
+/// A track of a certificate.
 #[derive(Clone, Copy, Debug, PartialEq, Eq)]
 pub enum TrackName {
-    /// High and low waters, or the greatest and least streams.
+    /// High and low waters, or maximum floods and ebbs.
     Turn,
-    /// A current's turns to flood and to ebb.
+    /// A current's slacks, before flood and before ebb.
     Slack,
-    /// Where the level passes the mark.
+    /// The minutes at which the level crosses the mark.
     Mark,
 }
 
@@ -15,7 +15,7 @@ impl TrackName {
     ghost use Rattle.std.specs.Prelude.{◌≡◌, ◌≤◌, length};
     ghost use Rattle.cert_text.specs.Tracks.{track_word};
 
-    /// The track's word, `turn`, `slack` or `mark`.
+    /// Returns the track's word in headings: `turn`, `slack` or `mark`.
     #[tactic(auto, unfolding(crate::specs::Tracks::track_word))]
     pub fn word(self) -> &'static str
         ensures text { result.now ≡ track_word self }

@@ -1,4 +1,4 @@
-//! The kinds of events, their tracks and their words.
+//! Kinds of events with their tracks and words.
 
 ghost use Rattle.std.specs.Prelude.{◌≡◌, ◌≤◌, length};
 ghost use Rattle.cert_text.specs.Tracks.{track_of};
@@ -8,7 +8,7 @@ ghost use Rattle.cert_text.specs.Workings.LineReading.{first_kind, second_kind};
 use crate::track_name::TrackName;
 use curve_law::Kind;
 
-/// The track that an event of the kind stands in.
+/// Returns the track that holds events of `kind`.
 pub fn track_of(kind: Kind) -> TrackName
     ensures { result ≡ track_of kind }
 {
@@ -19,7 +19,7 @@ pub fn track_of(kind: Kind) -> TrackName
     }
 }
 
-/// What stands before the level of an event.
+/// Returns the prefix of an event's line, up to its level, such as `t low `.
 #[tactic(auto, unfolding(crate::specs::Tracks::kind_word))]
 pub(crate) fn front_of(kind: Kind) -> &'static str
     ensures text { result.now ≡ front_of kind }
@@ -35,7 +35,8 @@ pub(crate) fn front_of(kind: Kind) -> &'static str
     }
 }
 
-/// The kind of a track's event where the value rises or the level stops rising.
+/// Returns the first kind of the events of `track`: a high water, the begin of flood or a rise
+/// through the mark.
 pub(crate) fn first_kind(track: TrackName) -> Kind
     ensures { result ≡ first_kind track }
 {
@@ -46,7 +47,8 @@ pub(crate) fn first_kind(track: TrackName) -> Kind
     }
 }
 
-/// The other kind of a track's event.
+/// Returns the second kind of the events of `track`: a low water, the begin of ebb or a fall
+/// through the mark.
 pub(crate) fn second_kind(track: TrackName) -> Kind
     ensures { result ≡ second_kind track }
 {

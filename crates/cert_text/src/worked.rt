@@ -1,4 +1,4 @@
-//! Certificates that were worked out by hand.
+//! Certificates worked out by hand.
 
 ghost use Rattle.std.specs.Prelude.{◌≡◌, ◌++◌, codes, map, take, Ok, Err};
 ghost use Rattle.cert_text.specs.declared.fault.CertFault.{CertFault};
@@ -12,8 +12,8 @@ pub fn worked_texts()
     ensures narrows { certificate_text narrows ≡ joined narrows_lines }
 {}
 
-/// What texts read as: the first text's certificate, and the line of the fault where a line is
-/// another, the last lines are missing, or more follows.
+/// The results of reading a whole text, and texts in which a line is changed, the last lines are
+/// missing or more follows: the certificate, or the line of the fault.
 pub fn worked_readings()
     ensures pier { certificate_of (joined pier_lines) ≡ Ok pier }
     ensures changed { map (λ c. certificate_of (pier_with c)) changes ≡ map (λ c. Err (CertFault.NotACertificate c.at)) changes }

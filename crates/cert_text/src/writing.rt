@@ -1,4 +1,4 @@
-//! Writing a certificate.
+//! Certificates written as text.
 
 ghost use Rattle.std.specs.Prelude.{◌≡◌, ◌++◌, [], ◌∷◌, All, IfOk, IfSome, OnOk};
 ghost use Rattle.cert_text.specs.Certificates.{IsCertificate, IsCellOf};
@@ -15,13 +15,14 @@ use curve_law::{Cell, Cells};
 use decimal_text::{Bytes, Text};
 use std::alloc::{AllocError, Global};
 
-/// Appends text.
+/// Appends `text` to `out`.
 pub fn push_text(out: &mut Vec<u8>, text: &str) -> Result<(), AllocError>
     ensures { OnOk result (out.new.items ≡ out.old.items ++ text.now) }
 {
     out.extend_from_slice(text.as_bytes())
 }
 
+/// Appends the line of the station `name`.
 #[tactic(auto, unfolding(crate::specs::Lines::station_line_of))]
 fn push_station(out: &mut Vec<u8>, name: &Text) -> Result<(), AllocError>
     ensures { OnOk result (out.new.items ≡ out.old.items ++ ended (station_line_of name.now)) }
@@ -31,7 +32,9 @@ fn push_station(out: &mut Vec<u8>, name: &Text) -> Result<(), AllocError>
     push_text(out, "\n")
 }
 
-/// Appends the lines that name a station and a span.
+/// Appends the line of the station `name` and the lines of its span, from minute `begin` up to
+/// minute `end`, which isn't part of the span; both since 1970-01-01T00:00Z, in the years 1 to
+/// 9999.
 pub fn push_station_lines(
     out: &mut Vec<u8>,
     name: &Text,
@@ -51,7 +54,7 @@ pub fn push_station_lines(
     push_text(out, line.as_str())
 }
 
-/// Appends the first five lines.
+/// Appends the first five lines of `cert`.
 fn push_head(out: &mut Vec<u8>, cert: &Certificate) -> Result<(), AllocError>
     requires { IsCertificate cert.now }
     ensures { OnOk result (out.new.items ≡ out.old.items ++ joined (head_lines_of cert.now)) }
@@ -65,7 +68,7 @@ fn push_head(out: &mut Vec<u8>, cert: &Certificate) -> Result<(), AllocError>
     push_text(out, line.as_str())
 }
 
-/// Appends a track's heading and its cells.
+/// Appends the heading of `track` and the lines of its `cells`.
 fn push_track(out: &mut Vec<u8>, track: TrackName, cells: &[Cell]) -> Result<(), AllocError>
     requires { All (IsCellOf track) cells.now }
     ensures { OnOk result (out.new.items ≡ out.old.items ++ joined (track_lines_of track cells.now)) }
@@ -81,7 +84,7 @@ fn push_track(out: &mut Vec<u8>, track: TrackName, cells: &[Cell]) -> Result<(),
     Ok(())
 }
 
-/// Appends a track, if it is there.
+/// Appends `track` if it is present.
 fn push_track_if_there(
     out: &mut Vec<u8>,
     track: TrackName,
@@ -96,7 +99,7 @@ fn push_track_if_there(
     }
 }
 
-/// The text of a certificate, whose parts lie within their ranges.
+/// Returns the text of `cert`, whose parts are within their ranges.
 #[tactic(auto, unfolding(crate::specs::Lines::certificate_text))]
 pub fn write_certificate(alloc: Global, cert: &Certificate) -> Result<Bytes, AllocError>
     requires { IsCertificate cert.now }

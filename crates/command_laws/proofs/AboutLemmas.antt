@@ -1,4 +1,4 @@
--- The turns of a station keep to the bound of its gaps.
+-- The turns of a station keep to the bound of the differences between its slope and its steps.
 use Rattle.std.proofs.Common.{◌≡◌, ℕ, zero, suc, ℤ, pos, neg_ℤ, ◌+ℤ◌, ◌-ℤ◌, ◌≤ℤ◌, ◌<ℤ◌, int_lt, unsigned_abs, Bool, true, false, List, [], ◌++◌, length, map, Option, Some, None, Result, Ok, All, slice_get, refl, sym, subst, ap, arith}
 use Rattle.std.specs.Prelude.{flat_map, option_to_list, option_map}
 use Rattle.std.specs.Option.{ok_or}
@@ -50,9 +50,9 @@ use Rattle.zone_time.specs.declared.zone.Zone.{Zone}
 use Rattle.command_laws.specs.Abouts.{AboutBoundsTurns, FallsAtMost, IsBounded, IsBoundedTurn, RisesAtMost, rise_in}
 use Rattle.command_laws.proofs.RequestLemmas.{WasFound, got_ok, name_ok, span_named, was_found}
 
--- ---- by the gap at a minute
+-- ---- by the difference at a minute
 
--- at each plain minute both gaps are within the bound
+-- at each minute outside new-year blends both differences are within the bound
 pub record KeepTo (book : Book) (station : Station) (bound : ℤ) : Type 0 where
   pub here : (m : ℤ) (year : ℕ) → IsPlainMinute book.first_year book.years m year → pos (predicted_gap book station m) ≤ℤ bound
   pub before : (m : ℤ) (year : ℕ) → IsPlainMinute book.first_year book.years m year → pos (predicted_gap_before book station m) ≤ℤ bound
@@ -71,7 +71,7 @@ rises : (book : Book) (station : Station) (bound m : ℤ) → KeepTo book statio
 rises book station bound m keeps below plain =
     rises_from (rise_in book station m) (predicted_slope book station m) bound (keeps.here m plain.0 plain.1) below
 
--- by the slope at the next minute
+-- the fall in a minute, by the slope at the next one
 falls_before : (book : Book) (station : Station) (bound m : ℤ) → KeepTo book station bound → pos 0 <ℤ predicted_slope book station (m +ℤ pos 1) → FallsAtMost book station bound m
 falls_before book station bound m keeps above plain =
     falls_from (rise_in book station m) (predicted_slope book station (m +ℤ pos 1)) bound (keeps.before m plain.0 plain.1) above
@@ -185,9 +185,9 @@ station_turns book site asked bound keeps =
     (All-weaker (IsTurn book site.station bound) (λ e. P (moved site.basis e)) (moved_turn book site bound) all
     (reference_events book site asked bound s keeps)))))
 
--- ---- what the runs print
+-- ---- the outputs of the runs
 
--- the text of a station that `about` is asked for
+-- the text of `about` for a station
 record PrintsBound (book : Book) (table : List Offsets) (name : List ℕ) (answer : Answer) : Type 0 where
   site : Site
   basis : basis_from (basis_of book table name) ≡ Ok site.basis
@@ -266,14 +266,14 @@ one_station book basis same station other one got again =
     let both : slice_get book.stations same.station ≡ slice_get book.stations basis.station = ap (λ (b : Basis). slice_get book.stations b.station) one in
     cc
 
--- the text has the bound of the station that the listing is of
+-- the text has the bound of the station of the listing
 bound_of : (book : Book) (table : List Offsets) (name : List ℕ) (asked : Asked) (site : Site) (facts : Answer) → WasFound book table name asked site → PrintsBound book table name facts → facts ≡ text_alone (about_text_of name site.station.name site.station.units (constituent_count site.station) (predicted_agreement book site.station))
 bound_of book table name asked site facts found prints =
     let basis = one_basis book table name site.basis prints.site.basis found.basis prints.basis in
     let station = one_station book site.basis prints.site.basis site.station prints.site.station basis found.station prints.station in
     subst (λ (s : Station). facts ≡ text_alone (about_text_of name s.name s.units (constituent_count s) (predicted_agreement book s))) station prints.printed
 
--- a gap keeps to the bound of its station
+-- a difference keeps to the bound of its station
 abbrev pub KeepsToAgreement : (Book → Station → ℤ → ℕ) → Type 0
 KeepsToAgreement gap = (b : Book) (s : Station) (m : ℤ) (year : ℕ) → IsBook b → IsStation (length b.constituents) s → first_fault b s b.years ≡ None → IsPlainMinute b.first_year b.years m year → pos (gap b s m) ≤ℤ predicted_agreement b s
 

@@ -30,13 +30,13 @@ use Rattle.tide_desk.specs.Answers.{asked_of, known_in, wanted_by}
 use Rattle.command_laws.specs.Checks.{TakesItsArguments}
 use Rattle.command_laws.proofs.RequestLemmas.{got_ok, words_ask}
 
--- ---- a key of the one command is that key of the other
+-- ---- a key of one command is that key of the other
 
 AllFail : (Key → Bool) → List Key → Type 0
 AllFail p [] = Unit {0}
 AllFail p (k ∷ ks) = (p k ≡ false) × AllFail p ks
 
--- two tests agree until the first fails for good
+-- two tests agree until the first is false from then on
 AgreeWhile : (Key → Bool) → (Key → Bool) → List Key → Type 0
 AgreeWhile p q [] = Unit {0}
 AgreeWhile p q (k ∷ ks) = ((p k ≡ q k) × AgreeWhile p q ks) ⊎ ((p k ≡ false) × AllFail p ks)
@@ -92,7 +92,7 @@ key_too name k is =
     found_too (λ k. bytes_eq (name_of k) name && has_key Line Certify k) (λ k. bytes_eq (name_of k) name && has_key Line Predict k) all_keys k
     (keys_agree (λ k. bytes_eq (name_of k) name)) is
 
--- ---- and says the same
+-- ---- the key has the same value
 
 item_too : (place : ℕ) (item : Item) (said more : Said) → with_item Line Certify place item said ≡ Ok more → with_item Line Predict place item said ≡ Ok more
 unfolding with_item
@@ -152,7 +152,7 @@ items_unsaid command k (item ∷ items) place said more lacks ok none =
     let one = then_ok (with_item Line command place item said) _ more ok in
     items_unsaid command k items (place + 1) one.0 more lacks one.2 (item_unsaid command k place item said one.0 lacks one.1 none)
 
--- ---- the question
+-- ---- the request
 
 same_question : (said : Said) → said key.Zone ≡ None → said key.Layout ≡ None → asked Line Predict said ≡ record (asked Line Certify said) { command = Predict; zone = Utc; layout = Plain }
 same_question said zone layout =

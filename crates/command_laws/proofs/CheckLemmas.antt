@@ -1,4 +1,4 @@
--- What follows `Accepted` is what `predict` prints.
+-- The text after `Accepted` is what `predict` prints.
 use Rattle.std.proofs.Common.{◌≡◌, ◌∷◌, Ok, refl, sym, ap, ◌∙◌}
 use Rattle.std.specs.Prelude.{codes}
 use Rattle.question.specs.declared.command.Command.TheVariants.{Predict}

@@ -50,7 +50,7 @@ same-is o p is =
 pub equal-is : (b : Basis) → IsTrue (is_equal b) → b.low ≡ b.high
 equal-is b equal = sym (same-is b.high b.low equal)
 
--- an event whose kind has no time of its own goes with the highs
+-- an event whose kind has no offset of its own is moved as the highs
 slack_alone : (slack : Option Slack) → is_some slack ≡ false → slack ≡ None
 slack_alone None none = refl
 slack_alone (Some slack) none = absurd cc
@@ -71,7 +71,7 @@ HasNote note event = event.level ≡ note event.minute
 list-noted : (t : Track) (a : ℤ) (n : ℕ) → All (HasNote t.note) (plain_list t a n)
 list-noted t a n = plain_list-all (HasNote t.note) t (λ m. refl) a n
 
--- all curves of a station carry the reference's level
+-- all curves of a station have the reference's level
 abbrev HasLevel : Book → Site → Event → Type 0
 HasLevel book site = HasNote (predicted_millionths book site.station)
 

@@ -1,4 +1,4 @@
--- Lists of events, of which some are kept.
+-- Lists of events of which some are kept.
 use Rattle.std.proofs.Common.{◌≡◌, ℕ, ◌+◌, ℤ, Bool, true, false, cond, List, [], ◌∷◌, get_or, refl, sym, ap, ◌∙◌, arith}
 use Rattle.std.specs.Prelude.{All, filter, sum_by}
 use Rattle.std.proofs.lemmas.List.Elements.{All-head, All-tail, All-filter, All-map}
@@ -10,7 +10,7 @@ use Rattle.event_list.specs.Order.{comes_before, ordered}
 use Rattle.event_list.specs.Workings.Coming.{IsAscending}
 use Rattle.event_list.proofs.OrderLemmas.{ordered-ascending, ordered-is, sum-ordered}
 
--- what each event of a track has, the events of its list have
+-- a fact of each event of a track holds of the events of its list
 pub plain_list-all : (P : Event → Type 0) (t : Track) → ((m : ℤ) → P (event_at t m)) → (a : ℤ) (n : ℕ) → All P (plain_list t a n)
 unfolding plain_list
 plain_list-all P t each a n = All-map P (event_at t) (filter (has_event t) (minutes a n)) (λ k m within. each (get_or (filter (has_event t) (minutes a n)) k m))
@@ -35,7 +35,7 @@ module _ (test : Event → Bool) where
       (λ kept. rw kept (All-filter test (λ d. comes_before d e ≡ false) es up.0, filter-ascending es up.1))
       (λ dropped. rw dropped (filter-ascending es up.1))
 
-  -- what an event counts for if it is kept
+  -- the weight of an event if it is kept
   abbrev kept_part : (Event → ℕ) → Event → ℕ
   kept_part f e = cond (test e) (f e) 0
 
@@ -56,7 +56,7 @@ module _ (test : Event → Bool) where
       let sum : sum_by f (filter test es) ≡ sum_by (kept_part f) (e ∷ es) = omega arith in
       ap (sum_by f) list ∙ sum)
 
-  -- it makes no difference whether they are put in order before or after
+  -- sorting before and after the filter has the same result
   pub filter-ordered : (es : List Event) → filter test (ordered es) ≡ ordered (filter test es)
   filter-ordered es =
       ordered-is (filter test es) (filter test (ordered es)) (filter-ascending (ordered es) (ordered-ascending es))

@@ -1,4 +1,4 @@
--- Nothing that other commands print of a span is above its highest water.
+-- No output of another command for a span is above its highest water.
 use Rattle.std.proofs.Common.{◌≡◌, ℕ, ◌<◌, ℤ, pos, negsuc, ◌+ℤ◌, ◌*ℤ◌, ◌≤ℤ◌, List, map, Some, Ok, refl, sym, ap, ◌∙◌, arith}
 use Rattle.std.specs.Prelude.{All, IsTrue}
 use Rattle.std.specs.List.{range_with_len}
@@ -44,9 +44,9 @@ rows-below book site asked step level some most =
     let is = get_or-map-range_with_len row 0 count index index (row 0) below (omega arith) in
     rw is (λ before. most (asked.begin +ℤ (step *ℤ pos index)) (later asked.begin step index some) before))
 
--- ---- what is listed of the span
+-- ---- the listing of the span
 
--- a station that has a highest water, with the span that is asked of it
+-- a station that has a highest water, with the span of the request
 record HasHighest (book : Book) (table : List Offsets) (question : Question) (name : List ℕ) (asked : Asked) (site : Site) (level : ℤ) : Type 0 where
   pub station : question.station ≡ Some name
   pub begins : question.begin ≡ Some asked.begin
@@ -65,7 +65,7 @@ lists-events book table question predict there listing name asked site level has
       below = events-below book site over level has.equal has.most;
     }
 
--- the levels that a question lists are those of the station that its name finds
+-- the levels of a request's list are those of the station that its name finds
 record WereListed (book : Book) (table : List Offsets) (name : List ℕ) (asked : Asked) (step : ℤ) (layout : Layout) (zone : Zone) (answer : Answer) : Type 0 where
   pub site : Site
   pub found : site_in Levels book table name asked ≡ Ok site

@@ -1,4 +1,4 @@
--- What a question that has an answer names: a station and a span.
+-- The station and the span of a request that has an answer.
 use Rattle.std.proofs.Common.{◌≡◌, ℕ, ℤ, List, Option, Some, None, Result, Ok, refl, sym, ap, ◌∙◌}
 use Rattle.question.specs.declared.question.Question.{Question}
 use Rattle.station_span.specs.declared.asked.Asked.{Asked}
@@ -19,7 +19,7 @@ use Rattle.tide_fault.specs.declared.refusal.Refusal.{Refusal}
 use Rattle.tide_fault.specs.declared.refusal.Refusal.TheVariants.{NoStation}
 use Rattle.command_laws.proofs.SiteLemmas.{some_of}
 
--- a question names a station and a span, over which a step has this answer
+-- a request names a station and a span, over which a step has this answer
 pub record HasSpan (question : Question) (next : List ℕ → Asked → Result Answer Refusal) (answer : Answer) : Type 0 where
   pub name : List ℕ
   pub begin : ℤ
@@ -51,7 +51,7 @@ has_span question next answer ok =
       answered = ap (next name.0) (sym span.4) ∙ asked.2;
     }
 
--- ---- the answers of commands that are asked of a span
+-- ---- the answers of commands that need a span
 
 pub answers_predict : (book : Book) (table : List Offsets) (question : Question) (given : Given) → question.command ≡ Predict → answered book table question given ≡ asks_span question (text_over Predict book table question given.zone)
 unfolding answered
@@ -65,7 +65,7 @@ pub answers_highest : (book : Book) (table : List Offsets) (question : Question)
 unfolding answered
 answers_highest book table question given is = rw is refl
 
--- what a question names is what its step is given
+-- the station and the span of a request are passed to its step
 pub asks_of : (question : Question) (next : List ℕ → Asked → Result Answer Refusal) (name : List ℕ) (begin end : ℤ) (mark : Option ℤ) → question.station ≡ Some name → question.begin ≡ Some begin → question.end ≡ Some end → question.mark ≡ mark → asks_span question next ≡ next name (record { begin = begin; end = end; mark = mark })
 unfolding asks_span asked_by
 asks_of question next name begin end mark station begins ends marked = rw (station, begins, ends, marked) refl

@@ -139,13 +139,13 @@ report_is sheets wanted head events known = record {
   each = pages_are events (filter (is_wanted wanted) sheets);
 }
 
--- ---- what a report was made of
+-- ---- the parts of a report
 
 unrefused : (table : List Offsets) (result : Result Answer Refusal) (answer : Answer) → refused_over table result ≡ Ok answer → result ≡ Ok answer
 unrefused table (Ok found) answer ok = cc
 unrefused table (Err refusal) answer ok = absurd cc
 
--- the list that a question asks
+-- the list of a request
 record WasListed (book : Book) (table : List Offsets) (question : Question) (list : Listed) : Type 0 where
   asked : Asked
   names : NamesSpan question list.name asked

@@ -1,4 +1,4 @@
--- What the words of a run ask, and the station that was found for it.
+-- The request of a run's arguments, and the station that was found for it.
 use Rattle.std.proofs.Common.{◌≡◌, ℕ, ℤ, pos, ◌≤ℤ◌, int_lt, Bool, true, false, cond, List, Option, Some, None, Result, Ok, Err, slice_get, refl, subst, ap, ◌∙◌, arith}
 use Rattle.std.specs.Prelude.{option_and_then, unwrap_or}
 use Rattle.std.specs.Option.{ok_or}
@@ -33,9 +33,9 @@ use Rattle.tide_desk.specs.Answers.{asked_of, ask_from, asks_to_serve, known_in,
 use Rattle.tide_desk.proofs.AskedLemmas.{NamesSpan}
 use Rattle.tide_fault.specs.declared.refusal.Refusal.TheVariants.{NoStation}
 
--- ---- the question of words
+-- ---- the request of arguments
 
--- the question is what the items of the words say of a command, and each of its sheets is there
+-- the request is what the items of the arguments say of a command, and each of its sheets exists
 pub record WasAsked (sheets : List SheetMeaning) (pairs : Pairs) (question : Question) : Type 0 where
   pub command : Command
   pub named : command_of pairs.origin pairs.command ≡ Ok command
@@ -87,7 +87,7 @@ step_asked sheets words question ok =
     let was = words_ask sheets words question ok in
     subst (λ (q : Question). pos 1 ≤ℤ q.step) was.is (step_least (was.said key.Step))
 
--- ---- the span that it names
+-- ---- the span of a request
 
 pub span_named : (question : Question) (name : List ℕ) (asked : Asked) → NamesSpan question name asked → asked_by question ≡ Some asked
 unfolding asked_by

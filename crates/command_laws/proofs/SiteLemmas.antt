@@ -1,4 +1,4 @@
--- The station that an answer is about, and the steps that it passed.
+-- The station of an answer, and the steps before it.
 use Rattle.std.proofs.Common.{◌≡◌, ℕ, ℤ, ◌≤ℤ◌, int_lt, Bool, true, false, ◌&&◌, List, Option, Some, None, Result, Ok, Err, refl, sym, subst, ap, ◌∙◌, arith}
 use Rattle.std.specs.Prelude.{slice_get}
 use Rattle.std.specs.Option.{ok_or}
@@ -36,7 +36,7 @@ basis_ok (Err fault) basis ok = absurd cc
 
 -- ---- the steps
 
--- the station and the offsets that a name finds, whatever is asked of them, and the steps that a question passed
+-- the station and the offsets that a name finds, for any purpose, and the steps before the answer
 pub record HasPassed (reach : Reach) (book : Book) (table : List Offsets) (name : List ℕ) (asked : Asked) (site : Site) : Type 0 where
   pub basis : basis_of book table name ≡ Ok site.basis
   pub station : slice_get book.stations site.basis.station ≡ Some site.station
@@ -110,7 +110,7 @@ reaches_span book basis begin end ok =
     record { forward = not_after begin end forward; begins = parts.0; ends = parts.1 })
     (λ outside. absurd (let none = rw (forward, outside) at ok in cc)))
 
--- and they are asked of the reference
+-- the reference's minutes from which the events of a span come are those that are evaluated
 pub reached_span : (book : Book) (basis : Basis) (begin end : ℤ) → begin ≤ℤ end → has_span book (widened_of basis begin end) ≡ true → span_in Events book basis begin end ≡ Ok tt
 unfolding span_in lacks_minute
 reached_span book basis begin end forward has =

@@ -40,7 +40,7 @@ use Rattle.command_laws.specs.Subordinates.{MeansOneMark, has_own_slack, has_too
 use Rattle.command_laws.proofs.TurnLemmas.{adds, turn_of, turns_of}
 use Rattle.command_laws.proofs.ListLemmas.{filter-all, filter-none, filter-ordered, plain_list-all}
 
--- ---- a reference's events are as they are
+-- ---- a reference's events are its own
 
 usual-offset : (station : ℕ) (kind : Kind) → offset_of (reference_basis station) kind ≡ usual
 usual-offset station High = refl
@@ -123,7 +123,7 @@ or-true false = refl
 had : (units : Units) (basis : Basis) (event : Event) → is_slack event.kind ≡ false → has_too units basis event ≡ true
 had units basis event other = rw other (or-true (asks_slack units basis))
 
--- those of a track without slack water are had
+-- the events of a track without slacks are events of the station too
 had-over : (units : Units) (basis : Basis) (s : Span) (c : Meaning) → is_slack c.track.rising ≡ false → is_slack c.track.falling ≡ false → filter (has_too units basis) (events_over s c) ≡ events_over s c
 had-over units basis s c rising falling =
     filter-all (has_too units basis) (events_over s c)
@@ -137,7 +137,7 @@ slack_curve book station basis = predicted_mark Second book station (slack_times
 abbrev mark_curve : Book → Station → Basis → ℤ → Meaning
 mark_curve book station basis level = predicted_mark Second book station basis.high.times basis.high.plus level false
 
--- its slack water is the reference's
+-- the slacks of the station are the reference's
 record SharesSlack (basis : Basis) : Type 0 where
   pub times : pos 1 ≤ℤ slack_times basis
   pub plus : slack_plus basis ≡ pos 0

@@ -67,7 +67,7 @@ of_reference book table name station is = rw is refl
 
 -- ---- both answers
 
--- the first question finds the reference itself
+-- the first request finds the reference itself
 finds_reference : (book : Book) (table : List Offsets) (name reference : List ℕ) (asked there : Asked) (site found : Site) → site_in Events book table name asked ≡ Ok site → basis_of book table reference ≡ Ok (reference_basis site.basis.station) → site_in Events book table reference there ≡ Ok found → found ≡ reference_of site
 finds_reference book table name reference asked there site found ok is ok_there =
     let here = has_passed Events book table name asked site ok in
@@ -112,7 +112,7 @@ lists_in_two_steps book table question reference given there row basis begin end
     (λ asks_there. two_steps book table question reference given there row asks.name begin end answer first was rows asks.named is asks_there ok_first)
     asks_first
 
--- ---- the first question has an answer
+-- ---- the first request has an answer
 
 no_mark_fault : (station : ℕ) (mark : Option ℤ) → mark_in (reference_basis station) mark ≡ Ok tt
 no_mark_fault station None = refl

@@ -1,4 +1,5 @@
--- The turns of a station: those of its reference's slope, moved into the span; the first of them goes by the slope at the begin.
+-- The turns of a station: those of its reference's slope, moved into the span; the kind of the first is
+-- determined by the slope at the begin.
 use Rattle.std.proofs.Common.{◌≡◌, ℕ, zero, suc, ◌+◌, ◌-◌, ℤ, pos, ◌+ℤ◌, ◌-ℤ◌, ◌≤ℤ◌, ◌<ℤ◌, unsigned_abs, Bool, true, false, cond, not, List, [], ◌∷◌, ◌++◌, map, Option, Some, None, append-nil, refl, sym, ap, subst, ◌∙◌, arith}
 use Rattle.std.specs.Prelude.{All, IsTrue, filter, flat_map, option_map, option_to_list, slice_get}
 use Rattle.std.specs.Option.{ForSome}
@@ -32,7 +33,7 @@ use Rattle.command_laws.specs.Clock.{is_turn, next_turn, turns_in}
 use Rattle.command_laws.proofs.LevelLemmas.{one_offset}
 use Rattle.command_laws.proofs.ListLemmas.{ascending-ordered, filter-all, filter-none, filter-ordered, plain_list-all}
 
--- ---- which events are turns
+-- ---- the events that are turns
 
 abbrev IsTurn : Event → Type 0
 IsTurn event = is_turn event.kind ≡ true
@@ -82,7 +83,7 @@ turns-turn : (s : Span) (book : Book) (site : Site) → All IsTurn (events_over 
 turns-turn s book site =
     plain_list-all IsTurn (turn_of book site).track (λ m. turn_kind (turn_of book site).track m refl refl) s.begin (minutes_in s)
 
--- a move changes no kind
+-- moving an event doesn't change its kind
 moved-all : (P : Event → Type 0) (b : Basis) (begin end : ℤ) (es : List Event) → ((e : Event) → P e → P (moved b e)) → All P es → All P (moved_within b begin end es)
 moved-all P b begin end es keeps all =
     All-filter (is_within begin end) P (map (moved b) es) (All-map P (moved b) es (All-weaker P (λ e. P (moved b e)) keeps es all))
@@ -145,7 +146,7 @@ kept-before t o begin end a n before =
 kept-append : (o : Offset) (begin end : ℤ) (xs ys : List Event) → kept o begin end (xs ++ ys) ≡ kept o begin end xs ++ kept o begin end ys
 kept-append o begin end xs ys = rw (map-append, filter-append)
 
--- what comes before the span is dropped
+-- events before the span are dropped
 pub kept-from : (t : Track) (o : Offset) (begin end a : ℤ) (k n : ℕ) → (a +ℤ pos k +ℤ o.add) ≤ℤ begin → kept o begin end (plain_list t a (k + n)) ≡ kept o begin end (plain_list t (a +ℤ pos k) n)
 kept-from t o begin end a k n before =
     ap (kept o begin end) (plain_list-add t a k n)
@@ -193,7 +194,7 @@ no_first P x is = absurd cc
 a_first : {T : Type 0} (P : T → Type 0) (x : T) (xs : List T) → P x → ForSome (slice_get (x ∷ xs) 0) P
 a_first P x xs holds y is = let same : x ≡ y = cc in subst P same holds
 
--- no event, no other side
+-- without an event the side stays
 not_false : (b : Bool) → not b ≡ false → b ≡ true
 not_false true is = refl
 not_false false is = absurd cc
@@ -245,7 +246,7 @@ adds b = (
   (fold-int_max_bounds b.high.add (b.low.add ∷ slack_adds b.slack) _ refl).0,
 )
 
--- the first turn of a span goes by the side of the slope at its begin
+-- the first turn of a span is determined by the side of the slope at its begin
 pub first_turn : (book : Book) (site : Site) (asked : Asked) → IsTrue (is_equal site.basis) → asked.begin ≤ℤ asked.end → ForSome (slice_get (turns_in (events_of book site asked)) 0) (λ turn. turn.kind ≡ next_turn (is_rising_at book site asked.begin))
 first_turn book site asked equal forward =
     let b = site.basis in

@@ -1,4 +1,4 @@
--- Answers over the pier's file, by the question of the words and the answer to it.
+-- Answers over the pier's file, by the request of the arguments and its answer.
 use Rattle.std.proofs.Common.{◌≡◌, ℕ, pos, List, [], Some, None, Ok, refl, ap, ◌∙◌}
 use Rattle.std.specs.Prelude.{codes}
 use Rattle.std.specs.List.{slice_split}
@@ -23,7 +23,7 @@ pier_folder = λ name. Some (file_of pier_lines)
 abbrev pub pier_read : Materials
 pier_read = record { book = pier_book; table = []; zone = zones.Utc; certificate = [] }
 
--- a question that names the file alone
+-- a request that names the file alone
 pub record NamesPier (question : Question) : Type 0 where
   pub file : question.file ≡ Some (codes "p")
   pub offsets : question.offsets ≡ None
@@ -38,7 +38,7 @@ over_pier : (sheets : List SheetMeaning) (folder : Folder) (question : Question)
 unfolding answered_over
 over_pier sheets folder question answer held names text = rw (reads_pier folder question held names, text) refl
 
--- in a folder that has the pier's file under this name
+-- the answer in a folder that has the pier's file under this name
 pub answers_over : (sheets : List SheetMeaning) (folder : Folder) (said : List (List ℕ)) (question : Question) (answer : Answer) → folder (codes "p") ≡ Some (file_of pier_lines) → asked_of sheets said ≡ Ok question → NamesPier question → answered_with (is_report question.command) sheets pier_book [] question (given_with pier_read (minute_for question.command (pos 0))) ≡ Ok answer → answer_of sheets folder (pos 0) said ≡ Ok answer
 answers_over sheets folder said question answer held asked names text =
     words_answer sheets folder (pos 0) said question asked

@@ -1,4 +1,5 @@
--- The level in the minutes after the turns that `predict` lists, and the bound that `about` prints (this project).
+-- The level in the minutes after the turns that `predict` lists, and the bound that `about` prints (this
+-- project).
 use Rattle.std.specs.Prelude.{◌≡◌, ℕ, ◌*◌, ◌^◌, ℤ, pos, neg_ℤ, ◌+ℤ◌, ◌-ℤ◌, ◌*ℤ◌, ◌≤ℤ◌, List, All, IsSomeAnd, Some, Ok}
 use Rattle.curve_law.specs.declared.event.Event.{Event}
 use Rattle.curve_law.specs.declared.kind.Kind.{Kind}
@@ -27,50 +28,54 @@ use Rattle.tide_edge.specs.FileStates.{Folder}
 use Rattle.year_blend.specs.Weights.{total_weight}
 use Rattle.zone_time.specs.declared.zone.Zone.{Zone}
 
--- the number of a bound that is the unit of the station's levels, 142,570,234,078,617,600,000,000,000,000,000,000
+-- the number of a bound that is the unit of the station's levels,
+-- 142,570,234,078,617,600,000,000,000,000,000,000
 abbrev pub unit_of_bound : ℕ
 unit_of_bound = radian * (total_weight * 10 ^ 15)
 
--- how far the level rises from a minute to the next one, by the same number
+-- the rise of the level from a minute to the next one, as such a number
 abbrev pub rise_in : Book → Station → ℤ → ℤ
 rise_in book station m =
     pos radian *ℤ (predicted_level book station (m +ℤ pos 1) -ℤ predicted_level book station m)
 
--- the minute and the next one lie in the plain part of one year, outside the hours around a new year
+-- the minute and the next one are in one year, outside the hours around a new year
 abbrev pub IsOutsideBlends : Book → ℤ → Type 0
 IsOutsideBlends book m = (year : ℕ) × IsPlainMinute book.first_year book.years m year
 
+-- the level rises by at most the bound in a minute outside these hours
 abbrev pub RisesAtMost : Book → Station → ℤ → ℤ → Type 0
 RisesAtMost book station bound m = IsOutsideBlends book m → rise_in book station m ≤ℤ bound
 
+-- the level falls by at most the bound in a minute outside these hours
 abbrev pub FallsAtMost : Book → Station → ℤ → ℤ → Type 0
 FallsAtMost book station bound m = IsOutsideBlends book m → neg_ℤ bound ≤ℤ rise_in book station m
 
--- The water turns between the minute that is listed and the next one. After a high water the level rises by at most the bound in this
--- minute, and in the one after it; and in this minute it falls by at most the bound.
+-- A high water is between the listed minute and the next one. The level rises by at most the bound in this
+-- minute and in the one after it; and it falls by at most the bound in this minute.
 pub record IsBoundedHigh (book : Book) (station : Station) (bound m : ℤ) : Type 0 where
   pub rises : RisesAtMost book station bound m
   pub rises_later : RisesAtMost book station bound (m +ℤ pos 1)
   pub falls : FallsAtMost book station bound m
 
--- after a low water it falls where it rises after a high one
+-- the same for a low water, with rises and falls exchanged
 pub record IsBoundedLow (book : Book) (station : Station) (bound m : ℤ) : Type 0 where
   pub falls : FallsAtMost book station bound m
   pub falls_later : FallsAtMost book station bound (m +ℤ pos 1)
   pub rises : RisesAtMost book station bound m
 
--- slacks and marks are no turns of the level
+-- the bound at an event of a kind; slacks and crossings of a mark are no turns of the level
 abbrev pub IsBoundedTurn : Book → Station → ℤ → Kind → ℤ → Type 0
 IsBoundedTurn book station bound High m = IsBoundedHigh book station bound m
 IsBoundedTurn book station bound Low m = IsBoundedLow book station bound m
 IsBoundedTurn book station bound _ m = Unit {0}
 
--- an event, at the minute of the reference that it comes from: that of a reference station is its own
+-- the bound at an event, at the minute of the reference that it comes from; that of a reference station is
+-- its own
 abbrev pub IsBounded : Book → Site → ℤ → Event → Type 0
 IsBounded book site bound event =
     IsBoundedTurn book site.station bound event.kind (event.minute -ℤ (offset_of site.basis event.kind).add)
 
--- what `about` and `predict` print of one station: the one prints a bound, and each turn that the other lists keeps to it
+-- `about` and `predict` print of one station: the one a bound, and the other turns that each keep to it
 pub record BoundsTurns (folder : Folder) (predict : Question) (facts listing : Answer) : Type 0 where
   pub book : Book
   pub table : List Offsets
@@ -90,7 +95,7 @@ pub record BoundsTurns (folder : Folder) (predict : Question) (facts listing : A
   pub listed : listing.text ≡ events_text predict.layout name site.station.units events zone
   pub each : All (IsBounded book site bound) events
 
--- of runs that ask both of one station, over the same files
+-- the law for runs that request both of one station, over the same files
 abbrev pub AboutBoundsTurns : Type 0
 AboutBoundsTurns = (sheets : List SheetMeaning) (folder : Folder) (minute later : ℤ) (words more : List (List ℕ))
     (about predict : Question) (facts listing : Answer) →

@@ -1,4 +1,4 @@
--- What `clock` prints, beside what `predict` and `heights` print of the same minutes (this project).
+-- The output of `clock`, and the outputs of `predict` and `heights` for the same minutes (this project).
 use Rattle.std.specs.Prelude.{◌≡◌, ℕ, ℤ, pos, ◌+ℤ◌, ◌≤ℤ◌, Bool, true, false, if◌then◌else◌, List, ◌++◌, codes, filter, slice_get, Some, None, Ok}
 use Rattle.std.specs.List.{flat_map}
 use Rattle.std.specs.Option.{ForSome}
@@ -17,9 +17,9 @@ use Rattle.tide_answer.specs.declared.given.Given.{Given}
 use Rattle.tide_answer.specs.declared.text.Answer.{Answer}
 use Rattle.tide_answer.specs.Answers.{answered, listed, text_alone}
 
--- ---- the questions
+-- ---- the requests
 
--- `predict` about the station of another question, from a minute for 1,440 minutes, in plain lines
+-- a request to `predict` about the station of another request, from a minute on for 1,440 minutes, as text
 pub record AsksDay (clock : Question) (now : ℤ) (predict : Question) : Type 0 where
   pub command : predict.command ≡ Predict
   pub station : predict.station ≡ clock.station
@@ -28,7 +28,7 @@ pub record AsksDay (clock : Question) (now : ℤ) (predict : Question) : Type 0 
   pub no_mark : predict.mark ≡ None
   pub layout : predict.layout ≡ Plain
 
--- `heights` about it at this minute alone; no step is shorter than a minute
+-- a request for `heights` of this station at the minute alone; no step is shorter than a minute
 pub record AsksLevel (clock : Question) (now : ℤ) (heights : Question) : Type 0 where
   pub command : heights.command ≡ Heights
   pub station : heights.station ≡ clock.station
@@ -40,12 +40,13 @@ pub record AsksLevel (clock : Question) (now : ℤ) (heights : Question) : Type 
 
 -- ---- the texts
 
--- a high or a low water; of a current a greatest or a least flood or ebb
+-- a high or a low water; of a current a maximum or a minimum flood or ebb
 abbrev pub is_turn : Kind → Bool
 is_turn High = true
 is_turn Low = true
 is_turn _ = false
 
+-- the turns among events
 abbrev pub turns_in : List Event → List Event
 turns_in events = filter (λ event. is_turn event.kind) events
 
@@ -53,7 +54,8 @@ turns_in events = filter (λ event. is_turn event.kind) events
 abbrev pub next_turn : Bool → Kind
 next_turn rising = if rising then High else Low
 
--- the answer of `clock`: `line` is the line that `heights` has of the level, and `lines` are those that `predict` has of the events
+-- the answer of `clock`: `line` is the line that `heights` has of the level, and `lines` are those that
+-- `predict` has of the events
 pub record IsClock (book : Book) (table : List Offsets) (clock : Question) (given : Given) (answer : Answer) : Type 0 where
   pub name : List ℕ
   pub line : List ℕ
@@ -72,7 +74,7 @@ pub record IsClock (book : Book) (table : List Offsets) (clock : Question) (give
   pub lines_are : lines ≡ flat_map (event_line_in given.zone units) events
   pub first_turn : ForSome (slice_get (turns_in events) 0) (λ turn. turn.kind ≡ next_turn rising)
 
--- each answer of `clock` is made so
+-- each answer of `clock` has this form
 abbrev pub ShowsThePresentAndTheNextDay : Type 0
 ShowsThePresentAndTheNextDay = (book : Book) (table : List Offsets) (clock : Question) (given : Given) (answer : Answer) →
     clock.command ≡ Clock → answered book table clock given ≡ Ok answer → IsClock book table clock given answer

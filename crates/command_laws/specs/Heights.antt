@@ -20,12 +20,13 @@ use Rattle.tide_desk.specs.Laws.{Asks}
 use Rattle.tide_edge.specs.FileStates.{Folder}
 use Rattle.zone_time.specs.declared.zone.Zone.{Zone}
 
--- the rows of a station: at each index its level that many steps after the begin, up to the end and including it, and no other row
+-- the rows of a station: at each index its level that many steps after the begin, up to the end and
+-- including it, and no other row
 abbrev pub AreLevels : Book → Site → ℤ → ℤ → ℤ → List Row → Type 0
 AreLevels book site begin end step rows =
     (index : ℕ) → slice_get rows index ≡ row_until (level_at book site) begin end step index
 
--- the text of the rows of the station and the span that a question names, by what its files hold
+-- the text of the rows of the station and the span of a request, by the contents of its files
 pub record PrintsLevels (folder : Folder) (question : Question) (answer : Answer) : Type 0 where
   pub book : Book
   pub table : List Offsets
@@ -43,7 +44,7 @@ pub record PrintsLevels (folder : Folder) (question : Question) (answer : Answer
   pub printed : answer ≡ text_alone (heights_text question.layout name site.station.units rows zone)
   pub levels : AreLevels book site asked.begin asked.end question.step rows
 
--- of each run that has an answer
+-- each answer of `heights` has such a text
 abbrev pub HeightsAreLevels : Type 0
 HeightsAreLevels = (sheets : List SheetMeaning) (folder : Folder) (minute : ℤ) (words : List (List ℕ))
     (question : Question) (answer : Answer) →

@@ -1,4 +1,5 @@
--- What other commands print of the span of a highest water: no event and no level is above it (this project).
+-- The outputs of other commands for the span of a highest water: no event and no level is above it (this
+-- project).
 use Rattle.std.specs.Prelude.{◌≡◌, ℕ, ℤ, pos, negsuc, ◌≤ℤ◌, ◌<ℤ◌, Bool, false, ◌&&◌, is_some, List, All, Some, Ok}
 use Rattle.curve_law.specs.declared.event.Event.{Event}
 use Rattle.curve_law.specs.declared.kind.Kind.{Kind}
@@ -22,19 +23,21 @@ use Rattle.tide_answer.specs.declared.given.Given.{Given}
 use Rattle.tide_answer.specs.declared.text.Answer.{Answer}
 use Rattle.tide_answer.specs.Answers.{answered, events_text, heights_text, rows_of}
 
--- two questions about one station and one span
+-- two requests about one station and one span
 pub record AskOneSpan (question other : Question) : Type 0 where
   pub station : other.station ≡ question.station
   pub begin : other.begin ≡ question.begin
   pub end : other.end ≡ question.end
 
--- slack water that has times of its own: it has the level of the reference, not of the station
+-- a slack with an offset of its own: it has the level of the reference, not of the station
 abbrev pub has_own_time : Basis → Kind → Bool
 has_own_time basis kind = is_slack kind && is_some basis.slack
 
+-- an event whose level is at most `level`; slacks with offsets of their own are excluded
 abbrev pub IsEventBelow : Basis → ℤ → Event → Type 0
 IsEventBelow basis level event = has_own_time basis event.kind ≡ false → event.level ≤ℤ level
 
+-- a row whose level is at most `level`, if it is before the end
 abbrev pub IsRowBelow : ℤ → ℤ → Row → Type 0
 IsRowBelow end level row = row.minute <ℤ end → row.level ≤ℤ level
 
@@ -48,7 +51,8 @@ pub record ListsRowsBelow (heights : Question) (there : Given) (name : List ℕ)
   pub text : listing.text ≡ heights_text heights.layout name site.station.units rows there.zone
   pub below : All (IsRowBelow end level) rows
 
--- the answer of `highest`, by its minute and the level there, and what `predict` and `heights` answer about the same station and span
+-- the answer of `highest`, by its minute and the level there, and the answers of `predict` and `heights`
+-- about the same station and span
 pub record IsAboveAll (book : Book) (table : List Offsets) (highest : Question) (given : Given) (answer : Answer) : Type 0 where
   pub name : List ℕ
   pub begin : ℤ
@@ -76,7 +80,8 @@ NothingIsHigher = (book : Book) (table : List Offsets) (highest : Question) (giv
 
 -- ---- a small station
 
--- a current whose levels are 10 below its reference's, and whose slack waters have times of their own, which are the reference's
+-- a current whose levels are 10 below its reference's, and whose slacks have offsets of their own, which
+-- leave them the reference's
 abbrev pub sill : Site
 sill =
     let lower : Offset = record { add = pos 0; times = pos 1000000; plus = negsuc 9999999 } in

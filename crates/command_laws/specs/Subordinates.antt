@@ -1,4 +1,5 @@
--- The events of a subordinate station in two steps: those of its reference, and then its offsets (this project).
+-- The events of a subordinate station in two steps: those of its reference, and then its offsets (this
+-- project).
 use Rattle.std.specs.Prelude.{◌≡◌, ℕ, ℤ, pos, ◌-ℤ◌, ◌*ℤ◌, ◌≤ℤ◌, Bool, false, not, ◌&&◌, ◌||◌, is_none, List, filter, slice_get, Option, Some, None, Ok}
 use Rattle.std.specs.Ordering.{int_eq}
 use Rattle.curve_law.specs.declared.event.Event.{Event}
@@ -23,9 +24,9 @@ use Rattle.tide_answer.specs.declared.text.Answer.{Answer}
 use Rattle.tide_answer.specs.Answers.{answered, events_text, listed}
 use Rattle.command_laws.specs.Clock.{turns_in}
 
--- ---- the two questions
+-- ---- the two requests
 
--- a question is `predict` about a station whose name finds this row of the table, from one minute to another
+-- a request to `predict` about a station whose name finds this row of the table, from one minute to another
 pub record AsksSubordinate (book : Book) (table : List Offsets) (row : Offsets) (basis : Basis) (begin end : ℤ) (question : Question) : Type 0 where
   pub name : List ℕ
   pub index : ℕ
@@ -37,14 +38,15 @@ pub record AsksSubordinate (book : Book) (table : List Offsets) (row : Offsets) 
   pub is_row : basis.row ≡ Some index
   pub at : slice_get table index ≡ Some row
 
--- another one is `predict` about the reference of the row, over the span that its offsets widen
+-- a request to `predict` about the reference of the row, over the span that its offsets widen
 pub record AsksReference (row : Offsets) (basis : Basis) (begin end : ℤ) (question : Question) : Type 0 where
   pub command : question.command ≡ Predict
   pub named : question.station ≡ Some row.reference
   pub begins : question.begin ≡ Some (widened_of basis begin end).begin
   pub ends : question.end ≡ Some (widened_of basis begin end).end
 
--- the station's level, which is the reference's times the factor and then the plus, passes its mark together with the reference's
+-- the station's level, which is the reference's times the factor plus the addend, crosses its mark together
+-- with the reference's
 abbrev pub MeansOneMark : Basis → Option ℤ → Option ℤ → Type 0
 MeansOneMark basis None None = Unit {0}
 MeansOneMark basis None (Some there) = ⊥
@@ -53,19 +55,20 @@ MeansOneMark basis (Some mark) (Some there) = there *ℤ basis.high.times ≡ (m
 
 -- ---- the two lists
 
--- the events of the reference that the station has too: all, but slack water only if the station has it
+-- an event of the reference that the station has too: any, but a slack only if the station lists slacks
 abbrev pub has_too : Units → Basis → Event → Bool
 has_too units basis event = asks_slack units basis || not (is_slack event.kind)
 
--- the station's slack water is where its own level passes 0, and this isn't where the reference's does
+-- the station's slacks are where its own level crosses 0, which isn't where the reference's does
 abbrev pub has_own_slack : Units → Basis → Bool
 has_own_slack units basis = asks_slack units basis && is_none basis.slack && not (int_eq basis.high.plus (pos 0))
 
--- the events of the reference, each moved and scaled by the offset of its kind, those within the span kept, in order
+-- the events of the reference, each moved and scaled by the offset of its kind, those within the span kept,
+-- in order
 abbrev pub second_step : Units → Basis → ℤ → ℤ → List Event → List Event
 second_step units basis begin end events = ordered (moved_within basis begin end (filter (has_too units basis) events))
 
--- both answers, by the events that the questions ask
+-- both answers, by the events of the requests
 pub record AreTwoSteps (book : Book) (table : List Offsets) (question reference : Question) (given there : Given) (row : Offsets) (basis : Basis) (begin end : ℤ) (answer first : Answer) : Type 0 where
   pub name : List ℕ
   pub units : Units
@@ -88,7 +91,8 @@ ListsInTwoSteps = (book : Book) (table : List Offsets) (question reference : Que
     answered book table question given ≡ Ok answer → answered book table reference there ≡ Ok first →
     AreTwoSteps book table question reference given there row basis begin end answer first
 
--- the first question has an answer if the second one has, and the widened span isn't too long
+-- the request about the reference has an answer if the one about the station has, and the widened span
+-- isn't too long
 abbrev pub ReferenceIsAnswered : Type 0
 ReferenceIsAnswered = (book : Book) (table : List Offsets) (question reference : Question) (given there : Given) →
     (row : Offsets) (basis : Basis) (begin end : ℤ) (answer : Answer) →
@@ -99,7 +103,7 @@ ReferenceIsAnswered = (book : Book) (table : List Offsets) (question reference :
 
 -- ---- a small station
 
--- a current whose levels are 0.5 above its reference's, and whose slack waters have no times of their own
+-- a current whose levels are 0.5 above its reference's, and whose slacks have no offsets of their own
 abbrev pub stream : Site
 stream =
     let higher : Offset = record { add = pos 0; times = pos 1000000; plus = pos 500000 } in

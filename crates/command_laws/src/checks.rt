@@ -8,9 +8,9 @@ ghost use Rattle.command_laws.specs.Worked.{pier_answer, pier_with_certificate};
 
 use tide_desk::what_certify_answers_is_accepted;
 
-/// What `check` prints after `Accepted` for the text that `certify` returned is what `predict` prints
-/// for the same station, span and mark. With the arguments of that `certify`, `predict` asks for
-/// these.
+/// `check` prints for the text that `certify` returned, after `Accepted`, what `predict` prints for
+/// the same station, span and mark. These are what the arguments of that `certify` request of
+/// `predict`.
 pub fn check_shows_predict()
     ensures any_words { CheckShowsPredict }
     ensures arguments { TakesItsArguments }
@@ -19,8 +19,8 @@ pub fn check_shows_predict()
     what_certify_answers_is_accepted();
 }
 
-/// A certificate of three minutes around a high water, what `predict` prints with its arguments, and what
-/// `check` prints of it.
+/// A certificate of three minutes around a high water, what `predict` prints with its arguments,
+/// and what `check` prints for it.
 pub fn worked_checks()
     ensures certified { pier_answer [] (codes "certify file=p station=Pier begin=2000-01-10T11:58Z end=2000-01-10T12:01Z")
         ≡ Ok (record {

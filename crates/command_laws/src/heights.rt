@@ -11,8 +11,8 @@ ghost use Rattle.command_laws.specs.Worked.{pier_answer};
 
 use text_laws::heights_are_levels;
 
-/// What `heights` prints are the station's levels: the row at each index is the level at the begin
-/// and that many steps after it, up to the end and including it. There is no other row.
+/// `heights` prints the station's levels: the row at each index is the level that many steps after
+/// the begin, up to the end and including it. There is no other row.
 pub fn heights_has_a_row_each_step()
     ensures rows { (book : Book) (site : Site) (begin end step : ℤ) → rows_of book site begin end step ≡ rows_over (level_at book site) begin end step }
     ensures printed { HeightsAreLevels }

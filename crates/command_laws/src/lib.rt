@@ -1,8 +1,9 @@
 //! Laws of commands: what a user relies on in what a command prints.
 //!
-//! The text of each command is proved equal to a definition, and the answer of a run to `answer_of` of
-//! `tide_desk`. The laws say what these definitions come to for two questions, or for the arguments and
-//! files of runs. A law is an empty function, and its clauses are the law. Nothing depends on this crate.
+//! The text of each command is proved equal to a definition, and the answer of a run to `answer_of`
+//! of `tide_desk`. The laws relate these definitions for two requests, or for the arguments and
+//! files of runs. A law is an empty function, and its clauses state the law. Nothing depends on
+//! this crate.
 #![tactic(auto)]
 
 mod abouts;

@@ -14,7 +14,8 @@ use zone_time::{Zone, read_zone};
 const SET_BACK: &[u8] = b"TZif\0\0\0\0\0\0\0\0\0\0\0\0\0\0\0\0\0\0\0\0\0\0\0\0\0\0\0\0\
     \0\0\0\x01\0\0\0\x02\0\0\0\x08\x38\x7a\x3a\x40\x01\0\0\x54\x60\0\0\xff\xff\xf1\xf0\0\x04AAA\0BBB\0";
 
-// The zone of that file, or the one that is so many minutes ahead of universal time.
+// Returns the zone `ahead` minutes ahead of universal time, or that of the file if there is no
+// number.
 fn zone_of(alloc: Global, ahead: Option<i32>) -> Zone
     ensures { IsZone result }
 {
@@ -28,7 +29,7 @@ fn zone_of(alloc: Global, ahead: Option<i32>) -> Zone
     }
 }
 
-// The minutes that a clock is ahead, the span's ends, events, and the dates that are shown.
+// The minutes by which a clock is ahead, the span's ends, events, and the calendar.
 const CALENDARS: &[(Option<i32>, i64, i64, &[(i64, Kind, i64)], &str)] = &[
     (
         Some(0),

@@ -32,7 +32,7 @@ fn names_go_by_the_unit(rt: HostRuntime) {
     }
 }
 
-// `None` for an event that has no name.
+// Returns the name of an event, or `None` if it has none.
 fn named(units: Units, kind: Kind, level: i64) -> Option<&'static str> {
     let is_slack = matches!(kind, Kind::FloodBegins | Kind::EbbBegins);
     match units {
@@ -63,7 +63,8 @@ pub fn event(minute: i64, kind: Kind, level: i64) -> Event {
     }
 }
 
-// Highs 30 minutes later at 1.1 times the level and 0.1 more, lows 10 minutes earlier at 0.9 times.
+// Returns offsets: highs 30 minutes later at 1.1 times the level and 0.1 more, lows 10 minutes
+// earlier at 0.9 times.
 pub fn dock(slack: Option<Slack>) -> Basis
     requires { ForSome slack IsSlack }
     ensures { HasOffsets result }
@@ -85,7 +86,7 @@ pub fn dock(slack: Option<Slack>) -> Basis
     }
 }
 
-// Whether the events can be moved.
+// Returns true if the events can be moved.
 pub fn are_movable(events: &[Event]) -> bool
     ensures { IsTrue result → All IsMovable events.now }
 {
@@ -99,7 +100,7 @@ fn is_movable(event: &Event) -> bool
     near && -11_000_000_000 <= event.level && event.level <= 11_000_000_000
 }
 
-// A current's turns and slack waters from half an hour before a midnight to ten minutes after the next.
+// A current's turns and slacks from half an hour before a midnight to ten minutes after the next.
 #[tactic(auto, unfolding(curve_law::specs::Cells::all_minutes))]
 fn current(alloc: Global) -> Result<Tracks, AllocError>
     ensures { IfOk result (λ tracks. AreShort tracks) }
@@ -190,7 +191,7 @@ fn events_come_one_at_a_time(rt: HostRuntime) -> Result<(), Fail> {
     Ok(())
 }
 
-// How many cells the searches have given after each event.
+// The number of cells that the searches have found after each event.
 #[test]
 fn cells_are_counted_as_they_are_given(rt: HostRuntime) {
     let turn = Line::new(-2, false, 1);
@@ -207,7 +208,7 @@ fn cells_are_counted_as_they_are_given(rt: HostRuntime) {
     }
 }
 
-// The events that are left.
+// Returns the events that are left.
 pub fn taken<A: Curve, B: Curve>(
     alloc: Global,
     merge: &mut Merge<A, B>,

@@ -14,7 +14,7 @@ use highest_water::{
 };
 use std::alloc::{AllocError, Global};
 
-// Whether a curve tells the minutes of a span, and there are some.
+// Returns true if the curve is valid over a span that has a minute.
 fn tells<C: Curve>(curve: &C, begin: i64, end: i64) -> bool
     ensures { IsTrue result → (begin <ℤ end) × ((C.meaning curve.now).first ≤ℤ begin) × (end ≤ℤ (C.meaning curve.now).last) }
 {
@@ -33,21 +33,21 @@ fn is_asked_little<C: Curve>(curve: &C) -> bool
     curve.evaluations() <= 1_000_000
 }
 
-// Whether the highest water of a span may be looked for.
+// Returns true if the highest water of a span may be searched.
 fn can_find<C: Curve>(curve: &C, begin: i64, end: i64) -> bool
     ensures { IsTrue result → (begin <ℤ end) × ((C.meaning curve.now).first ≤ℤ begin) × (end ≤ℤ (C.meaning curve.now).last) × ((end -ℤ begin) ≤ℤ pos 5270400) × (C.count curve.now ≤ 10 ^ 6) }
 {
     tells(curve, begin, end) && is_short(begin, end) && is_asked_little(curve)
 }
 
-// Whether what is written may be checked.
+// Returns true if the written highest water may be checked.
 fn is_small(peak: &Peak) -> bool
     ensures { IsTrue result → (unsigned_abs peak.now.value < 10 ^ 37) × (length peak.now.cells ≤ 10 ^ 6) }
 {
     peak.value.unsigned_abs() < 1_000_000 && peak.cells.as_slice().len() <= 1_000_000
 }
 
-// The highest water by a look at every minute.
+// Returns the highest water by an evaluation of every minute.
 fn looked_at<C: Curve>(curve: &mut C, begin: i64, end: i64) -> Option<(i64, i128)> {
     let mut highest = None;
     for m in begin..end {
@@ -63,7 +63,7 @@ fn looked_at<C: Curve>(curve: &mut C, begin: i64, end: i64) -> Option<(i64, i128
     highest
 }
 
-// What a check finds, if it asks for no more than one value a cell and one more.
+// Returns the verdict of a check, if it evaluates the curve at most once a cell and once more.
 fn checked<C: Curve>(curve: &mut C, peak: &Peak, begin: i64, end: i64) -> Option<PeakVerdict> {
     if !can_find(curve, begin, end) || !is_small(peak) {
         return None;
@@ -74,7 +74,8 @@ fn checked<C: Curve>(curve: &mut C, peak: &Peak, begin: i64, end: i64) -> Option
     (asked <= peak.cells.as_slice().len() as u64 + 1).then_some(verdict)
 }
 
-// Whether the search finds what a look at every minute does, and is accepted.
+// Returns true if the search finds what an evaluation of every minute does, and the check accepts
+// it.
 fn finds<C: Curve + Drop>(
     alloc: Global,
     curve: C,
@@ -98,7 +99,7 @@ fn hills() -> Hills {
     Hills::new(Top { at: 100, value: 50 }, Top { at: 700, value: 90 }, 1)
 }
 
-// Two tops of the same value, with a greater rate than need be.
+// Returns two equal tops, with a greater rate than need be.
 fn equal_hills() -> Hills {
     Hills::new(Top { at: 100, value: 50 }, Top { at: 600, value: 50 }, 3)
 }
@@ -143,7 +144,7 @@ fn every_minute_agrees(rt: HostRuntime) -> Result<(), AllocError> {
     Ok(())
 }
 
-// How many values a search asks for.
+// Returns the number of evaluations of a search.
 fn asked<C: Curve + Drop>(
     alloc: Global,
     curve: C,
@@ -158,7 +159,7 @@ fn asked<C: Curve + Drop>(
     Ok(Some(curve.evaluations()))
 }
 
-// Over some 2,000,000 minutes, which are 1,952 blocks.
+// A search over some 2,000,000 minutes, which are 1,952 blocks.
 #[test]
 fn few_values_are_asked_for(rt: HostRuntime) -> Result<(), AllocError> {
     let alloc = rt.alloc();
@@ -169,8 +170,8 @@ fn few_values_are_asked_for(rt: HostRuntime) -> Result<(), AllocError> {
     Ok(())
 }
 
-// Whether the cells of a highest water are these, and the cover asks for no more than one value a cell
-// and one more.
+// Returns true if the cells of a highest water are these, and their making evaluates the curve at
+// most once a cell and once more.
 fn covers<C: Curve + Drop>(
     alloc: Global,
     curve: C,
@@ -210,7 +211,8 @@ fn covers_are_those_of_the_rule(rt: HostRuntime) -> Result<(), AllocError> {
     Ok(())
 }
 
-// A highest water of two equal tops, at the minutes 2 and 6, over the minutes from 0 to 8.
+// Returns the verdict on a highest water of two equal tops, at minutes 2 and 6, over minutes 0 to
+// 8.
 fn verdict(
     alloc: Global,
     at: i64,

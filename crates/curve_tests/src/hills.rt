@@ -11,8 +11,8 @@ pub struct Top {
     pub value: i64,
 }
 
-/// Two tops over the minutes from -1,000,000 to 1,000,000, of which the higher value counts at each
-/// minute. The rate may be greater than it need be.
+/// A curve of two tops over minutes -1,000,000 to 1,000,000, whose value at each minute is the
+/// greater one. The rate may be greater than it need be.
 #[derive(Debug, Drop)]
 pub struct Hills {
     first: Top,
@@ -30,7 +30,7 @@ pub struct Hills {
 impl Hills {
     ghost use Rattle.highest_water.specs.Samples.{hills};
 
-    /// Two tops. No value was asked yet.
+    /// Returns the curve of two tops, which wasn't evaluated yet.
     pub fn new(first: Top, second: Top, rate: i64) -> Hills
         requires near { unsigned_abs first.at ≤ 10 ^ 12 }
         requires low { unsigned_abs first.value ≤ 10 ^ 12 }

@@ -1,4 +1,4 @@
-//! Calendars that other programs take in.
+//! Calendars for other programs.
 
 ghost use Rattle.std.specs.Prelude.{◌≡◌, IfOk, IsTrue};
 ghost use Rattle.harmonics_text.specs.declared.book.Units.{Units};
@@ -29,7 +29,7 @@ const TIDE: &[Item] = &[
 
 const NOW: i64 = 15_791_220;
 
-// A sheet of a station's name, a minute and a limit.
+// Returns a sheet that is opened for a station's name at a minute, with a limit.
 fn opened(alloc: Global, name: &str, now: i64, limit: u32) -> Result<IcalSheet, Fail>
     ensures { IfOk result (λ sheet. (⟦<IcalSheet as Sheet>⟧.heading sheet).units ≡ Units.Feet) }
 {
@@ -46,7 +46,7 @@ fn opened(alloc: Global, name: &str, now: i64, limit: u32) -> Result<IcalSheet, 
     Ok(sheet)
 }
 
-// Gives it events, and counts those that it took.
+// Offers events to `sheet`, and returns the number of those that it took.
 fn give(sheet: &mut IcalSheet, items: &[Item]) -> Result<u32, Fail>
     requires { (⟦<IcalSheet as Sheet>⟧.heading sheet.old).units ≡ Units.Feet }
 {
@@ -93,7 +93,7 @@ fn holds(text: &[u8], part: &str) -> bool {
         .any(|bytes| bytes == part.as_bytes())
 }
 
-// The lengths of a text's lines, where it is a text.
+// Returns the lengths of the lines of `text`, if it is text.
 fn lengths(alloc: Global, text: &[u8]) -> Result<Vec<usize>, Fail> {
     let text = std::str::from_utf8(text)?;
     Ok(text.lines().map(|line| line.len()).collect(alloc)?)

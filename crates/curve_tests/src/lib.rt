@@ -1,8 +1,8 @@
-//! Tests of the crates of curves: of levels and rates, of events and highest waters, and of listings
-//! and sheets.
+//! Tests of the crates of curves: of levels and rates, of events and highest waters, and of
+//! listings and sheets.
 //!
-//! They see only what is public of those crates. They stand here because a crate with tests is proved
-//! twice: with and without them.
+//! They use only the public items of those crates. They are in a crate of their own because a crate
+//! with tests is proved twice: with and without them.
 #![tactic(auto)]
 
 #[cfg(test)]

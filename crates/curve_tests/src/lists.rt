@@ -38,7 +38,7 @@ pub fn is_listed(units: Units, event: &Event) -> bool
     is_named && is_in_years(event.minute)
 }
 
-// Minutes, kinds and levels as events, where they can be listed.
+// Returns minutes, kinds and levels as events, if they can be listed.
 pub fn events_of(
     alloc: Global,
     units: Units,
@@ -73,7 +73,7 @@ pub fn rows_of(alloc: Global, items: &[(i64, i64)]) -> Result<Rows, AllocError>
     Ok(Rows::from_vec(rows))
 }
 
-// The zone that is so many minutes ahead of universal time, which it is where that is 0.
+// Returns the zone `ahead` minutes ahead of universal time, or universal time if `ahead` is 0.
 pub fn zone_of(ahead: i32) -> Zone
     ensures { IsZone result }
 {
@@ -98,7 +98,7 @@ const CURRENT: &[(i64, Kind, i64)] = &[
     (15791580, Kind::FloodBegins, 0),
 ];
 
-// A station, its unit, the minutes that a clock is ahead, events, and both listings of them.
+// A station, its unit, the minutes by which a clock is ahead, events, and both listings of them.
 const EVENTS: &[(&str, Units, i32, &[(i64, Kind, i64)], &str, &str)] = &[
     (
         "Pier",
@@ -166,7 +166,7 @@ fn events_are_listed(rt: HostRuntime) -> Result<(), Fail> {
     Ok(())
 }
 
-// The minutes that a clock is ahead, levels, and both listings of them.
+// The minutes by which a clock is ahead, levels, and both listings of them.
 const HEIGHTS: &[(i32, &[(i64, i64)], &str, &str)] = &[
     (
         -300,
@@ -202,7 +202,7 @@ fn heights_are_listed(rt: HostRuntime) -> Result<(), Fail> {
     Ok(())
 }
 
-// Whether the level rises, the minutes that a clock is ahead, events, and what the clock tells.
+// A direction, the minutes by which a clock is ahead, events, and the listing of the level now.
 const CLOCKS: &[(bool, i32, &[(i64, Kind, i64)], &str)] = &[
     (
         false,
@@ -257,7 +257,7 @@ pub const TABLE: &[u8] =
     Lost,Nowhere,,,,,,\n\
     Pier,Dock,,,,,,\n";
 
-// A station's highest water by two clocks, and what is known of one whose name has commas.
+// The listing of a highest water by two clocks, and the facts of a station whose name has commas.
 #[test]
 fn stations_are_told_of(rt: HostRuntime) -> Result<(), Fail> {
     let alloc = rt.alloc();

@@ -9,7 +9,8 @@ use std::alloc::Global;
 use std::test::Fail;
 use year_blend::LONGEST_SPAN;
 
-/// A book of one constituent, three years from 1999 and one station, 1 high.
+/// Returns the harmonic constants of a pier: one constituent, three years from 1999 and one
+/// station, 1 high.
 pub fn pier(alloc: Global, argument: &str) -> Result<Book, BookFault>
     ensures { IfOk result IsBook }
 {
@@ -24,7 +25,7 @@ pub fn pier(alloc: Global, argument: &str) -> Result<Book, BookFault>
     read_book(alloc, text.as_bytes())
 }
 
-/// What a curve tells of a cell: its rate, the values at both ends and the level at its begin.
+/// Returns the rate of a cell, the values at both ends and the level at its begin.
 fn told<C: Curve>(curve: &mut C, a: i64, n: u32) -> Option<(Option<i128>, i128, i128, i64)> {
     let first = curve.first();
     let last = curve.last();

@@ -29,7 +29,7 @@ fn words_of(alloc: Global, words: &[&str]) -> Result<Words, AllocError> {
     Ok(Words::from_vec(texts))
 }
 
-// The text of a report whose head and events meet what is asked of them.
+// Returns the text of a report, if its head and events are in range.
 fn report(
     rt: &impl Abort,
     alloc: Global,
@@ -64,7 +64,7 @@ const FIRST_TWO: &str = "Pier\n\
 const LAST_TWO: &str = "2000-01-10 18:00 UTC      -1.00 feet  Low Tide\n\
     2000-01-10 23:59 UTC       1.00 feet  High Tide\n";
 
-// The wanted words, how many events the sheet `first` takes, and the parts of the text.
+// The requested words, the limit of the sheet `first`, and the parts of the text.
 const REPORTS: &[(&[&str], u32, &[&str])] = &[
     (
         &["first", "tally", "range"],

@@ -9,7 +9,8 @@ use itoa::Buffer;
 use report_sheets::{Collected, Head, Sheet, Taken};
 use std::alloc::{AllocError, Global};
 
-/// A sheet with a word of its own that writes the word and how many events it has taken.
+/// A sheet with a word of its own, whose text is this word and the number of events that it has
+/// taken.
 #[derive(Drop)]
 pub struct Counter {
     word: Text,
@@ -58,7 +59,7 @@ impl Sheet for Counter {
     }
 }
 
-/// Which call of a sheet refuses.
+/// The call of a sheet that fails.
 #[derive(Clone, Copy, Debug, PartialEq, Eq)]
 pub enum Refusal {
     Open,
@@ -66,7 +67,7 @@ pub enum Refusal {
     Text,
 }
 
-/// A sheet that answers want of memory at one of its calls.
+/// A sheet that runs out of memory at one of its calls.
 #[derive(Drop)]
 pub struct Refusing {
     at: Refusal,

@@ -19,19 +19,20 @@ use station_table::read_offsets;
 use std::alloc::{AllocError, Global};
 use std::test::Fail;
 
-/// The first minute of 2000, and of 2001.
+/// The first minute of 2000.
 const BEGIN: i64 = 15_778_080;
 
+/// The first minute of 2001.
 const END: i64 = 16_305_120;
 
-// Whether a curve that was asked for no value yet tells the year.
+// Returns true if a curve that wasn't evaluated yet is valid over the year.
 fn has_year<C: Curve>(curve: &C) -> bool
     ensures { IsTrue result → ((C.meaning curve.now).first ≤ℤ pos 15778080) × (pos 16305120 ≤ℤ (C.meaning curve.now).last) × (C.count curve.now ≡ 0) }
 {
     curve.first() <= BEGIN && END <= curve.last() && curve.evaluations() == 0
 }
 
-/// The cells of a curve over the year; none where it doesn't tell it.
+/// Returns the cells of a curve over the year, or none if it isn't valid there.
 fn year_cells<C: Curve>(alloc: Global, curve: &mut C) -> Result<Option<Cells>, AllocError>
     ensures { IfOk result (λ cells. ForSome cells (λ cells. all_minutes cells ≤ 6000000)) }
 {
@@ -42,7 +43,8 @@ fn year_cells<C: Curve>(alloc: Global, curve: &mut C) -> Result<Option<Cells>, A
     Ok(Some(cells))
 }
 
-// Twice a day a tide of half a day is low at 6 and 18 o'clock, and high before noon and midnight.
+// Returns true if a half-daily tide has a low at 6 and 18 o'clock and a high before noon and
+// midnight on each day.
 fn is_a_year(events: &[Event]) -> bool {
     events.len() == 1_464
         && events.first() == Some(&event(BEGIN + 360, Kind::Low, -1_000_000))
@@ -78,7 +80,7 @@ fn a_year_has_its_events(rt: HostRuntime) -> Result<(), Fail> {
     Ok(())
 }
 
-/// The events of a curve in the year, one at a time, and how many cells they were found in.
+/// Returns the events of a curve in the year, found one at a time, and the number of their cells.
 fn one_by_one<C: Curve + Drop>(
     alloc: Global,
     curve: C,
@@ -109,7 +111,7 @@ fn a_year_comes_one_event_at_a_time(rt: HostRuntime) -> Result<(), Fail> {
     Ok(())
 }
 
-/// Whether a text begins and ends with others, and how many bytes it has.
+/// Returns true if `text` has `len` bytes, begins with `begin` and ends with `end`.
 fn has_form(text: &[u8], len: usize, begin: &str, end: &str) -> bool {
     text.len() == len && text.starts_with(begin.as_bytes()) && text.ends_with(end.as_bytes())
 }

@@ -7,7 +7,7 @@ use std::alloc::Global;
 use std::test::Fail;
 use year_blend::{Stretch, year_start};
 
-/// A book of one constituent, three years from 1999 and one station.
+/// Returns harmonic constants of one constituent, three years from 1999 and one station.
 fn pier(
     alloc: Global,
     speed: &str,
@@ -28,7 +28,7 @@ fn pier(
     read_book(alloc, text.as_bytes())
 }
 
-/// The level at a minute, and whether it rises.
+/// Returns the level at minute `m`, and true if it rises there.
 fn told(curve: &StationCurve, m: i64) -> Option<(i64, bool)> {
     let first = curve.first();
     let last = curve.last();
@@ -62,7 +62,7 @@ fn levels_round_a_new_year(rt: HostRuntime) -> Result<(), Fail> {
     Ok(())
 }
 
-/// The near level and the near slope at a minute.
+/// Returns the approximate level and the approximate slope at minute `m`.
 fn nearly(curve: &StationCurve, m: i64) -> Option<(i128, i128)> {
     if m < curve.first() || curve.last() < m {
         return None;
@@ -70,7 +70,7 @@ fn nearly(curve: &StationCurve, m: i64) -> Option<(i128, i128)> {
     Some((curve.near_level(m), curve.near_slope(m)))
 }
 
-/// At 90.5 and at 150 degrees, and by the exact values at a new year.
+/// Approximate values at 90.5 and at 150 degrees, and the exact values at a new year.
 #[test]
 fn near_levels(rt: HostRuntime) -> Result<(), Fail> {
     let book = pier(rt.alloc(), "30", "60", "1", "feet")?;
@@ -105,7 +105,7 @@ fn near_levels(rt: HostRuntime) -> Result<(), Fail> {
     Ok(())
 }
 
-/// Where minutes lie.
+/// Returns the part of a year in which the `n` minutes from `m` on are.
 fn lying(curve: &StationCurve, m: i64, n: u32) -> Option<Stretch> {
     let end = m.checked_add(i64::from(n))?;
     if m < curve.first() || curve.last() < end || 1_024 < n {
@@ -156,7 +156,7 @@ fn sums_of_years(rt: HostRuntime) -> Result<(), Fail> {
     Ok(())
 }
 
-/// Whether a curve has waves in a year.
+/// Returns true if a curve has waves in a year.
 fn has_waves(curve: &StationCurve, year: u32) -> bool {
     year < curve.years() && curve.sums(year).amount > 0
 }

@@ -14,12 +14,12 @@ use std::alloc::{AllocError, Global};
 use std::test::Fail;
 use zone_time::Zone;
 
-// From 2000-01-01T00:00Z to 2001-01-01T00:00Z.
+// The year from 2000-01-01T00:00Z up to 2001-01-01T00:00Z.
 const BEGIN: i64 = 15_778_080;
 
 const END: i64 = 16_305_120;
 
-// 400 bytes.
+// A name of 400 bytes.
 const NAME: &str =
     "0123456789abcdefghijklmnopqrstuvwxyz0123456789abcdefghijklmnopqrstuvwxyz01234567\
     0123456789abcdefghijklmnopqrstuvwxyz0123456789abcdefghijklmnopqrstuvwxyz01234567\
@@ -27,7 +27,7 @@ const NAME: &str =
     0123456789abcdefghijklmnopqrstuvwxyz0123456789abcdefghijklmnopqrstuvwxyz01234567\
     0123456789abcdefghijklmnopqrstuvwxyz0123456789abcdefghijklmnopqrstuvwxyz01234567";
 
-// A low and a high water after the other, 1,412 of them, one foot below and above 0.
+// Returns 1,412 low and high waters by turns, one foot below and above 0.
 fn events_of_year(alloc: Global) -> Result<Events, AllocError>
     ensures { IfOk result (All (IsListed Units.Feet)) }
 {
@@ -43,7 +43,7 @@ fn events_of_year(alloc: Global) -> Result<Events, AllocError>
     events_of(alloc, Units::Feet, items.as_slice())
 }
 
-// The same levels from hour to hour, 8,784 of them.
+// Returns the same levels from hour to hour, 8,784 of them.
 fn rows_of_year(alloc: Global) -> Result<Rows, AllocError>
     ensures { IfOk result (All (λ row. InZoneYears row.minute)) }
 {

@@ -1,4 +1,4 @@
--- The cells of the written rule have the length of their span, and those of the highest water are accepted.
+-- The cells of a span by the rule cover it, and those of the highest water are accepted.
 use Rattle.std.proofs.Common.{◌≡◌, ℕ, zero, suc, ◌+◌, ◌-◌, ◌/◌, ◌≤◌, ◌<◌, ◌==◌, ℤ, pos, ◌+ℤ◌, ◌≤ℤ◌, ◌<ℤ◌, true, false, nat_le, List, [], ◌∷◌, ◌++◌, length, length-append, refl, sym, arith}
 use Rattle.std.specs.Ordering.{int_eq}
 use Rattle.std.proofs.lemmas.Bool.Decides.{nat_tests, Decides-int_eq, Decides-eqb}
@@ -16,7 +16,7 @@ use Rattle.highest_water.specs.Verdicts.{cell_verdict, or_next, cells_verdict, i
 use Rattle.highest_water.proofs.HighestLemmas.{minute-highest}
 use Rattle.highest_water.proofs.CoverLemmas.{split-one, split-step, cover-none, cover-last, cover-block}
 
--- cells of a span, at least one and at most one a minute
+-- cells that cover n minutes, at least one and at most one a minute
 pub record AreWhole (n : ℕ) (cells : List PeakCell) : Type 0 where
   pub whole : all_minutes cells ≡ n
   pub few : length cells ≤ n
@@ -105,7 +105,7 @@ cells_verdict-append c at value a number (x ∷ xs) ys =
     let same : suc number + length xs ≡ number + suc (length xs) = omega arith in
     rw (rest, there, same) (sym (or_next-assoc (cell_verdict c at value a number x) (cells_verdict c at value (a +ℤ pos (minutes_of x)) (suc number) xs) (cells_verdict c at value (a +ℤ pos (minutes_of x + all_minutes xs)) (number + suc (length xs)) ys)))
 
--- each minute of these is no higher
+-- minutes of which none is higher
 record AreFit (c : Meaning) (at value begin end : ℤ) : Type 0 where
   has : c.track.value at ≡ value
   greatest : (m : ℤ) → begin ≤ℤ m → m <ℤ end → c.track.value m ≤ℤ value

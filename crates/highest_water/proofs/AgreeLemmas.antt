@@ -1,4 +1,4 @@
--- Curves that say the same of a span have the same highest water, cells and verdicts there.
+-- Curves that agree over a span have the same highest water, cells and verdicts there.
 use Rattle.std.proofs.Common.{◌≡◌, ℕ, zero, suc, ◌+◌, ◌-◌, ◌/◌, ◌≤◌, ◌<◌, ◌==◌, ℤ, pos, ◌+ℤ◌, ◌-ℤ◌, ◌≤ℤ◌, ◌<ℤ◌, unsigned_abs, ◌&&◌, nat_le, List, [], ◌∷◌, ◌++◌, refl, sym, ap, ◌∙◌, arith}
 use Rattle.std.proofs.lemmas.Bool.Decides.{nat_tests, Decides-eqb}
 use Rattle.std.proofs.lemmas.Int.{ints}
@@ -17,7 +17,7 @@ use Rattle.highest_water.proofs.HighestLemmas.{highest-one, minute-highest}
 pub agree-values : (c d : Meaning) (a : ℤ) (n : ℕ) → AgreeOver c d a n → AgreeOnValues c d a n
 agree-values c d a n agree = record { values = agree.values; rates = agree.rates }
 
--- they say the same of each part of it
+-- curves that agree over a span agree over each part of it
 agree-part : (c d : Meaning) (a : ℤ) (n j k : ℕ) → j + k ≤ n → AgreeOnValues c d a n → AgreeOnValues c d (a +ℤ pos j) k
 agree-part c d a n j k within agree = record {
   values = λ i few. let at : a +ℤ pos j +ℤ pos i ≡ a +ℤ pos (j + i) = omega (arith, ints) in rw at (agree.values (j + i) (omega arith));
@@ -30,7 +30,7 @@ agree-first c d a n k within agree = record {
   rates = λ i l few some most. agree.rates i l (omega arith) some most;
 }
 
--- what they say of the first minute
+-- curves that agree have the same value at the first minute
 value-here : (c d : Meaning) (a : ℤ) (n : ℕ) → AgreeOnValues c d a n → c.track.value a ≡ d.track.value a
 value-here c d a n agree = let here : a +ℤ pos 0 ≡ a = omega (arith, ints) in rw here at (agree.values 0 (omega arith))
 
@@ -66,7 +66,7 @@ minute-agrees c d a (suc n) agree =
     (highest-agrees c d a (suc n) _ _ agree (minute-highest c a (suc n) (omega arith)))
     (minute-highest d a (suc n) (omega arith))).0
 
--- ---- its cells
+-- ---- the cells of the highest water
 
 under-agrees : (c d : Meaning) (at value a : ℤ) (n : ℕ) → AgreeOnValues c d a n → is_under c at value a n ≡ is_under d at value a n
 unfolding is_under

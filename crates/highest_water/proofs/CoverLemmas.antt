@@ -1,4 +1,4 @@
--- The cells of a span by the written rule: how many halvings or blocks are allowed makes no difference.
+-- The cells of a span by the rule don't depend on the number of halvings or blocks that are allowed.
 use Rattle.std.proofs.Common.{◌≡◌, ℕ, zero, suc, ◌-◌, ◌/◌, ◌≤◌, ◌<◌, ℤ, pos, ◌+ℤ◌, Bool, true, false, cond, nat_le, List, [], ◌∷◌, ◌++◌, refl, sym, ap, ◌∙◌, arith}
 use Rattle.std.proofs.lemmas.Bool.Decides.{nat_tests}
 use Rattle.curve_law.specs.Meaning.{Meaning}

@@ -15,11 +15,11 @@ use Rattle.highest_water.proofs.UnderLemmas.{int_lt-true, under-two, under-below
 use Rattle.highest_water.proofs.HighestLemmas.{int_lt-false, highest-one, minute-highest}
 use Rattle.highest_water.proofs.VerdictLemmas.{below-append, below-none, below-one, below-at}
 
--- a point that the curve was asked for
+-- a point at which the curve was evaluated
 pub asked-point : (c : Meaning) (begin end m : ℤ) (p : Point) → begin ≤ℤ m → m <ℤ end → p ≡ record { minute = m; value = c.track.value m } → IsPoint c begin end p
 asked-point c begin end m p from before is = rw is (record { from = from; before = before; value = refl })
 
--- the higher one of two points
+-- the higher of two points
 pub higher-point : (c : Meaning) (begin end : ℤ) (h p : Point) → IsPoint c begin end h → IsPoint c begin end p → IsPoint c begin end (higher_of h p)
 higher-point c begin end h p first second = by_test (is_higher h.minute h.value p.minute p.value)
     (λ higher. rw higher second)
@@ -28,7 +28,7 @@ higher-point c begin end h p first second = by_test (is_higher h.minute h.value 
 pub first-so_far : (c : Meaning) (begin end : ℤ) (h : Point) → IsPoint c begin end h → IsHighestSoFar c begin end begin h
 first-so_far c begin end h point = record { point = point; below = below-none c h.minute h.value begin }
 
--- what is below a point is below a higher one
+-- minutes below a point are below a higher one
 is_higher-value : (at value m v : ℤ) → is_higher at value m v ≡ true → value ≤ℤ v
 is_higher-value at value m v h = grind (arith, ints)
 
@@ -91,12 +91,12 @@ all-so_far c begin end to h all so_far =
       first = λ m from earlier. (rw all at so_far.below).first m from (omega (arith, ints)) earlier;
     }
 
--- a cell has some minutes
+-- a cell has at least one minute
 pub right-some : (c : Meaning) (h : Point) (a : ℤ) (cell : PeakCell) → IsRight c h a cell → 1 ≤ minutes_of cell
 right-some c h a (Under n) right = let two = under-two c h.minute h.value a n right in omega arith
 right-some c h a Single right = omega arith
 
--- the value of a point, and that of the highest water, are small
+-- the value of a point, and that of the highest water, are in range
 pub point-small : (c : Meaning) (begin end : ℤ) (p : Point) → IsLawful c → c.first ≤ℤ begin → end ≤ℤ c.last → IsPoint c begin end p → unsigned_abs p.value < 10 ^ 37
 point-small c begin end p lawful first last point =
     let from = point.from in
@@ -109,7 +109,7 @@ highest-small c begin end at value lawful first last peak =
     let before = peak.before in
     rw (← peak.has) (lawful.values at (record { first = omega (arith, ints); last = omega (arith, ints) }))
 
--- the highest water with its cells is that of a look at each minute
+-- the highest water with its cells is that of an evaluation of each minute
 pub highest-peak_of : (c : Meaning) (begin end at value : ℤ) (cells : List PeakCell) → IsHighest c begin end at value → cells ≡ peak_cover c at value begin (unsigned_abs (end -ℤ begin)) → record { at = at; value = value; cells = cells } ≡ peak_of c begin (unsigned_abs (end -ℤ begin))
 unfolding peak_of
 highest-peak_of c begin end at value cells peak is =
@@ -120,14 +120,14 @@ highest-peak_of c begin end at value cells peak is =
     let one = highest-one c begin end at value _ _ peak looked in
     rw (is, one.1, one.0) refl
 
--- its minute and its value are those of a look at each minute
+-- the minute and the value of the highest water are those of an evaluation of each minute
 pub highest-is : (c : Meaning) (begin end at value : ℤ) → IsHighest c begin end at value
     → (at ≡ (peak_of c begin (unsigned_abs (end -ℤ begin))).at) × (value ≡ (peak_of c begin (unsigned_abs (end -ℤ begin))).value)
 highest-is c begin end at value peak =
     let same = highest-peak_of c begin end at value (peak_cover c at value begin (unsigned_abs (end -ℤ begin))) peak refl in
     (ap (λ (p : Peak). p.at) same, ap (λ (p : Peak). p.value) same)
 
--- the values that the search and then the cover ask for
+-- the number of evaluations of the search and then of the cells
 pub values-counted : (c : Meaning) (begin end at value : ℤ) (before found after : ℕ) → IsHighest c begin end at value → found ≤ before + 2 * unsigned_abs (end -ℤ begin) + 1 → after ≤ found + length (peak_cover c at value begin (unsigned_abs (end -ℤ begin))) + 1 → after ≤ before + 2 * unsigned_abs (end -ℤ begin) + length (peak_of c begin (unsigned_abs (end -ℤ begin))).cells + 2
 values-counted c begin end at value before found after highest first second =
     let same = ap (λ (p : Peak). length p.cells) (highest-peak_of c begin end at value _ highest refl) in

@@ -27,7 +27,7 @@ highest-one c begin end at value other_at other peak another =
     (one_minute c begin end other_at other at value another peak) in
     (one, sym peak.has ∙ ap c.track.value one ∙ another.has)
 
--- one minute more
+-- one more minute
 first-highest : (c : Meaning) (a : ℤ) → IsHighest c a (a +ℤ pos 1) a (c.track.value a)
 first-highest c a = record {
   from = omega (arith, ints);
@@ -76,7 +76,7 @@ first-minute c a =
     let none : int_lt (c.track.value a) (c.track.value a) ≡ false = grind (arith, ints) in
     rw (here, none) refl
 
--- a look at each minute finds it
+-- an evaluation of each minute finds the highest water
 pub minute-highest : (c : Meaning) (a : ℤ) (n : ℕ) → 1 ≤ n → IsHighest c a (a +ℤ pos n) (highest_minute c a n) (c.track.value (highest_minute c a n))
 unfolding highest_minute
 minute-highest c a zero some = absurd (omega arith)

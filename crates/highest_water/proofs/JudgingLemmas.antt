@@ -1,4 +1,4 @@
--- What is found on one cell, and on the cells after it.
+-- The verdict on one cell, and on the cells after it.
 use Rattle.std.proofs.Common.{◌≡◌, ◌≢◌, ℕ, ◌+◌, ◌<◌, ◌≤◌, ◌==◌, ℤ, pos, ◌+ℤ◌, ◌≤ℤ◌, ◌<ℤ◌, unsigned_abs, ◌-ℤ◌, List, ◌∷◌, get_or, drop, length, true, false, refl, sym, add-one, drop-cons, arith}
 use Rattle.std.proofs.lemmas.Int.{ints}
 use Rattle.std.proofs.lemmas.List.{drop_all}
@@ -51,7 +51,7 @@ wrong-first (WrongValue written computed) w wrong = refl
 wrong-first (Above cell) w wrong = refl
 wrong-first Accepted w wrong = absurd (wrong refl)
 
--- of all findings the first is this one, or one on the cells after it, or there are no more
+-- the first verdict is that on this cell, or one on the cells after it, or there are no more cells
 pub first-found : (c : Meaning) (h : Point) (a : ℤ) (number : ℕ) (cells : List PeakCell) (i : ℕ) (d : PeakCell) (all found : PeakVerdict) → i < length cells → all ≡ cells_verdict c h.minute h.value a number (drop i cells) → found ≡ cell_verdict c h.minute h.value a number (get_or cells i d) → found ≢ Accepted → found ≡ all
 unfolding cells_verdict
 first-found c h a number cells i d all found some left is wrong =

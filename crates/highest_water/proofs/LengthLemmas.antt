@@ -1,4 +1,4 @@
--- How many minutes the first cells have.
+-- The number of minutes of the first cells.
 use Rattle.std.proofs.Common.{◌≡◌, ℕ, ◌+◌, ◌-◌, ◌^◌, ◌<◌, min, w64, ℤ, pos, ◌+ℤ◌, List, [], ◌∷◌, get_or, take, length, refl, arith}
 use Rattle.std.specs.Int.{saturate_signed}
 use Rattle.std.proofs.lemmas.Int.{to_z-of_z}
@@ -11,7 +11,7 @@ pub covered-none : pos 0 ≡ pos (min (all_minutes []) (2 ^ 63 - 1))
 unfolding all_minutes
 covered-none = refl
 
--- a sum that stays at the greatest value
+-- a sum that is saturated
 saturated : (a m : ℕ) → saturate_signed w64 (pos (min a (2 ^ 63 - 1)) +ℤ pos m) ≡ pos (min (a + m) (2 ^ 63 - 1))
 saturated a m = grind arith
 

@@ -1,4 +1,5 @@
--- A draft and the lines that it was read from: a certificate of a highest water begins with them.
+-- A state of the parser and the lines that led to it: a certificate of a highest water begins with these
+-- lines.
 use Rattle.std.proofs.Common.{◌≡◌, ℕ, List, [], ◌∷◌, ◌++◌, codes, map, drop, Some, None, lit<, refl, sym, ap, ◌∙◌, subst, append-nil}
 use Rattle.std.specs.List.{AllByRecursion}
 use Rattle.std.proofs.lemmas.List.{map_push}
@@ -20,7 +21,7 @@ use Rattle.highest_water.specs.PeakTexts.{IsPeakValue, IsPeakCell, IsPeakCertifi
 use Rattle.highest_water.specs.Workings.PeakDrafts.{value_of, cell_of, start, with_station, with_begin, with_end, with_at, with_value, with_cell, next_at, next, certificate_in}
 use Rattle.highest_water.proofs.PeakLineLemmas.{value_is, cell_is}
 
--- ---- what a draft knows
+-- ---- the facts of a state
 
 -- the name has been read
 abbrev IsNamedAt : Part → List ℕ → Type 0
@@ -57,7 +58,7 @@ pub record Knows (p : Part) (d : Draft) : Type 0 where
 pub knows_start : Knows Title start
 knows_start = record { part = refl; named = tt; begin = moment_zero; end = moment_zero; at = moment_zero; value = lit< tt; cells = tt; fresh = refl }
 
--- ---- the lines that it was read from
+-- ---- the lines that led to a state
 
 abbrev head_on : Draft → List (List ℕ) → List (List ℕ)
 head_on d lines =
@@ -176,12 +177,12 @@ step_at Value d e line h k = value_steps d e line h k
 step_at Cells d e line h k = cell_steps d e line h k
 step_at Done d e line h k = absurd cc
 
--- the draft after one more line was read from that line too
+-- the lines that led to the state after one more line are those before and this line
 pub step : (p : Part) (d e : Draft) (line : List ℕ) → Knows p d → next d line ≡ Some e → Steps p d e line
 unfolding next
 step p d e line h k = step_at p d e line h (subst (λ q. next_at q d line ≡ Some e) h.part k)
 
--- ---- a certificate begins so
+-- ---- a certificate begins with these lines
 
 pub certificate_known : (p : Part) (d : Draft) (name : List ℕ) → Knows p d → IsStationName name → IsPeakCertificate (certificate_in (record d { station = name }))
 certificate_known p d name h is = record {
@@ -193,14 +194,14 @@ certificate_known p d name h is = record {
   cells = All-from_recursion IsPeakCell d.cells h.cells;
 }
 
--- there is a certificate whose first lines these are
+-- a certificate whose first lines these are
 pub record Front (lines : List (List ℕ)) : Type 0 where
   pub certificate : PeakCertificate
   pub more : List (List ℕ)
   pub is : IsPeakCertificate certificate
   pub all : peak_lines_of certificate ≡ lines ++ more
 
--- that of the draft, with some name
+-- the certificate of a state, with some name
 abbrev named_x : Draft → PeakCertificate
 named_x d = certificate_in (record d { station = codes "x" })
 

@@ -1,4 +1,4 @@
--- How long the text of a certificate of a highest water is.
+-- The length of the text of a certificate of a highest water.
 use Rattle.std.proofs.Common.{◌≡◌, ℕ, ◌+◌, ◌*◌, ◌<◌, ◌≤◌, ltb, List, [], ◌∷◌, codes, length, ℤ, inl, inr, refl, length-append, lit<, arith}
 use Rattle.std.specs.Prelude.{decimal}
 use Rattle.std.specs.Fmt.{signed_decimal}
@@ -34,13 +34,13 @@ minutes_short n low high = elim (cases_Bool (ltb n 10)) [
   | inr more ↦ omega (arith, length-decimal-le 4 n (lit< tt) (omega arith) (omega arith), ltb-false n 10 more)
 ]
 
--- with its LF
+-- the length of a cell's line with its LF
 cell_short : (c : PeakCell) → IsPeakCell c → length (peak_cell_line_of c) + 1 ≤ 2 * minutes_of c
 unfolding peak_cell_line_of
 cell_short (Under n) h = omega (arith, length-append (codes "u ") (decimal n), minutes_short n h.0 h.1)
 cell_short Single h = omega arith
 
--- ---- all of them
+-- ---- all lines
 
 cells_short : (cs : List PeakCell) → AllByRecursion IsPeakCell cs → length (joined (cell_lines_of cs)) ≤ 5 + 2 * all_minutes cs
 unfolding last_line all_minutes

@@ -1,4 +1,5 @@
--- Reading bytes gives the certificate of a highest water whose text they are, or the line of the first fault.
+-- Reading bytes returns the certificate of a highest water whose text they are, or the line of the first
+-- fault.
 use Rattle.std.proofs.Common.{◌≡◌, ℕ, List, ◌++◌, Some, Result, Ok, Err, refl, sym, ap, ◌∙◌, subst}
 use Rattle.std.specs.Prelude.{IfOk, IsErrAnd}
 use Rattle.std.proofs.lemmas.Option.{same_Some}
@@ -25,7 +26,7 @@ use Rattle.highest_water.proofs.PeakGrammarLemmas.{spells-peak_lines_of, peak_li
 use Rattle.highest_water.proofs.PeakDraftLemmas.{Knows, said_at, front, certificate_known}
 use Rattle.highest_water.proofs.PeakRunLemmas.{reached_from_start, final, run-peak_lines_of}
 
--- ---- drafts go by the grammar
+-- ---- states follow the grammar
 
 taken : (c : PeakCertificate) (lines : List (List ℕ)) → SpellsPeak c lines → (d : Draft) × (run next start lines ≡ Some d) × (whole d ≡ Some c)
 taken c lines h =
@@ -100,7 +101,7 @@ pub peak_of-text : (c : PeakCertificate) → IsPeakCertificate c → peak_of (pe
 unfolding peak_of
 peak_of-text c h = ap with_fault (by_line.text_reads SpellsPeak start next whole reader c (peak_text c) (text_of-itself c h))
 
--- what reading line by line gives, with its own faults
+-- the result of reading line by line, with the faults of this crate
 pub given_whole : (bytes : List ℕ) (c : PeakCertificate) → Gives reading_wants_memory (read_from next whole start 1 (pieces bytes)) (Ok c) → Gives wants_memory (peak_of bytes) (Ok c)
 unfolding peak_of
 given_whole bytes c h = ap with_fault h
@@ -114,7 +115,7 @@ pub told_fault : (result : Result PeakCertificate CertFault) (fault : ReadingFau
 told_fault (Ok c) fault h = absurd h
 told_fault (Err own) fault h = ap Err (sym h)
 
--- what reading gives goes by the grammar
+-- the result of reading follows the grammar
 pub reads_given : (bytes : List ℕ) (result : Result PeakCertificate CertFault) → Gives wants_memory (peak_of bytes) result → ReadsPeak bytes result
 reads_given bytes (Ok c) h = subst (ReadsPeak bytes) h (reads-peak_of bytes)
 reads_given bytes (Err NoMemory) h = tt

@@ -1,4 +1,5 @@
--- A draft after many lines: reading the lines of a certificate of a highest water leaves the certificate.
+-- The state after many lines: reading the lines of a certificate of a highest water leads to the
+-- certificate.
 use Rattle.std.proofs.Common.{◌≡◌, ℕ, true, List, [], ◌∷◌, ◌++◌, codes, Some, ℤ, refl, sym, ap, ◌∙◌, append-nil, append_assoc}
 use Rattle.std.specs.List.{AllByRecursion}
 use Rattle.std.specs.Str.{bytes_eq}
@@ -23,7 +24,7 @@ reached_from_start lines e k = reached Knows said_at next step lines Title start
 
 -- ---- the lines of a certificate
 
--- the draft that they leave, and those before it
+-- the state after all lines of a certificate, and those before it
 abbrev draft_at : Part → PeakCertificate → List PeakCell → Draft
 draft_at p c cells = record {
   part = p;

@@ -1,4 +1,5 @@
--- A curve that changes by at most its rate in each minute stays under a value that is far enough from the values at both ends.
+-- A curve that changes by at most its rate in each minute stays under a value that is far enough from the
+-- values at both ends.
 use Rattle.std.proofs.Common.{◌≡◌, ◌⊎◌, inl, inr, ⊎_elim, ℕ, ◌+◌, ◌-◌, ◌*◌, ◌≤◌, ◌<◌, nat_le, ℤ, pos, negsuc, ◌+ℤ◌, ◌-ℤ◌, ◌*ℤ◌, ◌≤ℤ◌, ◌<ℤ◌, unsigned_abs, int_lt, int_le, Bool, true, false, ◌&&◌, ◌||◌, ◌^◌, cond, Option, Some, None, refl, sym, arith}
 use Rattle.std.proofs.lemmas.Bool.{and_parts}
 use Rattle.std.proofs.lemmas.Bool.Decides.{nat_tests}
@@ -11,7 +12,7 @@ use Rattle.highest_water.specs.Covers.{twice_most, stays_below, stays_within, is
 use Rattle.highest_water.specs.Verdicts.{is_inside}
 use Rattle.highest_water.specs.Workings.Below.{AreBelow}
 
--- twice a value inside is at most both values at the ends and the rate times the minutes
+-- twice a value inside is at most both values at the ends plus the rate times the minutes
 twice-most : (f : ℤ → ℤ) (a : ℤ) (r j i : ℕ) → ((k : ℕ) → k < j + i → unsigned_abs (f (a +ℤ pos k +ℤ pos 1) -ℤ f (a +ℤ pos k)) ≤ r) → (pos 2 *ℤ f (a +ℤ pos j)) ≤ℤ (f a +ℤ f (a +ℤ pos (j + i)) +ℤ pos (r * (j + i)))
 twice-most f a r j i steps =
     let first = drift_up f a r j (λ k h. steps k (omega arith)) in
@@ -20,7 +21,7 @@ twice-most f a r j i steps =
     let back = rw end at second in
     omega (arith, ints)
 
--- the same by the law of a rate
+-- twice a value inside, by the law of a rate
 rated-most : (c : Meaning) (a : ℤ) (j i : ℕ) (rate : ℤ) → 1 ≤ j + i → IsRate c a (j + i) rate → (pos 2 *ℤ c.track.value (a +ℤ pos j)) ≤ℤ (c.track.value a +ℤ c.track.value (a +ℤ pos (j + i)) +ℤ (rate *ℤ pos (j + i)))
 rated-most c a j i (negsuc r) some is = absurd (let step = is.steps 0 (omega arith) in omega (arith, ints))
 rated-most c a j i (pos r) some is =
@@ -53,7 +54,7 @@ rate-within rate v w x value n bound stays =
     let less = int_le-true (v +ℤ w +ℤ (rate *ℤ pos n)) (pos 2 *ℤ value) stays in
     omega (arith, ints)
 
--- what a rate says of a minute inside
+-- the bound of a value inside by the rate of a cell
 inside-most : (c : Meaning) (a : ℤ) (n j : ℕ) (rate : ℤ) → c.rate a n ≡ Some rate → IsLawful c → IsSpan c a n → 2 ≤ n → n ≤ MOST_MINUTES → j < n → (pos 2 *ℤ c.track.value (a +ℤ pos j)) ≤ℤ (c.track.value a +ℤ c.track.value (a +ℤ pos n) +ℤ (rate *ℤ pos n))
 inside-most c a n j rate is lawful span two most few =
     let all : j + (n - j) ≡ n = omega arith in
@@ -88,7 +89,7 @@ pub under-few : (c : Meaning) (at value a : ℤ) (n : ℕ) → is_under c at val
 unfolding is_under
 under-few c at value a n under = grind (arith, nat_tests)
 
--- where it ends by the minute, all that it can hold is less; where it begins after it, nothing is greater
+-- a cell that ends by the minute has only lesser values; one that begins after it has no greater one
 abbrev EndsBy : Meaning → ℤ → ℤ → ℤ → ℕ → Type 0
 EndsBy c at value a n = (a +ℤ pos n) ≤ℤ at × (stays_below (c.rate a n) n (c.track.value a) (c.track.value (a +ℤ pos n)) value ≡ true)
 
@@ -104,7 +105,7 @@ under-side c at value a n under =
     (λ after. inr (int_lt-true _ _ after.0, after.1))
     (two_ways _ _ _ _ sides.1)
 
--- a cell that is under doesn't hold the minute
+-- a cell that is under doesn't contain the minute
 pub under-beside : (c : Meaning) (at value a : ℤ) (n : ℕ) → is_under c at value a n ≡ true → a ≤ℤ at → (a +ℤ pos n) ≤ℤ at
 under-beside c at value a n under from =
     elim (under-side c at value a n under) [ inl by ↦ by.0 | inr after ↦ absurd (omega (arith, ints, after.0)) ]
@@ -113,7 +114,7 @@ pub under-other : (c : Meaning) (at value a : ℤ) (n : ℕ) → is_under c at v
 under-other c at value a n under from before =
     let beside = under-beside c at value a n under from in omega (arith, ints)
 
--- and no minute in it is higher
+-- no minute of a cell that is under is higher
 below-of : (c : Meaning) (at value a : ℤ) (n : ℕ) → ((j : ℕ) → j < n → c.track.value (a +ℤ pos j) ≤ℤ value × ((a +ℤ pos j) <ℤ at → c.track.value (a +ℤ pos j) <ℤ value)) → AreBelow c at value a (a +ℤ pos n)
 below-of c at value a n each = record {
   greatest = λ m from before.
@@ -165,7 +166,7 @@ outside-by at a n h later = grind (arith, ints)
 after-not_by : (at a : ℤ) (n : ℕ) → int_lt at a ≡ true → int_le (a +ℤ pos n) at ≡ false
 after-not_by at a n h = grind (arith, ints)
 
--- which of the two bounds counts, where the cell doesn't hold the minute
+-- the bound that counts, if the cell doesn't contain the minute
 abbrev pub low_enough : ℤ → ℤ → Bool → Bool
 low_enough most value is_after = cond is_after (int_le most (pos 2 *ℤ value)) (int_lt most (pos 2 *ℤ value))
 

@@ -1,4 +1,4 @@
--- What an accepted verdict says.
+-- Consequences of an accepting verdict.
 use Rattle.std.proofs.Common.{◌≡◌, ℕ, suc, ◌+◌, ◌==◌, ℤ, pos, ◌+ℤ◌, ◌≤ℤ◌, ◌<ℤ◌, int_lt, Bool, true, false, cond, List, [], ◌∷◌, All, refl, sym, ap, arith, ◌∙◌}
 use Rattle.std.specs.Ordering.{int_eq}
 use Rattle.std.proofs.lemmas.Bool.{and_parts}
@@ -28,7 +28,7 @@ both_accepted (WrongValue written computed) w h = cc
 both_accepted (Above cell) w h = cc
 both_accepted Accepted w h = (refl, h)
 
--- what a test says that chooses acceptance
+-- a test that chooses acceptance is true, if the verdict accepts
 accepted_true : (b : Bool) (v : PeakVerdict) → (v ≡ Accepted → ⊥) → cond b Accepted v ≡ Accepted → b ≡ true
 accepted_true true v unlike h = refl
 accepted_true false v unlike h = absurd (unlike h)
@@ -37,12 +37,12 @@ accepted_false : (b : Bool) (v : PeakVerdict) → (v ≡ Accepted → ⊥) → c
 accepted_false true v unlike h = absurd (unlike h)
 accepted_false false v unlike h = refl
 
--- what a test says that chooses what may be accepted
+-- a test that chooses between two verdicts, one of which never accepts
 tested : (b : Bool) (v w : PeakVerdict) → (w ≡ Accepted → ⊥) → cond b v w ≡ Accepted → (b ≡ true) × (v ≡ Accepted)
 tested true v w unlike h = (refl, h)
 tested false v w unlike h = absurd (unlike h)
 
--- no minute of two spans is higher where none of each is
+-- no minute of two adjacent spans is higher, if none of each is
 pub below-append : (c : Meaning) (at value a b d : ℤ) → AreBelow c at value a b → AreBelow c at value b d → AreBelow c at value a d
 below-append c at value a b d first second = record {
   greatest = λ m from before. by_test (int_lt m b)
@@ -71,14 +71,14 @@ below-one c at value a h =
       first = λ m from before. let one : m ≡ a = omega (arith, ints) in rw one low.1;
     }
 
--- the minute itself
+-- the minute of the highest water itself
 pub below-at : (c : Meaning) (at value a : ℤ) → a ≡ at → c.track.value a ≡ value → AreBelow c at value a (a +ℤ pos 1)
 below-at c at value a here has = record {
   greatest = λ m from before. let one : m ≡ a = omega (arith, ints) in rw (one, has) (omega (arith, ints));
   first = λ m from before earlier. absurd (omega (arith, ints));
 }
 
--- what accepted cells show: no minute is higher, and the minute has the value
+-- the facts of accepted cells: no minute is higher, and the written minute has the written value
 record AreShown (c : Meaning) (at value begin end : ℤ) : Type 0 where
   below : AreBelow c at value begin end
   has : begin ≤ℤ at → at <ℤ end → c.track.value at ≡ value
@@ -128,7 +128,7 @@ accepted-cells c at value a number (cell ∷ cells) lawful span ok =
           (λ more. rest.has (int_lt-false _ _ more) before);
     })
 
--- whoever wrote them, accepted cells show the highest water
+-- accepted cells show the highest water, whoever wrote them
 pub verdict-highest : (c : Meaning) (a : ℤ) (n : ℕ) (peak : Peak) → IsLawful c → IsSpan c a n → peak_verdict c a n peak ≡ Accepted → IsHighest c a (a +ℤ pos n) peak.at peak.value
 unfolding peak_verdict
 verdict-highest c a n peak lawful span ok =
@@ -147,7 +147,7 @@ verdict-highest c a n peak lawful span ok =
       first = λ m begin earlier. shown.below.first m begin (omega (arith, ints)) earlier;
     }
 
--- and so the one that a look at each minute finds
+-- the highest water is the one that an evaluation of each minute finds
 highest-looked : (c : Meaning) (a : ℤ) (n : ℕ) (at value : ℤ) → IsHighest c a (a +ℤ pos n) at value → (at ≡ highest_minute c a n) × (value ≡ c.track.value (highest_minute c a n))
 highest-looked c a n at value peak =
     let from = peak.from in
@@ -157,7 +157,7 @@ highest-looked c a n at value peak =
 pub verdict-looked : (c : Meaning) (a : ℤ) (n : ℕ) (peak : Peak) → IsLawful c → IsSpan c a n → peak_verdict c a n peak ≡ Accepted → (peak.at ≡ highest_minute c a n) × (peak.value ≡ c.track.value (highest_minute c a n))
 verdict-looked c a n peak lawful span ok = highest-looked c a n peak.at peak.value (verdict-highest c a n peak lawful span ok)
 
--- ---- accepted cells lie within their ranges
+-- ---- accepted cells are within their ranges
 
 cell-range : (c : Meaning) (at value a : ℤ) (number : ℕ) (cell : PeakCell) → cell_verdict c at value a number cell ≡ Accepted → IsPeakCell cell
 unfolding cell_verdict
@@ -175,7 +175,7 @@ cells-range c at value a number (cell ∷ cells) ok =
     (cell-range c at value a number cell parts.0)
     (cells-range c at value (a +ℤ pos (minutes_of cell)) (suc number) cells parts.1)
 
--- and have the minutes of the span, whatever the curve is
+-- accepted cells have the minutes of the span, whatever the curve is
 pub verdict-cells : (c : Meaning) (a : ℤ) (n : ℕ) (peak : Peak) → peak_verdict c a n peak ≡ Accepted → (all_minutes peak.cells ≡ n) × All IsPeakCell peak.cells
 unfolding peak_verdict
 verdict-cells c a n peak ok =

@@ -1,4 +1,4 @@
--- How the pieces ahead of a walk change, and what they always have.
+-- The pieces ahead of a walk: their changes, and their invariant.
 use Rattle.std.proofs.Common.{◌≡◌, ℕ, ◌+◌, ◌-◌, ◌/◌, ◌^◌, ◌≤◌, ◌<◌, min, ℤ, pos, ◌+ℤ◌, ◌≤ℤ◌, ◌<ℤ◌, false, true, List, [], ◌∷◌, ◌++◌, length, length-append, refl, sym, ap, arith, append_assoc, nat_le, ◌∙◌}
 use Rattle.std.proofs.lemmas.Int.{ints}
 use Rattle.std.proofs.lemmas.Bool.Decides.{nat_tests}
@@ -15,7 +15,7 @@ use Rattle.highest_water.specs.Workings.Walk.{cells_ahead, Stands, IsRight}
 use Rattle.highest_water.proofs.CoverLemmas.{split-one, split-under, split-halves, cover-none, cover-last, cover-block}
 use Rattle.highest_water.proofs.AcceptedLemmas.{split-whole}
 
--- ---- a block begun gives the same cells
+-- ---- a new block has the same cells
 
 last-cells : (c : Meaning) (h : Point) (end a b : ℤ) → a <ℤ end → minutes_to a end ≤ 1024 → b ≡ end → peak_split c h.minute h.value a (minutes_to a b) ++ peak_cover c h.minute h.value b (minutes_to b end) ≡ peak_cover c h.minute h.value a (minutes_to a end)
 last-cells c h end a b some few is =
@@ -34,7 +34,7 @@ begun-cells c h end a p some is = by_test (nat_le (minutes_to a end) 1024)
     (λ last. let few : minutes_to a end ≤ 1024 = grind (arith, nat_tests) in last-cells c h end a p.minute some few (omega (arith, ints)))
     (λ more. let many : 1024 < minutes_to a end = grind (arith, nat_tests) in more-cells c h end a p.minute some many (omega (arith, ints)))
 
--- as a call tells it
+-- a new block, by the clauses of a call
 pub begun-ahead : (c : Meaning) (end a b : ℤ) (p : Point) (old new : List Point) → a <ℤ end → b ≡ a +ℤ pos (min (minutes_to a end) 1024) → p ≡ record { minute = b; value = c.track.value b } → old ≡ [] → new ≡ [] → (h : Point) → cells_ahead c h end a (p ∷ new) ≡ cells_ahead c h end a old
 begun-ahead c end a b p old new some is point empty none h =
     let q : Point = record { minute = b; value = c.track.value b } in
@@ -52,19 +52,19 @@ begun-stands c count more end at b p old new some is point counted empty none st
       few = omega arith;
     })
 
--- ---- the nearest piece, and what is halved of it
+-- ---- the nearest piece and its halves
 
 pub nearest-piece : (c : Meaning) (count : ℕ) (end : ℤ) (at p : Point) (ps : List Point) → Stands c count end at (p ∷ ps) → IsPiece c c.track.value at p
 nearest-piece c count end at p ps stands = piece-ahead c c.track.value end at p ps stands.value stands.first stands.last stands.pieces
 
--- few enough values were asked for one more
+-- the curve was evaluated seldom enough for one more evaluation
 pub asked-few : (c : Meaning) (count : ℕ) (end : ℤ) (at p : Point) (ps : List Point) → Stands c count end at (p ∷ ps) → count < 2 ^ 63
 asked-few c count end at p ps stands =
     let few = stands.few in
     let waiting = waiting-few c.track.value end at.minute p ps stands.pieces in
     omega arith
 
--- halves instead of their whole
+-- the cells of two halves in place of their whole
 halved-cells : (c : Meaning) (h : Point) (a m b : ℤ) (rest : List PeakCell) → a <ℤ b → 2 ≤ minutes_to a b → is_under c h.minute h.value a (minutes_to a b) ≡ false → m ≡ a +ℤ pos (minutes_to a b / 2) → peak_split c h.minute h.value a (minutes_to a m) ++ (peak_split c h.minute h.value m (minutes_to m b) ++ rest) ≡ peak_split c h.minute h.value a (minutes_to a b) ++ rest
 halved-cells c h a m b rest some two other is =
     let first : minutes_to a m ≡ minutes_to a b / 2 = omega (arith, ints) in
@@ -86,7 +86,7 @@ middle-stands c count end at m p ps stands two is value =
       few = omega arith;
     }
 
--- ---- a walk that begins, and one that is done
+-- ---- the begin and the end of a walk
 
 pub first-stands : (c : Meaning) (count more : ℕ) (begin end : ℤ) (p : Point) (ps : List Point) → IsLawful c → begin ≤ℤ end → c.first ≤ℤ begin → end ≤ℤ c.last → count ≤ 2 ^ 62 + 2 ^ 60 → more ≡ count + 1 → p ≡ record { minute = begin; value = c.track.value begin } → ps ≡ [] → Stands c more end p ps
 unfolding ArePieces
@@ -115,7 +115,7 @@ done-none c h end a done =
 pub done-cells : (c : Meaning) (h : Point) (end a : ℤ) (ps : List Point) → ArePieces c.track.value end a ps → a ≡ end → cells_ahead c h end a ps ≡ []
 done-cells c h end a ps pieces done = rw (done-waiting c end a ps pieces done) (done-none c h end a done)
 
--- ---- a cell is given
+-- ---- a cell is returned
 
 -- the one cell of a piece has its minutes
 cell-minutes : (c : Meaning) (h : Point) (a b : ℤ) (cell : PeakCell) → a <ℤ b → peak_split c h.minute h.value a (minutes_to a b) ≡ cell ∷ [] → b ≡ a +ℤ pos (minutes_of cell)
@@ -140,7 +140,7 @@ some-cells n (cell ∷ cells) some whole = omega arith
 split-some : (c : Meaning) (at value a : ℤ) (n : ℕ) → 1 ≤ n → 1 ≤ length (peak_split c at value a n)
 split-some c at value a n some = some-cells n (peak_split c at value a n) some (split-whole c at value a n some).whole
 
--- and it is right
+-- the one cell of a piece is one minute or is under
 under-right : (c : Meaning) (h : Point) (a : ℤ) (n : ℕ) (cell : PeakCell) → is_under c h.minute h.value a n ≡ true → cell ≡ Under n → IsRight c h a cell
 under-right c h a n cell under is = rw is under
 
@@ -186,7 +186,7 @@ given-stands c count end at p ps stands =
       few = omega (arith, ints);
     }
 
--- each piece has a cell of its own
+-- each piece has at least one cell
 pub points-few : (c : Meaning) (h : Point) (end a : ℤ) (ps : List Point) → ArePieces c.track.value end a ps → length ps ≤ length (cells_ahead c h end a ps)
 unfolding cells_ahead ArePieces
 points-few c h end a [] pieces = omega arith
@@ -196,7 +196,7 @@ points-few c h end a (p ∷ ps) pieces =
     let rest = points-few c h end p.minute ps pieces.3 in
     omega (arith, length-append (peak_split c h.minute h.value a (minutes_to a p.minute)) (cells_ahead c h end p.minute ps))
 
--- ---- how many values are asked for while cells are gathered
+-- ---- the number of evaluations while cells are made
 
 pub counted-more : (xs ahead rest all : List PeakCell) (cell : PeakCell) (start count more w v : ℕ) → xs ++ ahead ≡ all → ahead ≡ cell ∷ rest → v ≤ length rest → more + w ≡ count + v + 1 → count ≤ start + length xs + w + 1 → more ≤ start + length all + 1
 counted-more xs ahead rest all cell start count more w v whole next few step so_far =

@@ -1,4 +1,5 @@
--- The certificate of a highest water that bytes are, as a function of them; it goes by the grammar (this project).
+-- The certificate of a highest water of a text, as a function of its bytes; it is proved to follow the
+-- grammar (this project).
 use Rattle.std.specs.Prelude.{ℕ, List, Result, Ok, Err, Bool, true, false}
 use Rattle.cert_text.specs.declared.fault.CertFault.{CertFault as ReadingFault}
 use Rattle.cert_text.specs.declared.fault.CertFault.TheVariants as reading
@@ -8,19 +9,21 @@ use Rattle.highest_water.specs.declared.fault.CertFault.{CertFault}
 use Rattle.highest_water.specs.declared.fault.CertFault.TheVariants.{NoMemory, NotACertificate}
 use Rattle.highest_water.specs.Workings.PeakDrafts.{start, next, whole}
 
--- a fault of reading line by line
+-- the fault of reading line by line as a fault of this crate
 abbrev pub fault_of : ReadingFault → CertFault
 fault_of reading.NoMemory = NoMemory
 fault_of (reading.NotACertificate line) = NotACertificate line
 
+-- the result of reading line by line with a fault of this crate
 abbrev pub with_fault : {C : Type 0} → Result C ReadingFault → Result C CertFault
 with_fault (Ok said) = Ok said
 with_fault (Err fault) = Err (fault_of fault)
 
--- the certificate, or the line of the fault
+-- the certificate whose text the bytes are, or the line of the fault
 unfoldable pub peak_of : List ℕ → Result PeakCertificate CertFault
 peak_of bytes = with_fault (read_from next whole start 1 (pieces bytes))
 
+-- true if memory ran out
 abbrev pub wants_memory : CertFault → Bool
 wants_memory NoMemory = true
 wants_memory (NotACertificate line) = false

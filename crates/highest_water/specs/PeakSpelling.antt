@@ -1,4 +1,5 @@
--- The grammar of certificates of a highest water: which lines spell which, and where bytes stop being one (this project).
+-- The grammar of certificates of a highest water: the lines that spell one, and the line at which bytes
+-- stop being one (this project).
 use Rattle.std.specs.Prelude.{◌≡◌, ℕ, ◌≤◌, ℤ, List, [], ◌∷◌, ◌++◌, Result, Ok, Err, codes, decimal}
 use Rattle.std.specs.Fmt.{signed_decimal}
 use Rattle.cert_text.specs.Spelling.{SpellsStation, SpellsMoment}
@@ -13,14 +14,16 @@ use Rattle.highest_water.specs.PeakTexts.{IsPeakValue}
 
 -- ---- the lines of a certificate
 
+-- the line of the value
 abbrev pub SpellsValue : ℤ → List ℕ → Type 0
 SpellsValue value line = IsPeakValue value × (line ≡ codes "value " ++ signed_decimal value)
 
+-- the line of a cell
 abbrev pub SpellsPeakCell : PeakCell → List ℕ → Type 0
 SpellsPeakCell (Under n) line = (2 ≤ n) × (n ≤ MOST_MINUTES) × (line ≡ codes "u " ++ decimal n)
 SpellsPeakCell Single line = line ≡ codes "m"
 
--- a line for each cell, and then the last line
+-- the lines of the cells, and then the last line
 abbrev pub SpellsPeakCells : List PeakCell → List (List ℕ) → Type 0
 SpellsPeakCells cells [] = ⊥
 SpellsPeakCells [] (line ∷ lines) = (line ≡ codes "done") × (lines ≡ [])
@@ -39,21 +42,24 @@ SpellsPeak c (title ∷ station ∷ []) = ⊥
 SpellsPeak c (title ∷ []) = ⊥
 SpellsPeak c [] = ⊥
 
--- ---- the text of a certificate, and where bytes are none's
+-- ---- the text of a certificate, and the line at which bytes stop being one
 
+-- the bytes are the text of the certificate
 abbrev pub IsPeakTextOf : PeakCertificate → List ℕ → Type 0
 IsPeakTextOf c bytes = IsTextBy SpellsPeak c bytes
 
+-- the line of the first fault of bytes that are no certificate's text
 abbrev pub IsPeakFaultLine : List ℕ → ℕ → Type 0
 IsPeakFaultLine bytes line = IsFaultBy SpellsPeak bytes line
 
--- ---- what reading says
+-- ---- the result of reading
 
+-- a fault of reading is right; out of memory says nothing
 abbrev pub RefusesPeak : List ℕ → CertFault → Type 0
 RefusesPeak bytes NoMemory = Unit {0}
 RefusesPeak bytes (NotACertificate line) = RefusedBy SpellsPeak bytes line
 
--- a certificate is the one whose text the bytes are; a fault says that they are none, and where; want of memory says nothing
+-- the result of reading is right: the certificate of the text, or the line of its first fault
 abbrev pub ReadsPeak : List ℕ → Result PeakCertificate CertFault → Type 0
 ReadsPeak bytes (Ok c) = IsPeakTextOf c bytes
 ReadsPeak bytes (Err fault) = RefusesPeak bytes fault

@@ -4,7 +4,8 @@ use Rattle.std.specs.Ordering.{int_eq}
 use Rattle.curve_law.specs.Meaning.{Meaning}
 use Rattle.curve_law.specs.declared.quiet.TheConstants.{MOST_MINUTES}
 
--- the first minute that has the greatest value of all minutes from one on and before another, and that value
+-- `at` is the first minute with the greatest value of all minutes from `begin` up to `end`, which isn't one
+-- of them; `value` is this value
 pub record IsHighest (c : Meaning) (begin end at value : ℤ) : Type 0 where
   pub from : begin ≤ℤ at
   pub before : at <ℤ end
@@ -12,21 +13,23 @@ pub record IsHighest (c : Meaning) (begin end at value : ℤ) : Type 0 where
   pub greatest : (m : ℤ) → begin ≤ℤ m → m <ℤ end → c.track.value m ≤ℤ value
   pub first : (m : ℤ) → begin ≤ℤ m → m <ℤ at → c.track.value m <ℤ value
 
--- beside a minute and its value another minute is higher: its value is greater, or as great and it comes first
+-- the minute m with the value v is higher than the minute `at` with `value`: v is greater, or equal and m
+-- comes first
 abbrev pub is_higher : ℤ → ℤ → ℤ → ℤ → Bool
 is_higher at value m v = int_lt value v || (int_eq value v && int_lt m at)
 
--- of two minutes the earlier one, or the later one where its value is greater
+-- the earlier of two minutes, or the later one if its value is greater
 abbrev pub higher_minute : Meaning → ℤ → ℤ → ℤ
 higher_minute c earlier later =
     if int_lt (c.track.value earlier) (c.track.value later) then later else earlier
 
--- that minute, by a look at each of so many minutes from a minute on
+-- the minute of the highest water of the n minutes from a on, by an evaluation of each
 unfoldable pub highest_minute : Meaning → ℤ → ℕ → ℤ
 highest_minute c a zero = a
 highest_minute c a (suc n) = higher_minute c (highest_minute c a n) (a +ℤ pos n)
 
--- two curves say the same of so many minutes: the value at each minute and at their end, and the rate of each cell
+-- two curves agree over n minutes: in the value at each minute and at their end, and in the rate of each
+-- cell
 pub record AgreeOnValues (c d : Meaning) (a : ℤ) (n : ℕ) : Type 0 where
   pub values : (k : ℕ) → k ≤ n → c.track.value (a +ℤ pos k) ≡ d.track.value (a +ℤ pos k)
   pub rates : (k l : ℕ) → k + l ≤ n → 1 ≤ l → l ≤ MOST_MINUTES → c.rate (a +ℤ pos k) l ≡ d.rate (a +ℤ pos k) l

@@ -8,7 +8,7 @@ use Rattle.curve_law.specs.Meaning.{Meaning}
 abbrev pub hill : ℤ → ℤ → ℤ → ℤ
 hill at top m = top -ℤ pos (unsigned_abs (m -ℤ at))
 
--- two hills, of which the higher one counts at each minute
+-- a curve of two hills, whose value at each minute is that of the higher one
 abbrev pub hills : ℤ → ℤ → ℤ → ℤ → ℤ → Meaning
 hills at top other_at other_top rate = record {
   first = negsuc 999999;

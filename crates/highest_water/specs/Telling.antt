@@ -1,13 +1,14 @@
--- The line that tells what is wrong with a certificate of a highest water (this project).
+-- The line that reports the verdict on a certificate of a highest water (this project).
 use Rattle.std.specs.Prelude.{ℕ, List, ◌++◌, codes, decimal}
 use Rattle.std.specs.Fmt.{signed_decimal}
 use Rattle.highest_water.specs.declared.verdict.PeakVerdict.{PeakVerdict}
 use Rattle.highest_water.specs.declared.verdict.PeakVerdict.TheVariants.{WrongLength, Outside, NotUnder, WrongValue, Above, Accepted}
 
--- a cell by its number
+-- the line for a cell by its number, counted from 1
 abbrev pub cell_line : ℕ → List ℕ → List ℕ
 cell_line cell what = codes "Rejected: cell " ++ decimal cell ++ what
 
+-- the line of a verdict
 unfoldable pub verdict_line : PeakVerdict → List ℕ
 verdict_line (WrongLength covered wanted) =
     (codes "Rejected: cells cover " ++ signed_decimal covered) ++ (codes " of " ++ signed_decimal wanted ++ codes " minutes\n")

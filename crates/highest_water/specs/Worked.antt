@@ -1,11 +1,11 @@
--- A certificate of a highest water with its text, and the faults where a line is another (this project).
+-- A certificate of a highest water with its text, and the faults of changed lines (this project).
 use Rattle.std.specs.Prelude.{ℕ, ◌-◌, pos, List, [], ◌∷◌, ◌++◌, codes, replicate, slice_set}
 use Rattle.cert_text.specs.Texts.{joined}
 use Rattle.cert_text.specs.Worked.{Change, change}
 use Rattle.highest_water.specs.declared.certificate.PeakCertificate.{PeakCertificate}
 use Rattle.highest_water.specs.declared.peak_cell.PeakCell.TheVariants.{Under, Single}
 
--- 64 minutes at Pier, the first of which is the highest
+-- a certificate of 64 minutes at Pier, the first of which is the highest
 abbrev pub pier : PeakCertificate
 pier = record {
   station = codes "Pier";
@@ -18,6 +18,7 @@ pier = record {
   };
 }
 
+-- the lines of its text
 abbrev pub pier_lines : List (List ℕ)
 pier_lines =
     codes "peak certificate 1" ∷ codes "station Pier" ∷ codes "begin 2000-01-10T00:00Z" ∷ codes "end 2000-01-10T01:04Z"
@@ -25,10 +26,11 @@ pier_lines =
     ∷ (replicate 16 (codes "m") ++ codes "u 2" ∷ codes "u 2" ∷ codes "u 4" ∷ codes "u 4" ∷ codes "u 4" ∷ codes "u 8" ∷ codes "u 8" ∷ codes "u 16"
     ∷ codes "done" ∷ [])
 
+-- Pier's text with a change
 abbrev pub pier_with : Change → List ℕ
 pier_with c = joined (slice_set pier_lines (c.line - 1) c.text)
 
--- the first line of another kind of certificate, and lines that are none's
+-- changes of the lines, the first into that of another kind of certificate
 abbrev pub changes : List Change
 changes =
     change 1 (codes "tide certificate 2") 1
@@ -52,6 +54,6 @@ changes =
     ∷ change 31 (codes "Done") 31
     ∷ []
 
--- the greatest value and the least have 37 digits
+-- a certificate whose value has the most digits, 37
 abbrev pub widest : PeakCertificate
 widest = record pier { peak = record { at = pos 15791040; value = pos 9999999999999999999999999999999999999; cells = [] } }

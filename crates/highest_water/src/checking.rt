@@ -14,14 +14,14 @@ use crate::peak_cell::PeakCell;
 use crate::verdict::PeakVerdict;
 use curve_law::{Curve, Point, point_at};
 
-/// What is found on a highest water that is said to be that of the minutes from `begin` on and before
-/// `end`, which the curve tells: first whether its cells have these minutes, then whether its own
-/// minute is one of them, and then the first cell that is wrong. Where it is accepted, its minute is
-/// the first one that has the greatest value, and its value is that one, whoever wrote it.
+/// Checks `peak` as the highest water of the minutes from `begin` up to `end`, which isn't one of
+/// them, and over which the curve is valid: first whether its cells have these minutes, then
+/// whether its own minute is one of them, and then each cell in turn. If it is accepted, its minute
+/// is the first one with the greatest value, and its value is this one, whoever wrote it.
 ///
-/// The value that is written is below 10^37 in size. There are fewer than 2^32 cells, and with the
-/// values that the curve was asked for at most 2^62. The curve is asked for at most one value a cell
-/// and one more.
+/// The written value is below 10^37 in size. There are fewer than 2^32 cells, and with the
+/// evaluations of the curve so far at most 2^62. The curve is evaluated at most once a cell and
+/// once more.
 pub fn check_peak<C: Curve>(curve: &mut C, peak: &Peak, begin: i64, end: i64) -> PeakVerdict
     requires forward { begin ≤ℤ end }
     requires first { (C.meaning curve.old).first ≤ℤ begin }
@@ -50,7 +50,7 @@ pub fn check_peak<C: Curve>(curve: &mut C, peak: &Peak, begin: i64, end: i64) ->
     first_finding(curve, highest, peak.cells.as_slice(), begin)
 }
 
-/// Whether a minute is one of a span.
+/// Returns true if `at` is a minute from `begin` up to `end`, which isn't one of them.
 fn is_inside(at: i64, begin: i64, end: i64) -> bool
     requires { begin ≤ℤ end }
     ensures { result ≡ is_inside at begin (unsigned_abs (end -ℤ begin)) }
@@ -58,8 +58,8 @@ fn is_inside(at: i64, begin: i64, end: i64) -> bool
     begin <= at && at < end
 }
 
-/// The first finding on cells that lie over their minutes from `begin` on, by the highest point that
-/// is written.
+/// Returns the verdict of the first cell that is wrong; the cells begin at minute `begin` and
+/// `highest` is the written highest water.
 fn first_finding<C: Curve>(
     curve: &mut C,
     highest: Point,
@@ -87,7 +87,7 @@ fn first_finding<C: Curve>(
     PeakVerdict::Accepted
 }
 
-/// The point at which the cell ends that begins at a minute.
+/// Returns the point at which `cell` ends if it begins at minute `begin`.
 fn end_of<C: Curve>(curve: &mut C, begin: i64, cell: PeakCell) -> Point
     requires span { IsSpan (C.meaning curve.old) begin (minutes_of cell) }
     requires few { C.count curve.old < 2 ^ 63 }

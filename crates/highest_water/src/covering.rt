@@ -9,9 +9,10 @@ use crate::walk::{next_cell, walk_from};
 use curve_law::{Curve, Point};
 use std::alloc::{AllocError, Global};
 
-/// The cells that show the highest water of the minutes from `begin` on and before `end`, which the
-/// curve tells. It is at the minute `at`, and `value` is the value there. The curve was asked for at
-/// most 2^62 values, and is asked for at most one a cell and one more.
+/// Returns the cells that show the highest water of the minutes from `begin` up to `end`, which
+/// isn't one of them, and over which the curve is valid. The highest water is at minute `at`, and
+/// `value` is the value there. The curve was evaluated at most 2^62 times, and is evaluated at most
+/// once a cell and once more.
 pub fn peak_cover<C: Curve>(
     alloc: Global,
     curve: &mut C,
@@ -32,7 +33,7 @@ pub fn peak_cover<C: Curve>(
     cells_by(alloc, curve, begin, end, Point { minute: at, value })
 }
 
-/// The cells of a span by a point, whether or not it is the highest one.
+/// Returns the cells of a span for the point `highest`, which need not be the highest one.
 pub fn cells_by<C: Curve>(
     alloc: Global,
     curve: &mut C,

@@ -1,4 +1,4 @@
-//! A certificate of a highest water that is read line by line.
+//! The parser of a certificate of a highest water, line by line.
 
 ghost use Rattle.std.specs.Prelude.{◌≡◌};
 
@@ -12,7 +12,7 @@ use cert_text::{ItemList, LineDraft, LineFault, moment_after, station_of};
 use decimal_text::Text;
 use std::alloc::Global;
 
-/// What is read so far, and with it what the next line has to be.
+/// The state of the parser: what the lines so far said, and which line comes next.
 #[derive(Drop)]
 pub struct Draft {
     part: Part,
@@ -28,7 +28,7 @@ impl Draft {
     ghost use Rattle.cert_text.specs.ByLine.{Takes};
     ghost use Rattle.highest_water.specs.Workings.PeakDrafts.{start, next_at, certificate_in};
 
-    /// Before the first line. It takes no memory.
+    /// Returns the state before the first line. Doesn't allocate.
     pub fn new(alloc: Global) -> Draft
         ensures { result ≡ start }
     {
@@ -94,7 +94,7 @@ impl Draft {
         Ok(())
     }
 
-    /// Takes a cell or the last line.
+    /// Reads a cell or the last line.
     fn take_cell(&mut self, line: &[u8]) -> Result<(), LineFault>
         ensures { Takes (next_at Part.Cells self.old line.now) self.new result }
     {
@@ -109,6 +109,7 @@ impl Draft {
         Ok(())
     }
 
+    /// Returns the certificate of the lines read.
     fn into_certificate(self) -> PeakCertificate
         ensures { result ≡ certificate_in self }
     {

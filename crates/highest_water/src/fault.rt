@@ -1,16 +1,17 @@
-//! Why bytes have no certificate of a highest water.
+//! The errors of reading a certificate of a highest water.
 
 ghost use Rattle.std.specs.Prelude.{◌≡◌};
 
 use thiserror::Error;
 
-/// Why bytes gave no certificate of a highest water.
+/// An error of reading bytes as a certificate of a highest water.
 #[derive(Clone, Copy, Debug, PartialEq, Eq, Error)]
 pub enum CertFault {
-    /// There was no memory for the certificate.
+    /// Memory ran out.
     #[error("no memory for the certificate")]
     NoMemory,
-    /// The first line with which no certificate goes on, counted from 1.
+    /// The bytes are no certificate's text. `line`, counted from 1, is the first line such that no
+    /// certificate begins with the lines up to it.
     #[error("line {line} is of no certificate")]
     NotACertificate { line: u32 },
 }

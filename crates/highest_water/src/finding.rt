@@ -14,10 +14,10 @@ use curve_law::{Curve, Point, point_at};
 use interval_search::block_end;
 use std::alloc::{AllocError, Global};
 
-/// The highest water of the minutes from `begin` on and before `end`, which the curve tells: the first
-/// minute that has their greatest value, that value, and the cells that show it. There is at least one
-/// minute, and there are at most 5,270,400. The curve was asked for at most 2^62 values, and is asked for
-/// at most two a minute, one a cell of the highest water and two more.
+/// Finds the highest water of the minutes from `begin` up to `end`, which isn't one of them, and
+/// over which the curve is valid: the first minute with their greatest value, this value, and the
+/// cells that show it. There are 1 to 5,270,400 minutes. The curve was evaluated at most 2^62
+/// times, and is evaluated at most twice a minute, once a cell of the highest water and twice more.
 pub fn find_peak<C: Curve>(
     alloc: Global,
     curve: &mut C,
@@ -44,10 +44,10 @@ pub fn find_peak<C: Curve>(
     })
 }
 
-/// The highest water of the minutes from `begin` on and before `end`, which the curve tells: the first
-/// minute that has their greatest value, and that value. There is at least one minute, and there are at
-/// most 5,270,400. The curve was asked for at most 2^62 values, and is asked for at most two a minute
-/// and one more. It makes no cells and doesn't allocate.
+/// Finds the highest water of the minutes from `begin` up to `end`, which isn't one of them, and
+/// over which the curve is valid: the first minute with their greatest value, and this value. There
+/// are 1 to 5,270,400 minutes. The curve was evaluated at most 2^62 times, and is evaluated at most
+/// twice a minute and once more. Makes no cells and doesn't allocate.
 pub fn highest_point<C: Curve>(curve: &mut C, begin: i64, end: i64) -> Point
     requires some { begin <ℤ end }
     requires short { (end -ℤ begin) ≤ℤ pos 5270400 }
@@ -70,8 +70,8 @@ pub fn highest_point<C: Curve>(curve: &mut C, begin: i64, end: i64) -> Point
     highest
 }
 
-/// The highest of the points at which blocks begin: from it on most cells are low enough to be passed
-/// over.
+/// Returns the highest of the points at which blocks begin. A search that starts with it can skip
+/// most cells, which are low enough.
 fn highest_block<C: Curve>(curve: &mut C, begin: i64, end: i64) -> Point
     requires some { begin <ℤ end }
     requires first { (C.meaning curve.old).first ≤ℤ begin }

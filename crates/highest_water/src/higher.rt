@@ -1,4 +1,4 @@
-//! Which of two points is the higher one.
+//! The order of points by height.
 
 ghost use Rattle.std.specs.Prelude.{◌≡◌};
 ghost use Rattle.highest_water.specs.Peaks.{is_higher};
@@ -8,14 +8,15 @@ use crate::peak_cell::PeakCell;
 use crate::walk::Found;
 use curve_law::Point;
 
-/// Whether a point is higher than another one: its value is greater, or as great and it comes first.
+/// Returns true if `point` is higher than `highest`: its value is greater, or equal and its minute
+/// is earlier.
 pub fn is_higher(highest: Point, point: Point) -> bool
     ensures { result ≡ is_higher highest.minute highest.value point.minute point.value }
 {
     point.value > highest.value || (point.value == highest.value && point.minute < highest.minute)
 }
 
-/// The higher one of two points.
+/// Returns the higher of two points.
 pub fn higher_of(highest: Point, point: Point) -> Point
     ensures { result ≡ higher_of highest point }
 {
@@ -26,7 +27,7 @@ pub fn higher_of(highest: Point, point: Point) -> Point
     }
 }
 
-/// The highest point after one more cell: a single minute may be higher.
+/// Returns the highest point after the cell `found`: a single minute may be higher.
 pub fn raised_by(highest: Point, found: Found) -> Point
     ensures { result ≡ raised_by highest found }
 {

@@ -1,4 +1,4 @@
-//! What is found on one cell.
+//! The check of one cell.
 
 ghost use Rattle.std.specs.Prelude.{◌≡◌, ◌^◌, ◌<◌, pos, ◌+ℤ◌, unsigned_abs};
 ghost use Rattle.curve_law.specs.Meaning.{IsSpan};
@@ -12,8 +12,8 @@ use crate::under::is_under;
 use crate::verdict::PeakVerdict;
 use curve_law::{Curve, Point};
 
-/// The finding on the cell of a number, which begins at a point, by the value at its end and by the
-/// highest point that is written.
+/// Returns the verdict on `cell`, which has the number `number` and begins at the point `at`;
+/// `end_value` is the value at its end and `highest` the written highest water.
 pub fn finding_on<C: Curve>(
     curve: &C,
     highest: Point,
@@ -36,6 +36,7 @@ pub fn finding_on<C: Curve>(
     }
 }
 
+/// Returns the verdict on a cell of several minutes.
 fn under_finding(number: u32, is_under: bool) -> PeakVerdict
     ensures { result ≡ under_finding number is_under }
 {
@@ -46,7 +47,7 @@ fn under_finding(number: u32, is_under: bool) -> PeakVerdict
     }
 }
 
-/// The finding on a single minute: the highest one has the value that is written, and no other one is
+/// Returns the verdict on a single minute: the highest one has the written value, and no other is
 /// higher.
 fn single_finding(highest: Point, number: u32, at: Point) -> PeakVerdict
     ensures { result ≡ single_finding highest number at }
@@ -60,6 +61,7 @@ fn single_finding(highest: Point, number: u32, at: Point) -> PeakVerdict
     PeakVerdict::Accepted
 }
 
+/// Returns the verdict on the written value of the highest water's own minute.
 fn value_finding(written: i128, computed: i128) -> PeakVerdict
     ensures { result ≡ value_finding written computed }
 {

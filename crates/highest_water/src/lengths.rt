@@ -1,11 +1,11 @@
-//! How many minutes cells have.
+//! The lengths of cells.
 
 ghost use Rattle.std.specs.Prelude.{◌≡◌, ◌-◌, ◌^◌, pos, min};
 ghost use Rattle.highest_water.specs.Covers.{minutes_of, all_minutes};
 
 use crate::peak_cell::PeakCell;
 
-/// The minutes of a cell.
+/// Returns the number of minutes of `cell`.
 pub fn minutes_of(cell: PeakCell) -> u32
     ensures { result ≡ minutes_of cell }
 {
@@ -15,7 +15,7 @@ pub fn minutes_of(cell: PeakCell) -> u32
     }
 }
 
-/// The minutes of all cells, or the greatest `i64` where they have more.
+/// Returns the number of minutes of `cells`, or the greatest `i64` if it is greater.
 #[tactic(auto, using(crate::proofs::LengthLemmas::covering))]
 pub fn covered_by(cells: &[PeakCell]) -> i64
     ensures { result ≡ pos (min (all_minutes cells.now) (2 ^ 63 - 1)) }

@@ -1,10 +1,10 @@
-//! The highest water of a span, and the certificate of it.
+//! The highest water of a span, and its certificate.
 //!
-//! A [`Peak`] is the least minute that has a curve's greatest value, that value, and cells that show
-//! it: those in which the curve's rate leaves no room for a greater value, nor before that minute for
-//! one as great, and single minutes.
-//! [`find_peak`] finds one and [`check_peak`] checks one that anybody wrote, as the text that
-//! [`write_peak`] writes and [`read_peak`] reads. `specs/` has each of them.
+//! A [`Peak`] is the first minute with a curve's greatest value, this value, and the cells that
+//! show it: cells in which the curve's rate excludes a greater value, and before that minute an
+//! equal one, and single minutes. [`find_peak`] finds one and [`check_peak`] checks one that
+//! anybody wrote. [`write_peak`] and [`read_peak`] write and read its text. `specs/` has the
+//! definition of each.
 #![tactic(auto)]
 
 mod certificate;

@@ -1,4 +1,4 @@
-//! Lines of a highest water, read.
+//! The lines of a certificate of a highest water, read.
 
 ghost use Rattle.std.specs.Prelude.{◌≡◌};
 ghost use Rattle.highest_water.specs.Workings.PeakDrafts.{value_of, under_for, under_of, cell_of};
@@ -7,12 +7,13 @@ use crate::peak_cell::PeakCell;
 use cert_text::{after, number_of, size_of};
 use curve_law::MOST_MINUTES;
 
-/// The most digits of a value, and those of a cell's minutes.
+/// The greatest number of digits of a value.
 const VALUE_DIGITS: usize = 37;
 
+/// The greatest number of digits of a cell's minutes.
 const MINUTE_DIGITS: usize = 4;
 
-/// The value of its line.
+/// Reads the value from its line, or returns `None` if `line` isn't one.
 #[tactic(auto, unfolding(crate::specs::Workings::PeakDrafts::value_of))]
 pub fn value_of(line: &[u8]) -> Option<i128>
     ensures { result ≡ value_of line.now }
@@ -20,6 +21,7 @@ pub fn value_of(line: &[u8]) -> Option<i128>
     number_of(after(b"value ".as_slice(), line)?, VALUE_DIGITS)
 }
 
+/// Returns a cell of `minutes` that is under, or `None` unless they are 2 to 1,024.
 fn under_for(minutes: u128) -> Option<PeakCell>
     ensures { result ≡ under_for minutes }
 {
@@ -30,6 +32,7 @@ fn under_for(minutes: u128) -> Option<PeakCell>
     }
 }
 
+/// Reads the line of a cell that is under, or returns `None` if `line` isn't one.
 #[tactic(auto, unfolding(crate::specs::Workings::PeakDrafts::under_of))]
 fn under_of(line: &[u8]) -> Option<PeakCell>
     ensures { result ≡ under_of line.now }
@@ -37,7 +40,7 @@ fn under_of(line: &[u8]) -> Option<PeakCell>
     under_for(size_of(after(b"u ".as_slice(), line)?, MINUTE_DIGITS)?)
 }
 
-/// The cell of its line.
+/// Reads the line of a cell, or returns `None` if `line` isn't one.
 #[tactic(auto, unfolding(crate::specs::Workings::PeakDrafts::cell_of))]
 pub fn cell_of(line: &[u8]) -> Option<PeakCell>
     ensures { result ≡ cell_of line.now }

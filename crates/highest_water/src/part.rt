@@ -1,6 +1,6 @@
-//! Where the lines of a certificate stand.
+//! The parts of the text of a certificate.
 
-/// What the next line has to be.
+/// The part of the text to which the next line belongs.
 #[derive(Clone, Copy)]
 pub enum Part {
     Title,
@@ -11,6 +11,6 @@ pub enum Part {
     Value,
     /// A cell, or the last line.
     Cells,
-    /// Nothing: the last line has come.
+    /// No part: the last line was read.
     Done,
 }

@@ -1,11 +1,11 @@
 //! The cells of a highest water.
 
-/// A stretch of a span, beside the minute of its highest water.
+/// A cell of a highest water: minutes of the span that lie one after the other.
 #[derive(Clone, Copy, Debug, PartialEq, Eq)]
 pub enum PeakCell {
-    /// So many minutes, from 2 to 1,024, that hold no greater value, and before the minute of the
-    /// highest water none as great.
+    /// A cell of 2 to 1,024 minutes that is under the highest water: none has a greater value, and
+    /// none before the minute of the highest water an equal one.
     Under(u32),
-    /// One minute, whose value is looked at.
+    /// A cell of one minute, which is evaluated.
     Single,
 }

@@ -5,7 +5,7 @@ ghost use Rattle.std.specs.Prelude.{◌≡◌};
 use crate::peak_cell::PeakCell;
 use std::marker::Model;
 
-/// Cells that lie one after the other. Contracts see it as the list of them.
+/// Cells that lie one after the other. Contracts see it as a list.
 #[derive(Clone, Debug, Drop)]
 pub struct PeakCells {
     items: Vec<PeakCell>,
@@ -21,14 +21,14 @@ impl Model for PeakCells {
 }
 
 impl PeakCells {
-    /// The list of a vector's cells. It takes no memory.
+    /// Returns the list of the cells in `items`. Doesn't allocate.
     pub fn from_vec(items: Vec<PeakCell>) -> PeakCells
         ensures { result ≡ items.items }
     {
         PeakCells { items }
     }
 
-    /// The cells, lent.
+    /// Returns the cells as a slice.
     pub fn as_slice(&self) -> &[PeakCell]
         ensures { result.now ≡ self.now }
     {

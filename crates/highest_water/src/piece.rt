@@ -1,4 +1,4 @@
-//! What lies between two points.
+//! The minutes between two points.
 
 ghost use Rattle.std.specs.Prelude.{◌≡◌, ◌+◌, ◌/◌, ◌<◌, ◌^◌, pos, ◌+ℤ◌, unsigned_abs};
 ghost use Rattle.interval_search.specs.Workings.Ahead.{minutes_to, IsPiece};
@@ -9,7 +9,8 @@ use crate::under::is_under;
 use curve_law::{Curve, Point, point_at};
 use interval_search::{halfway, minutes_to};
 
-/// The one cell of the minutes between two points, or none where they have to be halved.
+/// Returns the one cell of the minutes from `begin` up to `end`, or `None` if they have to be
+/// halved.
 pub fn cell_between<C: Curve>(
     curve: &C,
     highest: Point,
@@ -31,8 +32,8 @@ pub fn cell_between<C: Curve>(
     }
 }
 
-/// The point where the second half of a piece begins; the first half is the shorter one. The curve,
-/// which was asked for fewer than 2^63 values, is asked for one more.
+/// Returns the point at which the second half of the minutes begins; the first half is the shorter
+/// one. The curve, which was evaluated fewer than 2^63 times, is evaluated once.
 pub fn middle<C: Curve>(curve: &mut C, begin: Point, end: Point) -> Point
     requires piece { IsPiece (C.meaning curve.old) (C.meaning curve.old).track.value begin end }
     requires few { C.count curve.old < 2 ^ 63 }

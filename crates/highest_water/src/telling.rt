@@ -1,4 +1,4 @@
-//! The line that tells of a verdict.
+//! The line that reports a verdict.
 
 ghost use Rattle.std.specs.Prelude.{◌≡◌, ◌++◌, codes, IfOk, string_bytes};
 ghost use Rattle.std.specs.Fmt.{signed_decimal};
@@ -8,7 +8,7 @@ use crate::verdict::PeakVerdict;
 use decimal_text::Bytes;
 use std::alloc::{AllocError, Global};
 
-/// The line that tells of a verdict, with its LF: `Accepted`, or `Rejected` and what is wrong.
+/// Returns the line that reports `verdict`, with its LF: `Accepted`, or `Rejected` and the fault.
 #[tactic(auto, unfolding(crate::specs::Telling::verdict_line))]
 pub fn verdict_line(alloc: Global, verdict: PeakVerdict) -> Result<Bytes, AllocError>
     ensures { IfOk result (λ line. line ≡ verdict_line verdict) }
@@ -24,6 +24,7 @@ pub fn verdict_line(alloc: Global, verdict: PeakVerdict) -> Result<Bytes, AllocE
     Ok(Bytes::from_vec(text.into_bytes()))
 }
 
+/// Returns the line for cells that cover `covered` minutes in place of `wanted`.
 fn length_line(alloc: Global, covered: i64, wanted: i64) -> Result<String, AllocError>
     ensures { IfOk result (λ text. string_bytes text
         ≡ (codes "Rejected: cells cover " ++ signed_decimal covered) ++ (codes " of " ++ signed_decimal wanted ++ codes " minutes\n")) }
@@ -34,7 +35,7 @@ fn length_line(alloc: Global, covered: i64, wanted: i64) -> Result<String, Alloc
     Ok(text)
 }
 
-// A cell by its number, and what is said of it.
+// Returns the line for the cell with the number `cell`, counted from 1.
 fn cell_line(alloc: Global, cell: u32, what: &str) -> Result<String, AllocError>
     ensures { IfOk result (λ text. string_bytes text ≡ cell_line cell what.now) }
 {
@@ -43,6 +44,7 @@ fn cell_line(alloc: Global, cell: u32, what: &str) -> Result<String, AllocError>
     Ok(text)
 }
 
+/// Returns the line for a value `written` that isn't the `computed` one.
 fn value_line(alloc: Global, written: i128, computed: i128) -> Result<String, AllocError>
     ensures { IfOk result (λ text. string_bytes text
         ≡ (codes "Rejected: value " ++ signed_decimal written) ++ (codes ", computed " ++ signed_decimal computed ++ codes "\n")) }

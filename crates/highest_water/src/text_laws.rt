@@ -1,4 +1,4 @@
-//! What follows of the grammar of certificates of a highest water.
+//! Consequences of the grammar of certificates of a highest water.
 
 ghost use Rattle.std.specs.Prelude.{◌≡◌, ◌≢◌, ℕ, ◌+◌, ◌*◌, ◌<◌, ◌≤◌, List, length, Ok, Err};
 ghost use Rattle.highest_water.specs.declared.certificate.PeakCertificate.{PeakCertificate};
@@ -8,8 +8,8 @@ ghost use Rattle.highest_water.specs.PeakTexts.{IsPeakCertificate, peak_lines_of
 ghost use Rattle.highest_water.specs.PeakSpelling.{SpellsPeak, IsPeakTextOf, IsPeakFaultLine, ReadsPeak};
 ghost use Rattle.highest_water.specs.PeakReadings.{peak_of};
 
-/// Each certificate whose parts lie within their ranges has exactly one text, no other has one, and
-/// each text has at most one certificate.
+/// Each certificate whose parts are within their ranges has exactly one text, no other certificate
+/// has one, and each text has at most one certificate.
 pub fn peak_certificates_have_one_text()
     ensures lines { (c : PeakCertificate) → IsPeakCertificate c → SpellsPeak c (peak_lines_of c) }
     ensures only_lines { (c : PeakCertificate) (lines : List (List ℕ)) →
@@ -21,9 +21,9 @@ pub fn peak_certificates_have_one_text()
         IsPeakTextOf c bytes → IsPeakTextOf d bytes → c ≡ d }
 {}
 
-/// The cells take at most two bytes for each minute that they hold, and all the rest at most 545. Where
-/// they hold no more than the 5,270,400 minutes of the longest span, the text is shorter than 10,542,000
-/// bytes, and so can be read again.
+/// The cells have at most two bytes for each of their minutes, and all the rest of the text at most
+/// 545. If they have no more than the 5,270,400 minutes of the longest span, the text has fewer
+/// than 10,542,000 bytes, and so can be read again.
 pub fn peak_texts_are_short()
     ensures short { (c : PeakCertificate) → IsPeakCertificate c →
         length (peak_text c) ≤ 545 + 2 * all_minutes c.peak.cells }
@@ -31,9 +31,9 @@ pub fn peak_texts_are_short()
         length (peak_text c) < 10542000 }
 {}
 
-/// Reading by lines goes by the grammar for all bytes, and never tells of want of memory: it gives
-/// the certificate whose text they are, or the one line of the fault where they are none's. The text
-/// of a certificate reads as the certificate.
+/// Reading by lines follows the grammar for all bytes, memory apart: it yields the certificate
+/// whose text the bytes are, or the one line of the fault if they are no certificate's. The text of
+/// a certificate reads as this certificate.
 pub fn peak_readings_go_by_the_grammar()
     ensures reads { (bytes : List ℕ) → ReadsPeak bytes (peak_of bytes) }
     ensures never_memory { (bytes : List ℕ) → peak_of bytes ≢ Err CertFault.NoMemory }

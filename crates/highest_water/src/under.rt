@@ -1,4 +1,4 @@
-//! Which cells are under a minute's value.
+//! Cells that are under the highest water.
 
 ghost use Rattle.std.specs.Prelude.{◌≡◌, ◌*◌, ◌^◌, ◌<◌, ◌≤◌, pos, ◌+ℤ◌, ◌*ℤ◌, ◌≤ℤ◌, ◌<ℤ◌, unsigned_abs, int_lt, int_le, if◌then◌else◌};
 ghost use Rattle.curve_law.specs.declared.quiet.TheConstants.{MOST_MINUTES};
@@ -8,8 +8,8 @@ ghost use Rattle.highest_water.specs.Verdicts.{is_inside};
 
 use curve_law::{Curve, MOST_MINUTES, Point, most_change};
 
-/// Whether the cell of the `n` minutes from a point on is under the highest water, by the value at the
-/// cell's end.
+/// Returns true if the cell of the `n` minutes from the point `begin` on is under `highest`;
+/// `end_value` is the value at the cell's end.
 pub fn is_under<C: Curve>(curve: &C, highest: Point, begin: Point, n: u32, end_value: i128) -> bool
     requires size { unsigned_abs highest.value < 10 ^ 37 }
     requires span { IsSpan (C.meaning curve.now) begin.minute n }
@@ -34,7 +34,7 @@ pub fn is_under<C: Curve>(curve: &C, highest: Point, begin: Point, n: u32, end_v
     }
 }
 
-/// Whether a minute is one of the `n` minutes from `begin` on.
+/// Returns true if `minute` is one of the `n` minutes from `begin` on.
 fn holds(begin: i64, n: u32, minute: i64) -> bool
     requires near { unsigned_abs begin ≤ 2 ^ 60 }
     ensures { result ≡ is_inside minute begin n }
@@ -42,7 +42,7 @@ fn holds(begin: i64, n: u32, minute: i64) -> bool
     begin <= minute && minute < begin + i64::from(n)
 }
 
-/// Twice the greatest value that a rate leaves room for between two values.
+/// Returns twice the greatest value that `rate` allows between two values `n` minutes apart.
 fn twice_most(rate: i128, n: u32, value: i128, end_value: i128) -> i128
     requires positive { pos 0 ≤ℤ rate }
     requires rate { (rate *ℤ pos MOST_MINUTES) <ℤ pos (5 * 10 ^ 37) }
@@ -55,8 +55,8 @@ fn twice_most(rate: i128, n: u32, value: i128, end_value: i128) -> i128
     value + end_value + most_change(rate, n)
 }
 
-/// Whether twice a cell's greatest value is low enough: after the highest water it may be as great,
-/// before it it has to be less.
+/// Returns true if the greatest value of a cell, of which `twice_most` is twice the bound, is low
+/// enough: at most `value` after the highest water, and below it before.
 fn is_low(twice_most: i128, value: i128, is_after: bool) -> bool
     requires size { unsigned_abs value < 10 ^ 37 }
     ensures { result ≡ (if is_after then int_le twice_most (pos 2 *ℤ value) else int_lt twice_most (pos 2 *ℤ value)) }

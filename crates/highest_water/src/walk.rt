@@ -11,21 +11,22 @@ use crate::piece::{cell_between, middle};
 use curve_law::{Curve, Point, point_at};
 use interval_search::{Waiting, block_end};
 
-/// A cell, and the point where it ends.
+/// A cell, and the point at which it ends.
 #[derive(Clone, Copy, Debug)]
 pub struct Step {
     pub end: Point,
     pub cell: PeakCell,
 }
 
-/// A cell, and the point where it begins.
+/// A cell, and the point at which it begins.
 #[derive(Clone, Copy, Debug)]
 pub struct Found {
     pub at: Point,
     pub cell: PeakCell,
 }
 
-/// The end of the nearest piece, which is taken off, or else of the next block.
+/// Removes and returns the end of the nearest piece, or returns the end of the next block if there
+/// is none.
 fn nearest_end<C: Curve>(curve: &mut C, waiting: &mut Waiting, at: Point, end: i64) -> Point
     requires stands { Stands (C.meaning curve.old) (C.count curve.old) end at waiting.old }
     requires onward { at.minute <ℤ end }
@@ -41,7 +42,8 @@ fn nearest_end<C: Curve>(curve: &mut C, waiting: &mut Waiting, at: Point, end: i
     }
 }
 
-/// The first cell of the nearest piece, which is halved until it is one.
+/// Returns the first cell of the piece from `at` up to `near`, which is halved until it is one
+/// cell.
 fn nearest_step<C: Curve>(
     curve: &mut C,
     waiting: &mut Waiting,
@@ -70,8 +72,8 @@ fn nearest_step<C: Curve>(
     }
 }
 
-/// How far a walk over a span has come: to a point, with the ends of the pieces ahead of it at which
-/// the values are known, the nearest one first, and on to the span's end.
+/// The progress of a walk over a span: the point reached; the ends of the pieces ahead of it whose
+/// values are known, the nearest one first; and the span's end.
 #[derive(Debug, Drop)]
 pub struct Walk {
     pub at: Point,
@@ -79,7 +81,7 @@ pub struct Walk {
     pub end: i64,
 }
 
-/// The walk from a minute on.
+/// Returns the walk from minute `begin` up to `end`.
 pub fn walk_from<C: Curve>(curve: &mut C, begin: i64, end: i64) -> Walk
     requires forward { begin ≤ℤ end }
     requires first { (C.meaning curve.old).first ≤ℤ begin }
@@ -101,7 +103,7 @@ pub fn walk_from<C: Curve>(curve: &mut C, begin: i64, end: i64) -> Walk
     }
 }
 
-/// The next cell by a minute and its value, and where it begins. None is left where the walk is at
+/// Returns the next cell for the point `highest`, with the point at which it begins, or `None` at
 /// the end.
 pub fn next_cell<C: Curve>(curve: &mut C, walk: &mut Walk, highest: Point) -> Option<Found>
     requires size { unsigned_abs highest.value < 10 ^ 37 }

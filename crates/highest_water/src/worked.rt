@@ -1,4 +1,4 @@
-//! Highest waters, cells and verdicts that were worked out by hand.
+//! Highest waters, cells and verdicts worked out by hand.
 
 ghost use Rattle.std.specs.Prelude.{◌≡◌, pos, negsuc, true, false, [], ◌∷◌};
 ghost use Rattle.curve_law.specs.Samples.{line, ripple};
@@ -9,8 +9,8 @@ ghost use Rattle.highest_water.specs.Covers.{is_under, peak_cover};
 ghost use Rattle.highest_water.specs.Samples.{hills};
 ghost use Rattle.highest_water.specs.Verdicts.{peak_verdict};
 
-/// Minutes of highest waters. Of two tops of the same value the first one counts, and the minute at
-/// which a span ends is none of its minutes.
+/// The minutes of highest waters. Of two equal tops the first one counts, and the minute at which a
+/// span ends is none of its minutes.
 #[tactic(auto, unfolding(crate::specs::Peaks::highest_minute))]
 pub fn worked_minutes()
     ensures equal_tops { highest_minute (hills (pos 2) (pos 5) (pos 6) (pos 5) (pos 1)) (pos 0) 8 ≡ pos 2 }
@@ -22,7 +22,8 @@ pub fn worked_minutes()
     ensures first_even { highest_minute ripple (pos 3) 6 ≡ pos 4 }
 {}
 
-/// Cells under a value. A bound of exactly the value is low enough after its minute and not before it.
+/// Cells under a value. A bound equal to the value is low enough after the highest water and not
+/// before it.
 #[tactic(auto, unfolding(crate::specs::Covers::stays_below, crate::specs::Covers::stays_within, crate::specs::Covers::is_under))]
 pub fn worked_cells_under()
     ensures exactly_before { is_under (line (pos 0) false (pos 1)) (pos 7) (pos 7) (pos 5) 2 ≡ false }
@@ -56,8 +57,8 @@ pub fn worked_covers()
         ∷ PeakCell.Under 64 ∷ PeakCell.Under 128 ∷ PeakCell.Under 256 ∷ PeakCell.Under 512 ∷ PeakCell.Single ∷ [] }
 {}
 
-/// Verdicts on highest waters of two tops of the value 5, at the minutes 2 and 6, over the minutes
-/// from 0 to 8.
+/// Verdicts on highest waters of two tops with the value 5, at minutes 2 and 6, over minutes 0 to
+/// 8.
 #[tactic(auto, unfolding(crate::specs::Covers::all_minutes, crate::specs::Covers::stays_below, crate::specs::Covers::stays_within, crate::specs::Covers::is_under, crate::specs::Verdicts::cell_verdict, crate::specs::Verdicts::cells_verdict, crate::specs::Verdicts::peak_verdict))]
 pub fn worked_verdicts()
     ensures by_halves { peak_verdict (hills (pos 2) (pos 5) (pos 6) (pos 5) (pos 1)) (pos 0) 8 (record {

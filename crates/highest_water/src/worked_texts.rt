@@ -1,4 +1,4 @@
-//! Certificates of a highest water that were worked out by hand.
+//! Certificates of a highest water worked out by hand.
 
 ghost use Rattle.std.specs.Prelude.{◌≡◌, ◌++◌, codes, map, take, Ok, Err};
 ghost use Rattle.cert_text.specs.Texts.{joined};
@@ -7,13 +7,13 @@ ghost use Rattle.highest_water.specs.PeakTexts.{peak_text};
 ghost use Rattle.highest_water.specs.PeakReadings.{peak_of};
 ghost use Rattle.highest_water.specs.Worked.{pier, pier_lines, pier_with, changes};
 
-/// The text of 64 minutes.
+/// The text of a certificate of 64 minutes.
 pub fn worked_peak_texts()
     ensures pier { peak_text pier ≡ joined pier_lines }
 {}
 
-/// What texts read as: the text's certificate, and the line of the fault where a line is another, the
-/// last lines are missing, or more follows.
+/// The results of reading a whole text, and texts in which a line is changed, the last lines are
+/// missing or more follows: the certificate, or the line of the fault.
 pub fn worked_peak_readings()
     ensures pier { peak_of (joined pier_lines) ≡ Ok pier }
     ensures changed { map (λ c. peak_of (pier_with c)) changes ≡ map (λ c. Err (CertFault.NotACertificate c.at)) changes }

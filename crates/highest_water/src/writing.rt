@@ -1,4 +1,4 @@
-//! Writing a certificate of a highest water.
+//! Certificates of a highest water written as text.
 
 ghost use Rattle.std.specs.Prelude.{◌≡◌, ◌++◌, map, IfOk, OnOk};
 ghost use Rattle.std.specs.Fmt.{signed_decimal};
@@ -15,7 +15,7 @@ use itoa::Buffer;
 use std::alloc::{AllocError, Global};
 use zone_time::write_moment;
 
-/// Appends the line of the highest water's minute.
+/// Appends the line of the highest water's minute `at`.
 #[tactic(auto, unfolding(crate::specs::PeakTexts::at_line_of))]
 fn push_at(out: &mut Vec<u8>, at: i64) -> Result<(), AllocError>
     requires { IsMoment at }
@@ -28,7 +28,7 @@ fn push_at(out: &mut Vec<u8>, at: i64) -> Result<(), AllocError>
     push_text(out, "\n")
 }
 
-/// Appends a line of a word and a whole number.
+/// Appends the line of `word` and `number`.
 fn push_number(out: &mut Vec<u8>, word: &str, number: i128) -> Result<(), AllocError>
     ensures { OnOk result (out.new.items ≡ out.old.items ++ ended (word.now ++ signed_decimal number)) }
 {
@@ -38,6 +38,7 @@ fn push_number(out: &mut Vec<u8>, word: &str, number: i128) -> Result<(), AllocE
     push_text(out, "\n")
 }
 
+/// Appends the line of `cell`.
 #[tactic(auto, unfolding(crate::specs::PeakTexts::peak_cell_line_of))]
 fn push_cell(out: &mut Vec<u8>, cell: PeakCell) -> Result<(), AllocError>
     ensures { OnOk result (out.new.items ≡ out.old.items ++ ended (peak_cell_line_of cell)) }
@@ -56,6 +57,7 @@ fn push_value(out: &mut Vec<u8>, value: i128) -> Result<(), AllocError>
     push_number(out, "value ", value)
 }
 
+/// Appends the title.
 #[tactic(auto, unfolding(crate::specs::PeakTexts::peak_title))]
 fn push_title(out: &mut Vec<u8>) -> Result<(), AllocError>
     ensures { OnOk result (out.new.items ≡ out.old.items ++ ended peak_title) }
@@ -63,7 +65,7 @@ fn push_title(out: &mut Vec<u8>) -> Result<(), AllocError>
     push_text(out, "peak certificate 1\n")
 }
 
-/// Appends the first six lines.
+/// Appends the first six lines of `cert`.
 fn push_head(out: &mut Vec<u8>, cert: &PeakCertificate) -> Result<(), AllocError>
     requires { IsPeakCertificate cert.now }
     ensures { OnOk result (out.new.items ≡ out.old.items ++ joined (peak_head_lines_of cert.now)) }
@@ -74,6 +76,7 @@ fn push_head(out: &mut Vec<u8>, cert: &PeakCertificate) -> Result<(), AllocError
     push_value(out, cert.peak.value)
 }
 
+/// Appends the line of each cell.
 fn push_cells(out: &mut Vec<u8>, cells: &[PeakCell]) -> Result<(), AllocError>
     ensures { OnOk result (out.new.items ≡ out.old.items ++ joined (map peak_cell_line_of cells.now)) }
 {
@@ -83,7 +86,7 @@ fn push_cells(out: &mut Vec<u8>, cells: &[PeakCell]) -> Result<(), AllocError>
     Ok(())
 }
 
-/// The text of a certificate of a highest water, whose parts lie within their ranges.
+/// Returns the text of `cert`, whose parts are within their ranges.
 #[tactic(auto, unfolding(crate::specs::PeakTexts::peak_text, cert_text::specs::Lines::last_line))]
 pub fn write_peak(alloc: Global, cert: &PeakCertificate) -> Result<Bytes, AllocError>
     requires { IsPeakCertificate cert.now }

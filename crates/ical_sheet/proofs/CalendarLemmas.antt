@@ -1,4 +1,4 @@
--- The lines of one event more.
+-- The lines of one more event.
 use Rattle.std.proofs.Common.{◌≡◌, ◌<◌, length, codes, refl, arith, append-nil, List, [], ◌∷◌, ◌++◌, ap, ◌∙◌}
 use Rattle.std.specs.List.{flat_map}
 use Rattle.std.proofs.lemmas.List.Concat.{flat_map-append}

@@ -1,4 +1,4 @@
--- What is escaped of a text is escaped of its characters one by one.
+-- A text is escaped character by character.
 use Rattle.std.proofs.Common.{◌≡◌, ℕ, ◌+◌, ◌/◌, ◌%◌, ◌<◌, ◌≤◌, true, false, cond, nat_lt, if◌then◌else◌, List, [], ◌∷◌, ◌++◌, refl, arith, append-nil}
 use Rattle.std.proofs.lemmas.Bool.Decides.{nat_tests}
 use Rattle.std.proofs.lemmas.List.Concat.{flat_map-append}
@@ -10,7 +10,7 @@ abbrev AreHigh : List ℕ → Type 0
 AreHigh [] = Unit {0}
 AreHigh (octet ∷ text) = (128 ≤ octet) × AreHigh text
 
--- no octet of a character outside ASCII is a special sign
+-- no octet of a character outside ASCII is escaped
 high_octets : (c : ℕ) → 128 ≤ c → AreHigh (encode c)
 unfolding encode
 high_octets c h =
@@ -42,7 +42,7 @@ escaped-encode c =
           rw other (escaped-high (encode c) (high_octets c high))
     ] refl
 
--- one character more
+-- one more character
 pub escaped-more : (letters : List ℕ) (c : ℕ) → escaped (encodes (letters ++ c ∷ [])) ≡ escaped (encodes letters) ++ (if is_special c then 92 ∷ encode c else encode c)
 escaped-more letters c =
     rw (encodes-append letters (c ∷ []), append-nil, flat_map-append escaped_octet (encodes letters) (encode c), escaped-encode c) refl

@@ -1,4 +1,4 @@
--- The lines that tell events apart.
+-- Two events with the same identifier are one.
 use Rattle.std.proofs.Common.{◌≡◌, ◌∙◌, ℕ, suc, ◌<◌, ◌^◌, ◌==◌, ◌&&◌, Bool, true, false, if◌then◌else◌, List, [], ◌∷◌, ◌++◌, length, take, drop, slice_index, codes, decimal, ℤ, pos, negsuc, unsigned_abs, refl, sym, ap, rules, arith, append_assoc, append-nil}
 use Rattle.std.specs.Char.{is_ascii_digit}
 use Rattle.std.specs.List.{list_all, prefix_len}
@@ -41,7 +41,7 @@ digits-unsigned (c ∷ w) rest some h =
 numerals : IsNumeralModel (λ ds. list_all is_ascii_digit ds ≡ true) (digits_value 10)
 numerals = numerals_by_value _ (search rules)
 
--- digits before another sign are the same in the same text
+-- the digits before the first other character are determined by the text
 digits-same : (w v rest more : List ℕ) → list_all is_ascii_digit w ≡ true → list_all is_ascii_digit v ≡ true
     → prefix_len is_ascii_digit rest ≡ 0 → prefix_len is_ascii_digit more ≡ 0 → w ++ rest ≡ v ++ more → (w ≡ v) × (rest ≡ more)
 digits-same w v rest more p q none nor same =

@@ -1,4 +1,4 @@
--- Where a text is cut: the longest prefix that ends where a character does.
+-- The pieces of a text: the longest prefix that splits no character.
 use Rattle.std.proofs.Common.{◌≡◌, ◌≢◌, ℕ, zero, suc, ◌-◌, ◌<◌, ◌≤◌, Bool, true, false, cond, nat_le, nat_lt, min, List, [], ◌∷◌, ◌++◌, length, get_or, take, drop, refl, sym, ap, ◌∙◌, subst, arith, append-nil, codes, zero-add, length-drop}
 use Rattle.std.proofs.lemmas.Bool.Decides.{nat_tests}
 use Rattle.std.proofs.lemmas.List.{drop_all, get_or_past, take_all}
@@ -39,7 +39,7 @@ unfolding greatest
 greatest-below passes zero h is = absurd (omega (arith, h))
 greatest-below passes (suc n) h is = let before : suc n - 1 ≡ n = omega arith in rw (is, before) refl
 
--- nothing past the end of a text is the end of a character in it
+-- no prefix is longer than the text
 pub greatest-min : (text : List ℕ) (most : ℕ) → greatest (ends_at text) most ≡ greatest (ends_at text) (min most (length text))
 unfolding greatest
 greatest-min text zero = let none : min 0 (length text) ≡ 0 = omega arith in rw none refl

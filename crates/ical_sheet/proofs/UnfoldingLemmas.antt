@@ -1,4 +1,4 @@
--- What is unfolded of a piece, and which lines it makes.
+-- A piece, unfolded, and its lines.
 use Rattle.std.proofs.Common.{◌≡◌, ◌≢◌, ℕ, zero, suc, ◌+◌, ◌<◌, ◌≤◌, Bool, true, false, ◌==◌, ◌&&◌, nat_lt, slice_index, List, [], ◌∷◌, ◌++◌, length, take, drop, refl, sym, ap, ◌∙◌, arith, append_assoc, length-take, length-drop, All, codes, append-nil}
 use Rattle.std.proofs.lemmas.Bool.Decides.{nat_tests}
 use Rattle.std.proofs.lemmas.List.{take-append-drop, drop_more}
@@ -8,11 +8,11 @@ use Rattle.std.specs.Str.{IsUtf8}
 use Rattle.ical_sheet.specs.Folding.{AreShort, IsContentLine, IsUnindented, begun_with, cut_up, folded, further_pieces, is_fold, physical_lines, ends_at, prefix_length, unfolded}
 use Rattle.ical_sheet.proofs.PieceLemmas.{greatest-le, rest-text, prefix-positive}
 
--- no octet of it is a CR
+-- octets of which none is a CR
 abbrev pub LacksReturn : List ℕ → Type 0
 LacksReturn text = All (λ octet. octet ≢ 13) text
 
--- a piece after the first as it is written
+-- the pieces after the first, as they are written
 abbrev pub continued : List (List ℕ) → List ℕ
 continued pieces = flat_map (λ piece. codes "\r\n " ++ piece) pieces
 
@@ -40,7 +40,7 @@ physical_lines-line (octet ∷ line) rest h =
 
 -- ---- one step of unfolding
 
--- a fold stands at that place of a text
+-- a fold is at the index of a text
 abbrev pub has_fold : List ℕ → ℕ → Bool
 has_fold text at = nat_lt (at + 2) (length text) && is_fold (slice_index text at) (slice_index text (at + 1)) (slice_index text (at + 2))
 
@@ -111,7 +111,7 @@ unfolded-continued (suc more) (octet ∷ others) rest utf8 clean start h =
     ∙ sym (append_assoc (take n text) (drop n text) (codes "\r\n" ++ unfolded rest))
     ∙ ap (λ t. t ++ (codes "\r\n" ++ unfolded rest)) (take-append-drop n text)
 
--- how long the lines are
+-- a line of at most 75 octets
 abbrev IsShort : List ℕ → Type 0
 IsShort line = length line ≤ 75
 

@@ -1,4 +1,5 @@
--- The events of a station as a calendar (RFC 5545, sections 3.3.5, 3.4 and 3.6.1; which properties an event has, and what they hold, is this project's own).
+-- The events of a station as a calendar (RFC 5545, sections 3.3.5, 3.4 and 3.6.1; the properties of an
+-- event and their values are this project's own).
 use Rattle.std.specs.Prelude.{ℕ, ◌/◌, ◌%◌, ◌^◌, ◌<◌, ℤ, pos, negsuc, unsigned_abs, List, [], ◌∷◌, ◌++◌, codes}
 use Rattle.std.specs.Int.{int_max, int_min}
 use Rattle.std.specs.List.{flat_map}
@@ -28,7 +29,7 @@ stamp_of moment =
 abbrev pub nearest_moment : ℤ → ℤ
 nearest_moment minute = int_min (int_max minute (negsuc 1035593279)) (pos 4223371679)
 
--- the number of a kind, as a text
+-- the number of a kind in identifiers
 abbrev pub number_of : Kind → List ℕ
 number_of High = codes "0"
 number_of Low = codes "1"
@@ -37,13 +38,13 @@ number_of EbbBegins = codes "3"
 number_of MarkRising = codes "4"
 number_of MarkFalling = codes "5"
 
--- what makes an event unlike every other one: its minute, its kind and the station's name
+-- the unique identifier of an event: its minute, its kind and the station's name
 unfoldable pub uid_line : List ℕ → Event → List ℕ
 uid_line name event =
     codes "UID:" ++ write_of event.minute 0 ++ codes "-" ++ number_of event.kind ++ codes "-" ++ encode_lower name
     ++ codes "@tide.invalid"
 
--- what a calendar shows of an event
+-- the summary of an event: the station's name, the event's name and its level
 unfoldable pub summary_line : List ℕ → Units → Event → List ℕ
 summary_line name units event =
     codes "SUMMARY:" ++ escaped name ++ codes " " ++ word_text (word_of units event.kind event.level)
@@ -60,20 +61,21 @@ event_lines head event =
     ∷ codes "END:VEVENT"
     ∷ []
 
+-- the content lines before the first event
 abbrev pub first_lines : List (List ℕ)
 first_lines = codes "BEGIN:VCALENDAR" ∷ codes "VERSION:2.0" ∷ codes "PRODID:-//Tide desk//Tide predictor//EN" ∷ []
 
--- the content lines of a calendar, which has an event at least
+-- the content lines of a calendar, which has at least one event
 abbrev pub content_lines : Head → List Event → List (List ℕ)
 content_lines head [] = []
 content_lines head (event ∷ events) =
     first_lines ++ flat_map (event_lines head) (event ∷ events) ++ codes "END:VCALENDAR" ∷ []
 
--- the lines as they are written
+-- the text of a calendar: its content lines, folded
 unfoldable pub calendar_of : Head → List Event → List ℕ
 calendar_of head events = flat_map folded (content_lines head events)
 
--- an event of which the numbers have 64 bits
+-- an event whose numbers have 64 bits
 pub record IsNarrow (event : Event) : Type 0 where
   pub minute : unsigned_abs event.minute < 2 ^ 64
   pub level : unsigned_abs event.level < 2 ^ 64

@@ -2,10 +2,11 @@
 use Rattle.std.specs.Prelude.{ℕ, Bool, ◌==◌, ◌||◌, if◌then◌else◌, List, [], ◌∷◌}
 use Rattle.std.specs.List.{flat_map}
 
--- a backslash (92), a semicolon (59) or a comma (44)
+-- the octets that are escaped: a backslash (92), a semicolon (59) and a comma (44)
 abbrev pub is_special : ℕ → Bool
 is_special octet = (octet == 92) || (octet == 59) || (octet == 44)
 
+-- an octet, with a backslash before it if it is escaped
 abbrev pub escaped_octet : ℕ → List ℕ
 escaped_octet octet = if is_special octet then 92 ∷ octet ∷ [] else octet ∷ []
 

@@ -1,15 +1,16 @@
--- Content lines, folded and unfolded (RFC 5545, section 3.1; where a line is cut is this project's own).
+-- Content lines, folded and unfolded (RFC 5545, section 3.1; the length of the pieces is this project's
+-- own).
 use Rattle.std.specs.Prelude.{ℕ, zero, suc, ◌≤◌, ◌≢◌, Bool, not, ◌==◌, ◌&&◌, ◌||◌, nat_le, nat_lt, if◌then◌else◌, List, [], ◌∷◌, ◌++◌, length, take, drop, slice_index, codes, All}
 use Rattle.std.specs.List.{join_by}
 use Rattle.std.specs.Str.{IsUtf8}
 
--- ---- what can be a content line
+-- ---- content lines
 
--- it begins with no space (32) and no tab (9)
+-- a text that begins with no space (32) and no tab (9)
 abbrev pub IsUnindented : List ℕ → Type 0
 IsUnindented text = (slice_index text 0 ≢ 32) × (slice_index text 0 ≢ 9)
 
--- text without CR (13) and LF (10)
+-- a content line: text without CR (13) and LF (10), which begins with no space and no tab
 pub record IsContentLine (line : List ℕ) : Type 0 where
   pub utf8 : IsUtf8 line
   pub unbroken : All (λ octet. (octet ≢ 13) × (octet ≢ 10)) line
@@ -21,38 +22,40 @@ pub record IsContentLine (line : List ℕ) : Type 0 where
 abbrev pub is_inner : ℕ → Bool
 is_inner octet = nat_le 128 octet && nat_lt octet 192
 
--- the first n octets of a text end where a character does: another one begins there, or the text ends
+-- the first n octets of a text split no character: the next octet begins one, or the text ends
 abbrev pub ends_at : List ℕ → ℕ → Bool
 ends_at text n = nat_le n (length text) && not (is_inner (slice_index text n))
 
--- the greatest number up to n that passes a test, or 0
+-- the greatest number up to n for which the test is true, or 0
 unfoldable pub greatest : (ℕ → Bool) → (n : ℕ) → ℕ
 greatest passes zero = 0
 greatest passes (suc n) = if passes (suc n) then suc n else greatest passes n
 
--- how many octets the longest prefix has, of those of at most so many that end where a character does
+-- the length of the longest prefix of at most `most` octets that splits no character
 abbrev pub prefix_length : (most : ℕ) → List ℕ → ℕ
 prefix_length most text = greatest (ends_at text) most
 
--- what follows the first piece in pieces: each is the longest such prefix of at most 74 octets, one at least
+-- the pieces of a text after the first: each is the longest such prefix of at most 74 octets; `more` bounds
+-- their number
 unfoldable pub cut_up : (more : ℕ) → List ℕ → List (List ℕ)
 cut_up more [] = []
 cut_up zero (octet ∷ rest) = []
 cut_up (suc more) (octet ∷ rest) =
     let text = octet ∷ rest in let n = prefix_length 74 text in take n text ∷ cut_up more (drop n text)
 
+-- the pieces after the first
 abbrev pub further_pieces : List ℕ → List (List ℕ)
 further_pieces rest = cut_up (length rest) rest
 
--- a line in pieces: the first is the longest such prefix of at most 75 octets
+-- the pieces of a line: the first is the longest such prefix of at most 75 octets
 abbrev pub pieces_of : List ℕ → List (List ℕ)
 pieces_of line = let n = prefix_length 75 line in take n line ∷ further_pieces (drop n line)
 
--- a content line as it is written: a CR LF and a space between its pieces, and a CR LF at its end
+-- a content line, folded: a CR LF and a space between its pieces, and a CR LF at its end
 unfoldable pub folded : List ℕ → List ℕ
 folded line = join_by (λ piece. piece) (codes "\r\n ") (pieces_of line) ++ codes "\r\n"
 
--- a prefix of n octets is text, and so ends where a character does; and no longer one of at most so many octets is
+-- a prefix of n octets that is text, and so splits no character; no longer one of at most `most` octets is
 pub record IsLongestPrefix (most : ℕ) (text : List ℕ) (n : ℕ) : Type 0 where
   pub short : n ≤ most
   pub within : n ≤ length text
@@ -65,7 +68,7 @@ pub record IsLongestPrefix (most : ℕ) (text : List ℕ) (n : ℕ) : Type 0 whe
 abbrev pub is_fold : ℕ → ℕ → ℕ → Bool
 is_fold a b c = (a == 13) && (b == 10) && ((c == 32) || (c == 9))
 
--- a text with each of these taken out
+-- a text without each of these
 unfoldable pub unfolded : List ℕ → List ℕ
 unfolded (a ∷ b ∷ c ∷ rest) = if is_fold a b c then unfolded rest else a ∷ unfolded (b ∷ c ∷ rest)
 unfolded (a ∷ b ∷ []) = a ∷ b ∷ []
@@ -74,7 +77,7 @@ unfolded [] = []
 
 -- ---- the lines of a text
 
--- an octet more at the beginning of the first line
+-- lines with one more octet at the beginning of the first
 abbrev pub begun_with : ℕ → List (List ℕ) → List (List ℕ)
 begun_with octet [] = (octet ∷ []) ∷ []
 begun_with octet (line ∷ lines) = (octet ∷ line) ∷ lines
@@ -86,6 +89,6 @@ physical_lines (a ∷ b ∷ rest) =
 physical_lines (a ∷ []) = (a ∷ []) ∷ []
 physical_lines [] = []
 
--- each of them has at most 75 octets
+-- lines of at most 75 octets each
 abbrev pub AreShort : List (List ℕ) → Type 0
 AreShort lines = All (λ line. length line ≤ 75) lines

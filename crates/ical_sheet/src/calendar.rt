@@ -14,9 +14,9 @@ use decimal_text::Bytes;
 use report_sheets::Head;
 use std::alloc::{AllocError, Global};
 
-/// A calendar of a station's events, or no text where there are none. Each event has a
-/// [`word`](event_text::word) in the head's unit, and a minute of the years from 2 to 9300 or of the
-/// day before them.
+/// Returns an iCalendar text of `events`, or no text if there is none. Each event has a
+/// [`word`](event_text::word) in the head's unit, and a minute in the years 2 to 9300 or on the day
+/// before them.
 #[tactic(auto, unfolding(crate::specs::Calendars::calendar_of))]
 pub(crate) fn calendar(alloc: Global, head: &Head, events: &[Event]) -> Result<Bytes, AllocError>
     requires { All (IsListed head.now.units) events.now }
@@ -32,6 +32,7 @@ pub(crate) fn calendar(alloc: Global, head: &Head, events: &[Event]) -> Result<B
     Ok(Bytes::from_vec(text))
 }
 
+/// Appends the lines before the first event.
 fn push_first_lines(text: &mut Vec<u8>) -> Result<(), AllocError>
     ensures { OnOk result (text.new.items ≡ text.old.items ++ flat_map folded first_lines) }
 {
@@ -40,6 +41,7 @@ fn push_first_lines(text: &mut Vec<u8>) -> Result<(), AllocError>
     push_short(text, b"PRODID:-//Tide desk//Tide predictor//EN")
 }
 
+/// Appends the lines of each event.
 fn push_events(
     alloc: Global,
     text: &mut Vec<u8>,

@@ -1,4 +1,4 @@
-//! Texts, escaped.
+//! Escaped texts.
 
 ghost use Rattle.std.specs.Prelude.{◌≡◌, ◌≢◌, ◌∷◌, ◌++◌, if◌then◌else◌, All, IfOk, OnOk, string_bytes, encode_utf8};
 ghost use Rattle.ical_sheet.specs.Escaping.{escaped, is_special};
@@ -6,7 +6,8 @@ ghost use Rattle.ical_sheet.specs.Escaping.{escaped, is_special};
 use decimal_text::{Bytes, Text};
 use std::alloc::{AllocError, Global};
 
-/// A text with a backslash before each backslash, semicolon and comma. It has no CR and no LF.
+/// Returns `text` with a backslash before each backslash, semicolon and comma (RFC 5545, 3.3.11).
+/// `text` has no CR and no LF.
 pub fn escape(alloc: Global, text: &Text) -> Result<Bytes, AllocError>
     requires { All (λ octet. (octet ≢ 13) × (octet ≢ 10)) text.now }
     ensures { IfOk result (λ bytes. bytes ≡ escaped text.now) }
@@ -16,7 +17,7 @@ pub fn escape(alloc: Global, text: &Text) -> Result<Bytes, AllocError>
     Ok(Bytes::from_vec(escaped.into_bytes()))
 }
 
-/// Appends a text with these backslashes.
+/// Appends `text`, escaped.
 pub(crate) fn push_escaped(out: &mut String, text: &str) -> Result<(), AllocError>
     ensures { OnOk result (string_bytes out.new ≡ string_bytes out.old ++ escaped text.now) }
 {
@@ -26,6 +27,7 @@ pub(crate) fn push_escaped(out: &mut String, text: &str) -> Result<(), AllocErro
     Ok(())
 }
 
+/// Appends `letter`, escaped if it is one of the three.
 fn push_letter(out: &mut String, letter: char) -> Result<(), AllocError>
     ensures { OnOk result (string_bytes out.new ≡ string_bytes out.old ++ (if is_special letter then 92 ∷ encode_utf8 letter else encode_utf8 letter)) }
 {
@@ -35,6 +37,7 @@ fn push_letter(out: &mut String, letter: char) -> Result<(), AllocError>
     out.push(letter)
 }
 
+/// Returns true if `letter` is a backslash, a semicolon or a comma.
 fn is_special(letter: char) -> bool
     ensures { result ≡ is_special letter }
 {

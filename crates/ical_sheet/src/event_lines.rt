@@ -17,7 +17,7 @@ use decimal_text::write;
 use event_text::{unit_text, word, write_level};
 use std::alloc::AllocError;
 
-/// Appends the lines of an event. `line` is room for one of them.
+/// Appends the lines of `event`. `line` is a buffer for one of them.
 pub(crate) fn push_event(
     text: &mut Vec<u8>,
     line: &mut String,
@@ -35,7 +35,7 @@ pub(crate) fn push_event(
     push_short(text, b"END:VEVENT")
 }
 
-/// Appends the line that tells an event from every other one.
+/// Appends the line of the event's unique identifier.
 fn push_uid(
     text: &mut Vec<u8>,
     line: &mut String,
@@ -55,6 +55,7 @@ fn push_uid(
     push_folded(text, line.as_str().as_bytes())
 }
 
+/// Appends `minute` in decimal.
 fn push_minute(line: &mut String, minute: i64) -> Result<(), AllocError>
     ensures { OnOk result (string_bytes line.new ≡ string_bytes line.old ++ write_of minute 0) }
 {
@@ -63,6 +64,7 @@ fn push_minute(line: &mut String, minute: i64) -> Result<(), AllocError>
     line.push_str(digits.as_str())
 }
 
+/// Returns the number of `kind` in identifiers.
 fn number(kind: Kind) -> &'static str
     ensures { result.now ≡ number_of kind }
 {
@@ -76,7 +78,7 @@ fn number(kind: Kind) -> &'static str
     }
 }
 
-/// Appends the line of a moment.
+/// Appends the line of the moment `stamp` after `title`.
 fn push_stamp(text: &mut Vec<u8>, title: &[u8], stamp: &[u8; 16]) -> Result<(), AllocError>
     requires { length title.now ≤ 59 }
     ensures { OnOk result (text.new.items ≡ text.old.items ++ folded (title.now ++ stamp.now)) }
@@ -86,7 +88,7 @@ fn push_stamp(text: &mut Vec<u8>, title: &[u8], stamp: &[u8; 16]) -> Result<(), 
     text.extend_from_slice(b"\r\n")
 }
 
-/// Appends the line that tells what happens.
+/// Appends the summary: the station's name, the event's name and its level.
 fn push_summary(
     text: &mut Vec<u8>,
     line: &mut String,
@@ -109,6 +111,7 @@ fn push_summary(
     push_folded(text, line.as_str().as_bytes())
 }
 
+/// Appends `level`, in millionths, rounded to hundredths.
 fn push_level(line: &mut String, level: i64) -> Result<(), AllocError>
     ensures { OnOk result (string_bytes line.new ≡ string_bytes line.old ++ level_text level) }
 {

@@ -1,4 +1,4 @@
-//! Content lines, folded.
+//! Folded content lines.
 
 ghost use Rattle.std.specs.Prelude.{◌≡◌, ◌≤◌, ◌++◌, length, take, drop, codes, IfOk, OnOk};
 ghost use Rattle.std.specs.List.{flat_map};
@@ -8,12 +8,12 @@ ghost use Rattle.ical_sheet.specs.Folding.{AreShort, IsContentLine, ends_at, fol
 use decimal_text::Bytes;
 use std::alloc::{AllocError, Global};
 
-/// How many octets a physical line has at most, its CR LF aside.
+/// The greatest number of octets of a physical line without its CR LF (RFC 5545, 3.1).
 const MOST_OCTETS: usize = 75;
 
-/// A content line as it is written: in physical lines of at most 75 octets, each further one after a
-/// space, and each with a CR LF at its end. No character is cut. The line is text in UTF-8 without CR
-/// and LF, and begins with no space and no tab.
+/// Returns the content line `line` folded into physical lines of at most 75 octets, each but the
+/// first after a space, and each with a CR LF at its end. No character is split. `line` is text in
+/// UTF-8 without CR and LF, and begins with no space and no tab.
 pub fn fold(alloc: Global, line: &[u8]) -> Result<Bytes, AllocError>
     requires { IsContentLine line.now }
     ensures text { IfOk result (λ text. text ≡ folded line.now) }
@@ -25,7 +25,7 @@ pub fn fold(alloc: Global, line: &[u8]) -> Result<Bytes, AllocError>
     Ok(Bytes::from_vec(text))
 }
 
-/// Appends a line as it is written.
+/// Appends `line`, folded.
 #[tactic(auto, unfolding(crate::specs::Folding::folded))]
 pub(crate) fn push_folded(text: &mut Vec<u8>, line: &[u8]) -> Result<(), AllocError>
     requires { IsUtf8 line.now }
@@ -37,7 +37,7 @@ pub(crate) fn push_folded(text: &mut Vec<u8>, line: &[u8]) -> Result<(), AllocEr
     text.extend_from_slice(b"\r\n")
 }
 
-/// Appends a line of at most 75 octets, which is written as it is.
+/// Appends `line`, which has at most 75 octets and needs no fold.
 pub(crate) fn push_short(text: &mut Vec<u8>, line: &[u8]) -> Result<(), AllocError>
     requires { length line.now ≤ 75 }
     ensures { OnOk result (text.new.items ≡ text.old.items ++ folded line.now) }
@@ -46,7 +46,7 @@ pub(crate) fn push_short(text: &mut Vec<u8>, line: &[u8]) -> Result<(), AllocErr
     text.extend_from_slice(b"\r\n")
 }
 
-/// Appends the pieces after the first, each with a CR LF and a space before it.
+/// Appends the pieces after the first, each after a CR LF and a space.
 fn push_further(text: &mut Vec<u8>, further: &[u8]) -> Result<(), AllocError>
     requires { IsUtf8 further.now }
     ensures { OnOk result (text.new.items ≡ text.old.items ++ flat_map (λ piece. codes "\r\n " ++ piece) (further_pieces further.now)) }
@@ -61,7 +61,8 @@ fn push_further(text: &mut Vec<u8>, further: &[u8]) -> Result<(), AllocError>
     Ok(())
 }
 
-/// The longest prefix of at most so many octets that ends where a character does, and what follows it.
+/// Returns the longest prefix of `text` with at most `most` octets that ends at the end of a
+/// character, and what follows it.
 fn cut(text: &[u8], most: usize) -> (&[u8], &[u8])
     ensures piece { result.0.now ≡ take (prefix_length most text.now) text.now }
     ensures rest { result.1.now ≡ drop (prefix_length most text.now) text.now }
@@ -69,6 +70,8 @@ fn cut(text: &[u8], most: usize) -> (&[u8], &[u8])
     text.split_at(prefix_length(text, most))
 }
 
+/// Returns the length of that prefix: the longest one of at most `most` octets that splits no
+/// character.
 fn prefix_length(text: &[u8], most: usize) -> usize
     ensures octets { result ≡ prefix_length most text.now }
     ensures within { result ≤ length text.now }
@@ -80,6 +83,7 @@ fn prefix_length(text: &[u8], most: usize) -> usize
     end
 }
 
+/// Returns true if no character of `text` is split at `end`.
 fn ends_at(text: &[u8], end: usize) -> bool
     requires { end ≤ length text.now }
     ensures { result ≡ ends_at text.now end }

@@ -1,4 +1,4 @@
-//! What follows of lines, folded and unfolded, and what the sheet writes.
+//! Laws of folded lines and of the sheet's calendar.
 
 ghost use Rattle.std.specs.Prelude.{◌≡◌, ℕ, ◌<◌, List, ◌∷◌, ◌++◌, All, codes, drop, length, take};
 ghost use Rattle.std.specs.List.{flat_map};
@@ -13,17 +13,17 @@ ghost use Rattle.ical_sheet.specs.Folding.{AreShort, IsContentLine, IsLongestPre
 use crate::sheet::IcalPage;
 use report_sheets::Layout;
 
-/// A prefix that is taken is the longest one of so many octets that is text too, and so cuts no
-/// character. What follows the first piece is such a prefix of at most 74 octets, and then what
-/// follows that one in pieces.
+/// A piece is the longest prefix of at most its number of octets that is text too, and so splits no
+/// character. What follows the first piece is such a prefix of at most 74 octets, and then the
+/// pieces of what follows it.
 pub fn lines_are_cut_between_characters()
     ensures longest { (most : ℕ) (text : List ℕ) → IsUtf8 text → IsLongestPrefix most text (prefix_length most text) }
     ensures further { (text : List ℕ) → IsUtf8 text → 0 < length text →
         further_pieces text ≡ take (prefix_length 74 text) text ∷ further_pieces (drop (prefix_length 74 text) text) }
 {}
 
-/// Content lines that are folded, one after the other, have at most 75 octets each, and unfolded they
-/// are the lines again, each with a CR LF.
+/// Folded content lines have at most 75 octets each, and unfolded they are the content lines again,
+/// each with a CR LF.
 pub fn folded_lines_unfold()
     ensures line { (line : List ℕ) → IsContentLine line → unfolded (folded line) ≡ line ++ codes "\r\n" }
     ensures lines { (lines : List (List ℕ)) → All IsContentLine lines →
@@ -31,8 +31,8 @@ pub fn folded_lines_unfold()
     ensures short { (lines : List (List ℕ)) → All IsContentLine lines → AreShort (physical_lines (flat_map folded lines)) }
 {}
 
-/// The lines of a calendar have at most 75 octets each, and unfolded they are its content lines, each
-/// with a CR LF. The station's name is text without control characters.
+/// The physical lines of a calendar have at most 75 octets each, and unfolded they are its content
+/// lines, each with a CR LF, if the station's name is text without control characters.
 pub fn calendars_unfold()
     ensures lines { (head : Head) (events : List Event) → IsUtf8 head.name → IsHead head → All IsNarrow events →
         unfolded (calendar_of head events) ≡ flat_map (λ line. line ++ codes "\r\n") (content_lines head events) }
@@ -40,13 +40,13 @@ pub fn calendars_unfold()
         AreShort (physical_lines (calendar_of head events)) }
 {}
 
-/// A calendar is the sheet that its definition says.
+/// The layout of a calendar is that of its definition.
 pub fn calendars_are_sheets()
     ensures { ⟦<IcalPage as Layout>⟧.sheet ≡ ical_sheet }
 {}
 
-/// Events of which one has another minute, another kind or a station of another name have other
-/// identifiers.
+/// Two events with the same identifier have the same minute, the same kind and stations of the same
+/// name.
 pub fn identifiers_tell_events_apart()
     ensures { (name other : List ℕ) (event later : Event) → IsBytes name → IsBytes other → IsNarrow event → IsNarrow later →
         uid_line name event ≡ uid_line other later → (name ≡ other) × (event.minute ≡ later.minute) × (event.kind ≡ later.kind) }

@@ -1,8 +1,9 @@
-//! The events of a station as a calendar that other programs take in (RFC 5545).
+//! The events of a station as a calendar for other programs (RFC 5545).
 //!
-//! [`IcalSheet`] is the sheet that writes it. A calendar is made of content lines: [`fold`] cuts one
-//! into physical lines of at most 75 octets, [`unfold`] puts the lines of a text together again, and
-//! [`escape`] marks the signs of a text that have a meaning of their own. `specs/` has the rules.
+//! [`IcalSheet`] is the sheet that writes it. A calendar consists of content lines: [`fold`] splits
+//! one into physical lines of at most 75 octets, [`unfold`] joins the lines of a text again, and
+//! [`escape`] marks the characters of a text that have a meaning of their own. `specs/` has the
+//! rules.
 #![tactic(auto)]
 
 mod calendar;

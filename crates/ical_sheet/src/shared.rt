@@ -1,4 +1,4 @@
-//! What the events of a calendar have in common.
+//! The parts that all events of a calendar have in common.
 
 ghost use Rattle.std.specs.Prelude.{◌≡◌, IfOk, string_bytes};
 ghost use Rattle.hex.specs.Hex.{encode_lower};
@@ -11,7 +11,7 @@ use hex::encode;
 use report_sheets::Head;
 use std::alloc::{AllocError, Global};
 
-/// What the events of a calendar have in common.
+/// The parts that all events of a calendar have in common.
 #[derive(Drop)]
 pub(crate) struct Shared<'a> {
     pub head: &'a Head,
@@ -19,7 +19,7 @@ pub(crate) struct Shared<'a> {
     pub digits: String,
     /// The station's name, escaped.
     pub escaped: String,
-    /// When the calendar was made.
+    /// The moment at which the calendar was made, such as `20000110T060000Z`.
     pub made: [u8; 16],
     ghost digits_are: { string_bytes digits ≡ encode_lower head.now.name },
     ghost escaped_is: { string_bytes escaped ≡ escaped_text head.now.name },
@@ -27,6 +27,7 @@ pub(crate) struct Shared<'a> {
 }
 
 impl<'a> Shared<'a> {
+    /// Returns the parts that follow from `head`.
     pub fn new(alloc: Global, head: &'a Head) -> Result<Shared<'a>, AllocError>
         ensures { IfOk result (λ shared. shared.head.now ≡ head.entry.now) }
     {

@@ -9,8 +9,8 @@ use decimal_text::Bytes;
 use report_sheets::{Head, Layout, SheetOf};
 use std::alloc::{AllocError, Global};
 
-/// The sheet `ical`: a calendar with an entry for each event, in universal time. Its text is that of
-/// a file of type `text/calendar`, and empty where there is no event.
+/// The sheet `ical`: a calendar with an entry for each event, in universal time. Its text is a file
+/// of type `text/calendar`, and empty if there is no event.
 pub type IcalSheet = SheetOf<IcalPage>;
 
 /// The layout of [`IcalSheet`].

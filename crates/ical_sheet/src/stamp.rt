@@ -1,4 +1,4 @@
-//! Moments as a calendar has them.
+//! Moments in the form of a calendar.
 
 ghost use Rattle.std.specs.Prelude.{◌≡◌, [], ◌∷◌, length, slice_index};
 ghost use Rattle.ical_sheet.specs.Calendars.{nearest_moment, stamp_of};
@@ -13,7 +13,7 @@ const FIRST_MOMENT: i64 = -1_035_593_280;
 /// 9999-12-31T23:59Z.
 const LAST_MOMENT: i64 = 4_223_371_679;
 
-/// The moment of the years from 1 to 9999 that is nearest to a minute.
+/// Returns the minute of the years 1 to 9999 that is nearest to `minute`.
 pub(crate) fn nearest_moment(minute: i64) -> i64
     ensures nearest { result ≡ nearest_moment minute }
     ensures moment { IsMoment result }
@@ -21,7 +21,7 @@ pub(crate) fn nearest_moment(minute: i64) -> i64
     minute.clamp(FIRST_MOMENT, LAST_MOMENT)
 }
 
-/// A moment as `20000110T060000Z`.
+/// Returns `moment`, minutes since 1970-01-01T00:00Z, such as `20000110T060000Z` (RFC 5545, 3.3.5).
 pub(crate) fn stamp(moment: i64) -> [u8; 16]
     requires { IsMoment moment }
     ensures { result ≡ stamp_of moment }
@@ -31,7 +31,7 @@ pub(crate) fn stamp(moment: i64) -> [u8; 16]
     without_marks(text.as_bytes())
 }
 
-/// `2000-01-10T06:00Z` as `20000110T060000Z`.
+/// Returns a moment such as `2000-01-10T06:00Z` as `20000110T060000Z`.
 fn without_marks(text: &[u8]) -> [u8; 16]
     requires { length text.now ≡ 17 }
     ensures { result ≡ slice_index text.now 0 ∷ slice_index text.now 1 ∷ slice_index text.now 2 ∷ slice_index text.now 3

@@ -1,4 +1,4 @@
-//! Texts, unfolded.
+//! Unfolded texts.
 
 ghost use Rattle.std.specs.Prelude.{◌≡◌, ◌+◌, ◌≤◌, ◌&&◌, nat_lt, length, slice_index, IfOk};
 ghost use Rattle.ical_sheet.specs.Folding.{is_fold, unfolded};
@@ -6,7 +6,8 @@ ghost use Rattle.ical_sheet.specs.Folding.{is_fold, unfolded};
 use decimal_text::Bytes;
 use std::alloc::{AllocError, Global};
 
-/// A text without each CR LF that has a space or a tab directly after it, and without that one.
+/// Returns `text` without each CR LF that a space or a tab directly follows, and without this space
+/// or tab.
 pub fn unfold(alloc: Global, text: &[u8]) -> Result<Bytes, AllocError>
     ensures { IfOk result (λ line. line ≡ unfolded text.now) }
 {
@@ -23,6 +24,7 @@ pub fn unfold(alloc: Global, text: &[u8]) -> Result<Bytes, AllocError>
     Ok(Bytes::from_vec(line))
 }
 
+/// Returns true if a CR LF and then a space or a tab are at index `at` of `text`.
 fn is_fold_at(text: &[u8], at: usize) -> bool
     requires { at ≤ length text.now }
     ensures { result ≡ (nat_lt (at + 2) (length text.now) && is_fold (slice_index text.now at) (slice_index text.now (at + 1)) (slice_index text.now (at + 2))) }

@@ -1,4 +1,5 @@
--- The listings of a station's events and levels, and what its clock tells (the layout of XTide's plain listings and of its clock).
+-- The listings of a station's events and levels, and of its level now (the layout of XTide's plain listings
+-- and of its clock).
 use Rattle.std.specs.Prelude.{ℕ, ℤ, Bool, true, false, List, ◌++◌, codes}
 use Rattle.std.specs.List.{flat_map}
 use Rattle.curve_law.specs.declared.event.Event.{Event}
@@ -20,20 +21,22 @@ plain_events_of name units events zone = name ++ codes "\n" ++ flat_map (event_l
 unfoldable pub plain_heights_of : List ℕ → Units → List Row → Zone → List ℕ
 plain_heights_of name units rows zone = name ++ codes "\n" ++ flat_map (row_line_in zone units) rows
 
+-- the word of a direction
 abbrev pub direction_of : Bool → List ℕ
 direction_of true = codes "Rising"
 direction_of false = codes "Falling"
 
--- the line of the present level and of its direction
+-- the line of the present level and its direction
 abbrev pub now_line_of : Zone → Units → ℤ → ℤ → Bool → List ℕ
 now_line_of zone units now level rising =
     codes "Now " ++ height_line_of (local_in zone now) level units ++ codes "  " ++ direction_of rising ++ codes "\n"
 
--- the line of the highest level, and the station's name before it
+-- the line of the highest level
 abbrev pub highest_line_of : Zone → Units → ℤ → ℤ → List ℕ
 highest_line_of zone units minute level =
     codes "Highest " ++ height_line_of (local_in zone minute) level units ++ codes "\n"
 
+-- the station's name, and the line of its highest level
 unfoldable pub highest_text_of : List ℕ → Units → ℤ → ℤ → Zone → List ℕ
 highest_text_of name units minute level zone = name ++ codes "\n" ++ highest_line_of zone units minute level
 

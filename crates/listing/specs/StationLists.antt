@@ -1,4 +1,5 @@
--- The list of stations: those of a book, and those that a table makes of them (the layout of XTide's list of locations).
+-- The list of stations: those of a harmonics file, and those of a table of subordinate stations (the layout
+-- of XTide's list of locations).
 use Rattle.std.specs.Prelude.{ℕ, List, ◌++◌, codes, Option, Some, None, option_map, find}
 use Rattle.std.specs.List.{flat_map}
 use Rattle.std.specs.Str.{bytes_eq}
@@ -8,24 +9,25 @@ use Rattle.harmonics_text.specs.declared.book.Units.{Units}
 use Rattle.station_table.specs.declared.offsets.Offsets.{Offsets}
 use Rattle.event_text.specs.Lines.{text_of_unit}
 
--- the unit of the first station of that name
+-- the unit of the first station of a name
 abbrev pub unit_in : List Station → List ℕ → Option Units
 unit_in stations name = option_map (λ station. station.units) (find (λ station. bytes_eq name station.name) stations)
 
--- a unit, or `-` where there is none
+-- a unit, or `-` if there is none
 abbrev pub unit_or_dash : Option Units → List ℕ
 unit_or_dash None = codes "-"
 unit_or_dash (Some units) = text_of_unit units
 
+-- the line of a reference station
 abbrev pub reference_line : Station → List ℕ
 reference_line station = codes "Ref " ++ text_of_unit station.units ++ codes " " ++ station.name ++ codes "\n"
 
--- a subordinate station has the unit of its reference
+-- the line of a subordinate station, with the unit of its reference
 abbrev pub subordinate_line : List Station → Offsets → List ℕ
 subordinate_line stations row =
     codes "Sub " ++ unit_or_dash (unit_in stations row.reference) ++ codes " " ++ row.name
     ++ codes " (" ++ row.reference ++ codes ")\n"
 
--- a line for each station of the book, and then one for each row of the table
+-- a line for each station of the harmonics file, and then one for each row of the table
 unfoldable pub stations_text_of : Book → List Offsets → List ℕ
 stations_text_of book table = flat_map reference_line book.stations ++ flat_map (subordinate_line book.stations) table

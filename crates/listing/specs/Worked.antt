@@ -1,6 +1,7 @@
--- A level of a small file (this project).
+-- A level that listings were worked out for (this project).
 use Rattle.std.specs.Prelude.{pos}
 use Rattle.listing.specs.declared.row.Row.{Row}
 
+-- one foot at 2000-01-10T03:00Z
 abbrev pub level_now : Row
 level_now = record { minute = pos 15791220; level = pos 1000000 }

@@ -1,4 +1,4 @@
-//! What is told of a station.
+//! The facts of a station.
 
 ghost use Rattle.std.specs.Prelude.{◌≡◌, IfOk, string_bytes};
 ghost use Rattle.listing.specs.Abouts.{about_text_of, facts_of, names_of};
@@ -8,9 +8,10 @@ use event_text::unit_text;
 use harmonics_text::Units;
 use std::alloc::{AllocError, Global};
 
-/// Five lines: the station's name; its reference's behind `reference`; the unit of its levels behind
-/// `units`; how many constituents they are made of, behind `constituents`; and behind `agreement` how
-/// far its slope is at most from their steps, in the slope's unit.
+/// Returns five lines: the station's `name`; its reference's name after `reference`; the unit of its
+/// levels after `units`; the number of `constituents` after this word; and after `agreement` a bound of
+/// the difference between the station's slope and the steps of its levels from minute to minute, in the
+/// slope's unit (docs/FORMATS.md).
 #[tactic(auto, unfolding(crate::specs::Abouts::about_text_of))]
 pub fn about_text(
     alloc: Global,
@@ -28,6 +29,7 @@ pub fn about_text(
     Ok(Bytes::from_vec(text.into_bytes()))
 }
 
+/// Returns the first two lines.
 fn names(alloc: Global, name: &Text, reference: &Text) -> Result<String, AllocError>
     ensures { IfOk result (λ text. string_bytes text ≡ names_of name.now reference.now) }
 {
@@ -38,6 +40,7 @@ fn names(alloc: Global, name: &Text, reference: &Text) -> Result<String, AllocEr
     Ok(text)
 }
 
+/// Returns the last three lines.
 fn facts(
     alloc: Global,
     units: Units,

@@ -1,4 +1,4 @@
-//! What a station's clock tells.
+//! The level now and the next events.
 
 ghost use Rattle.std.specs.Prelude.{◌≡◌, ◌++◌, All, IfOk, OnOk};
 ghost use Rattle.event_text.specs.Lines.{IsListed};
@@ -14,11 +14,12 @@ use harmonics_text::Units;
 use std::alloc::{AllocError, Global};
 use zone_time::{Zone, ZoneClock};
 
-/// The station's name, a line such as `Now 2000-01-10 03:00 UTC       0.00 feet  Falling`, and the
-/// line of each event, as [`event_line`](crate::event_line) has it.
+/// Returns the station's `name`, a line such as `Now 2000-01-10 03:00 UTC       0.00 feet
+/// Falling`, and the line of each event, as [`event_line`](crate::event_line) writes it.
 ///
-/// The level is in millionths of the unit. Each event has a [`word`](event_text::word) in that unit,
-/// and each minute is of the years from 2 to 9300 or of the day before them.
+/// `now` is in minutes since 1970-01-01T00:00Z and `level` in millionths of `units`. Each event has
+/// a [`word`](event_text::word) in this unit, and each minute is in the years 2 to 9300 or on the
+/// day before them.
 #[tactic(auto, unfolding(crate::specs::Listings::clock_text_of))]
 pub fn clock_text(
     alloc: Global,
@@ -42,6 +43,7 @@ pub fn clock_text(
     Ok(Bytes::from_vec(text))
 }
 
+/// Appends the line of the level now.
 fn push_now(
     text: &mut Vec<u8>,
     units: Units,
@@ -63,6 +65,7 @@ fn push_now(
     text.extend_from_slice(b"\n")
 }
 
+/// Returns `Rising` if `rising`, and `Falling` otherwise.
 fn direction(rising: bool) -> &'static str
     ensures { result.now ≡ direction_of rising }
 {

@@ -1,4 +1,4 @@
-//! What is told of the highest water.
+//! The highest water of a span.
 
 ghost use Rattle.std.specs.Prelude.{◌≡◌, ◌++◌, IfOk, OnOk};
 ghost use Rattle.listing.specs.Listings.{highest_line_of, highest_text_of};
@@ -12,10 +12,10 @@ use harmonics_text::Units;
 use std::alloc::{AllocError, Global};
 use zone_time::{Zone, ZoneClock};
 
-/// The station's name, and a line such as `Highest 2000-01-10 00:00 UTC       1.00 feet`.
+/// Returns the station's `name`, and a line such as `Highest 2000-01-10 00:00 UTC       1.00 feet`.
 ///
-/// The level is in millionths of the unit, and the minute of the years from 2 to 9300 or of the day
-/// before them.
+/// `level` is in millionths of `units`. `minute` is since 1970-01-01T00:00Z, in the years 2 to 9300
+/// or on the day before them.
 #[tactic(auto, unfolding(crate::specs::Listings::highest_text_of))]
 pub fn highest_text(
     alloc: Global,
@@ -34,6 +34,7 @@ pub fn highest_text(
     Ok(Bytes::from_vec(text))
 }
 
+/// Appends the line of the highest water.
 fn push_highest(
     text: &mut Vec<u8>,
     units: Units,

@@ -1,11 +1,23 @@
-//! Listings of events and levels, line by line, as comma-separated values, and of stations.
+//! Listings of events, levels and stations, as lines or as comma-separated values.
 //!
 //! A line of a listing has the local time with its label, the level in hundredths of the unit, the
-//! unit and the event's name: [`event_line`]. [`plain_events`] puts such lines below the station's
-//! name, [`csv_events`] the same events into records; both are likewise for levels, and
-//! [`clock_text`] begins with the level now, and [`highest_text`] has the highest level alone. [`stations_text`] lists a book's stations and a
-//! table's, and [`about_text`] tells of one.
+//! unit and the event's name: [`event_line`].
+//!
+//! - [`plain_events`] returns such lines below the station's name, and [`csv_events`] the same
+//!   events as records; [`plain_heights`] and [`csv_heights`] do so for levels.
+//! - [`clock_text`] begins with the level now, and [`highest_text`] has the highest level alone.
+//! - [`stations_text`] lists the stations of a harmonics file and of a table, and [`about_text`]
+//!   the facts of one station.
+//!
 //! `specs/` has the layouts.
+//!
+//! # Examples
+//! ```
+//! let name = Text::from_str(alloc, "Pier")?;
+//! let low = Event { minute: 15791400, kind: Kind::Low, level: -1000000 };
+//! let events = Events::from_vec(vec![in alloc; low]?);
+//! let text = plain_events(alloc, &name, Units::Feet, &events, &Zone::Utc)?;
+//! ```
 #![tactic(auto)]
 
 mod about;

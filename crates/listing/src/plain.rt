@@ -1,4 +1,4 @@
-//! Listings in lines.
+//! Listings as lines.
 
 ghost use Rattle.std.specs.Prelude.{◌≡◌, ◌++◌, All, IfOk, OnOk, codes};
 ghost use Rattle.std.specs.List.{flat_map};
@@ -16,10 +16,11 @@ use harmonics_text::Units;
 use std::alloc::{AllocError, Global};
 use zone_time::{Zone, ZoneClock};
 
-/// The station's name, and the line of each event in the zone's local time, as [`event_line`] has it.
+/// Returns the station's `name`, and the line of each event in the zone's local time, as
+/// [`event_line`] writes it.
 ///
-/// Each event has a [`word`](event_text::word) in that unit, and a minute of the years from 2 to
-/// 9300 or of the day before them.
+/// Each event has a [`word`](event_text::word) in `units`, and a minute in the years 2 to 9300 or
+/// on the day before them.
 #[tactic(auto, unfolding(crate::specs::Listings::plain_events_of))]
 pub fn plain_events(
     alloc: Global,
@@ -37,8 +38,9 @@ pub fn plain_events(
     Ok(Bytes::from_vec(text))
 }
 
-/// The station's name, and the line of each level in the zone's local time, as [`height_line`] has
-/// it, with LF. The minutes are of the years from 2 to 9300 or of the day before them.
+/// Returns the station's `name`, and the line of each level in the zone's local time, as
+/// [`height_line`] writes it, with LF. The minutes are in the years 2 to 9300 or on the day before
+/// them.
 #[tactic(auto, unfolding(crate::specs::Listings::plain_heights_of))]
 pub fn plain_heights(
     alloc: Global,
@@ -59,7 +61,7 @@ pub fn plain_heights(
     Ok(Bytes::from_vec(text))
 }
 
-/// The line of a name, which a listing begins with.
+/// Returns the first line of a listing, the station's `name`.
 pub(crate) fn name_line(alloc: Global, name: &Text) -> Result<Vec<u8>, AllocError>
     ensures { IfOk result (λ text. text.items ≡ name.now ++ codes "\n") }
 {
@@ -84,6 +86,7 @@ pub(crate) fn push_events(
     Ok(())
 }
 
+/// Appends the line of `event`.
 fn push_event(
     text: &mut Vec<u8>,
     units: Units,
@@ -99,6 +102,7 @@ fn push_event(
     text.extend_from_slice(line.as_str().as_bytes())
 }
 
+/// Appends the line of the level `row`.
 fn push_row(
     text: &mut Vec<u8>,
     units: Units,

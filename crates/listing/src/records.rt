@@ -20,12 +20,12 @@ use harmonics_text::Units;
 use std::alloc::{AllocError, Global};
 use zone_time::{Zone, ZoneClock, write_moment, write_time};
 
-/// A record for each event, after the header `station,moment,local,event,level,units`. The moment is
-/// in universal time, as `2000-01-10T11:59Z`, and the local time is the zone's, as
-/// `2000-01-10 11:59`. The level has six decimals.
+/// Returns the header `station,moment,local,event,level,units` and a record for each event. The
+/// moment is in universal time, such as `2000-01-10T11:59Z`, and the local time is the zone's, such
+/// as `2000-01-10 11:59`. The level has six decimals.
 ///
-/// Each event has a [`word`](event_text::word) in that unit, and a minute of the years from 2 to
-/// 9300 or of the day before them.
+/// Each event has a [`word`](event_text::word) in `units`, and a minute in the years 2 to 9300 or
+/// on the day before them.
 #[tactic(auto, unfolding(crate::specs::Records::csv_events_of))]
 pub fn csv_events(
     alloc: Global,
@@ -47,8 +47,8 @@ pub fn csv_events(
     bytes_of(records)
 }
 
-/// A record for each level, after the header `station,moment,local,level,units`, with the fields of
-/// [`csv_events`]. The minutes are of the years from 2 to 9300 or of the day before them.
+/// Returns the header `station,moment,local,level,units` and a record for each level, with the
+/// fields of [`csv_events`]. The minutes are in the years 2 to 9300 or on the day before them.
 #[tactic(auto, unfolding(crate::specs::Records::csv_heights_of))]
 pub fn csv_heights(
     alloc: Global,
@@ -70,6 +70,7 @@ pub fn csv_heights(
     bytes_of(records)
 }
 
+/// Returns a writer of records that has written nothing.
 fn new_records(alloc: Global) -> Writer<Vec<u8>>
     ensures start { IsAtRecord result }
     ensures bytes { written result ≡ [] }
@@ -77,6 +78,7 @@ fn new_records(alloc: Global) -> Writer<Vec<u8>>
     WriterBuilder::new().from_writer(Vec::new(alloc))
 }
 
+/// Returns the bytes that `records` has written.
 fn bytes_of(records: Writer<Vec<u8>>) -> Result<Bytes, AllocError>
     ensures { IfOk result (λ text. text ≡ written records) }
 {
@@ -86,6 +88,7 @@ fn bytes_of(records: Writer<Vec<u8>>) -> Result<Bytes, AllocError>
     }
 }
 
+/// Appends a record of `fields`, quoted if they need it.
 fn push_record(records: &mut Writer<Vec<u8>>, fields: &[&[u8]]) -> Result<(), AllocError>
     requires start { IsAtRecord records.old }
     ensures end { OnOk result (IsAtRecord records.new) }
@@ -97,6 +100,7 @@ fn push_record(records: &mut Writer<Vec<u8>>, fields: &[&[u8]]) -> Result<(), Al
     }
 }
 
+/// Appends the header of events.
 fn push_event_header(records: &mut Writer<Vec<u8>>) -> Result<(), AllocError>
     requires start { IsAtRecord records.old }
     ensures end { OnOk result (IsAtRecord records.new) }
@@ -115,6 +119,7 @@ fn push_event_header(records: &mut Writer<Vec<u8>>) -> Result<(), AllocError>
     )
 }
 
+/// Appends the header of levels.
 fn push_row_header(records: &mut Writer<Vec<u8>>) -> Result<(), AllocError>
     requires start { IsAtRecord records.old }
     ensures end { OnOk result (IsAtRecord records.new) }
@@ -132,7 +137,7 @@ fn push_row_header(records: &mut Writer<Vec<u8>>) -> Result<(), AllocError>
     )
 }
 
-/// What the records of events and of levels share.
+/// The fields that records of events and of levels have in common, as text.
 #[derive(Drop)]
 struct Texts {
     moment: ArrayString<20>,
@@ -140,6 +145,7 @@ struct Texts {
     level: ArrayString<24>,
 }
 
+/// Returns the fields of a `level` in millionths at `minute`.
 fn texts_of(minute: i64, level: i64, zone: &ZoneClock<'_>) -> Texts
     requires minute { InZoneYears minute }
     ensures moment { result.moment.bytes ≡ moment_text minute }
@@ -157,6 +163,7 @@ fn texts_of(minute: i64, level: i64, zone: &ZoneClock<'_>) -> Texts
     texts
 }
 
+/// Appends the record of `event`.
 fn push_event(
     records: &mut Writer<Vec<u8>>,
     name: &Text,
@@ -180,6 +187,7 @@ fn push_event(
     )
 }
 
+/// Appends the record of an event from its fields.
 fn push_event_texts<'a>(
     records: &mut Writer<Vec<u8>>,
     name: &'a str,
@@ -205,6 +213,7 @@ fn push_event_texts<'a>(
     )
 }
 
+/// Appends the record of the level `row`.
 fn push_row(
     records: &mut Writer<Vec<u8>>,
     name: &Text,
@@ -221,6 +230,7 @@ fn push_row(
     push_row_texts(records, name.as_str(), &texts, unit_text(units))
 }
 
+/// Appends the record of a level from its fields.
 fn push_row_texts<'a>(
     records: &mut Writer<Vec<u8>>,
     name: &'a str,

@@ -3,8 +3,8 @@
 /// A station's level at a minute.
 #[derive(Clone, Copy, Debug, PartialEq, Eq)]
 pub struct Row {
-    /// In minutes since 1970-01-01T00:00Z.
+    /// Minutes since 1970-01-01T00:00Z.
     pub minute: i64,
-    /// In millionths of the station's unit.
+    /// Millionths of the station's unit.
     pub level: i64,
 }

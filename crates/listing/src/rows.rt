@@ -5,7 +5,7 @@ ghost use Rattle.std.specs.Prelude.{◌≡◌};
 use crate::row::Row;
 use std::marker::Model;
 
-/// Levels in the order in which they are listed. Contracts see it as the list of them.
+/// Levels in the order of their listing. Contracts see it as a list.
 #[derive(Clone, Debug, Drop)]
 pub struct Rows {
     items: Vec<Row>,
@@ -21,14 +21,14 @@ impl Model for Rows {
 }
 
 impl Rows {
-    /// The list of a vector's levels. It takes no memory.
+    /// Returns the list of the levels in `items`. Doesn't allocate.
     pub fn from_vec(items: Vec<Row>) -> Rows
         ensures { result ≡ items.items }
     {
         Rows { items }
     }
 
-    /// The levels, lent.
+    /// Returns the levels as a slice.
     pub fn as_slice(&self) -> &[Row]
         ensures { result.now ≡ self.now }
     {

@@ -12,9 +12,9 @@ use station_table::{OffsetTable, Offsets};
 use std::alloc::{AllocError, Global};
 use std::collections::BTreeMap;
 
-/// A line such as `Ref feet Pier` for each station of the book, and then one such as
-/// `Sub feet Dock (Pier)` for each row of the table. A row has the unit of the first station of its
-/// reference's name, or `-` where the book has none.
+/// Returns a line such as `Ref feet Pier` for each station of `book`, and then one such as `Sub
+/// feet Dock (Pier)` for each row of `table`. A row has the unit of the first station of its
+/// reference's name, or `-` if `book` has no such station.
 #[tactic(auto, unfolding(crate::specs::StationLists::stations_text_of))]
 pub fn stations_text(alloc: Global, book: &Book, table: &OffsetTable) -> Result<Bytes, AllocError>
     ensures { IfOk result (λ text. text ≡ stations_text_of book.now table.now) }
@@ -27,6 +27,7 @@ pub fn stations_text(alloc: Global, book: &Book, table: &OffsetTable) -> Result<
     Ok(Bytes::from_vec(text))
 }
 
+/// Appends a line for each reference station.
 fn push_references(text: &mut Vec<u8>, stations: &[Station]) -> Result<(), AllocError>
     ensures { OnOk result (text.new.items ≡ text.old.items ++ flat_map reference_line stations.now) }
 {
@@ -36,6 +37,7 @@ fn push_references(text: &mut Vec<u8>, stations: &[Station]) -> Result<(), Alloc
     Ok(())
 }
 
+/// Appends the line of the reference station `station`.
 fn push_reference(text: &mut Vec<u8>, station: &Station) -> Result<(), AllocError>
     ensures { OnOk result (text.new.items ≡ text.old.items ++ reference_line station.now) }
 {
@@ -46,7 +48,7 @@ fn push_reference(text: &mut Vec<u8>, station: &Station) -> Result<(), AllocErro
     text.extend_from_slice(b"\n")
 }
 
-/// The unit of the first station of each name.
+/// Returns the unit of the first station of each name.
 fn units_by_name(alloc: Global, stations: &[Station]) -> Result<BTreeMap<&str, Units>, AllocError>
     ensures { IfOk result (AreUnitsOf stations.now) }
 {
@@ -57,6 +59,7 @@ fn units_by_name(alloc: Global, stations: &[Station]) -> Result<BTreeMap<&str, U
     Ok(units)
 }
 
+/// Appends a line for each subordinate station.
 fn push_subordinates(
     text: &mut Vec<u8>,
     stations: &[Station],
@@ -72,6 +75,7 @@ fn push_subordinates(
     Ok(())
 }
 
+/// Appends the line of the subordinate station `row`.
 fn push_subordinate(
     text: &mut Vec<u8>,
     stations: &[Station],
@@ -90,6 +94,7 @@ fn push_subordinate(
     text.extend_from_slice(b")\n")
 }
 
+/// Returns the unit of the reference station `name`, or `-` if no station has this name.
 fn unit_or_dash(stations: &[Station], units: &BTreeMap<&str, Units>, name: &Text) -> &'static str
     requires units { AreUnitsOf stations.now units.now }
     ensures { result.now ≡ unit_or_dash (unit_in stations.now name.now) }

@@ -1,4 +1,4 @@
-//! Listings that were worked out by hand.
+//! Listings worked out by hand.
 
 ghost use Rattle.std.specs.Prelude.{◌≡◌, [], ◌∷◌, ◌++◌, false, pos, negsuc, codes, Some, None};
 ghost use Rattle.harmonics_text.specs.declared.book.Units.{Units};
@@ -11,8 +11,8 @@ ghost use Rattle.listing.specs.StationLists.{stations_text_of};
 ghost use Rattle.event_text.specs.Worked.{high_tide, low_tide};
 ghost use Rattle.listing.specs.Worked.{level_now};
 
-/// Listings in lines: two events, a level by a clock that is behind universal time, what a
-/// station's clock tells, and its highest water.
+/// Listings as lines: two events; a level by a clock that is behind universal time; the level now
+/// with the next event; and a highest water.
 pub fn worked_listings()
     ensures events { plain_events_of (codes "Pier") Units.Feet (low_tide ∷ high_tide ∷ []) Zone.Utc
         ≡ codes "Pier\n2000-01-10 06:00 UTC      -1.00 feet  Low Tide\n2000-01-10 11:59 UTC       1.00 feet  High Tide\n" }
@@ -24,8 +24,8 @@ pub fn worked_listings()
         ≡ codes "Pier\nHighest 2000-01-10 00:00 UTC       1.00 feet\n" }
 {}
 
-/// Listings in records: a name that has a comma and quotes is quoted, and the moment is in universal
-/// time.
+/// Listings as records: a name that has a comma and quotes is quoted, and the moment is in
+/// universal time.
 pub fn worked_records()
     ensures event { csv_events_of (codes "Pier") Units.Feet (low_tide ∷ []) (Zone.Fixed (negsuc 299))
         ≡ codes "station,moment,local,event,level,units\nPier,2000-01-10T06:00Z,2000-01-10 01:00,Low Tide,-1.000000,feet\n" }
@@ -34,7 +34,8 @@ pub fn worked_records()
     ensures none { csv_events_of (codes "Pier") Units.Feet [] Zone.Utc ≡ codes "station,moment,local,event,level,units\n" }
 {}
 
-/// The stations of a book and of a table, one of whose references the book lacks.
+/// The list of the stations of a harmonics file and of a table, one of whose reference stations the
+/// file lacks.
 #[tactic(auto, unfolding(crate::specs::StationLists::stations_text_of, event_text::specs::Lines::text_of_unit))]
 pub fn worked_stations()
     ensures { stations_text_of pier_book dock_rows

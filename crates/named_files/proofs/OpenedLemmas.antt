@@ -1,4 +1,4 @@
--- What was opened of one file, and of one after the other.
+-- The opening of one file, and of one after the other.
 use Rattle.std.proofs.Common.{◌≡◌, ◌∙◌, ap, sym, ℕ, ◌+◌, List, [], ◌∷◌, ◌++◌, length, map, Option, Some, None, Result, Ok, Err, inl, inr, refl, append_assoc, append-nil, suc}
 use Rattle.std.specs.Prelude.{OnOk, slice_get}
 use Rattle.std.specs.Result.{IsErrAnd}
@@ -64,7 +64,7 @@ opened_named slot name expected before after result (inr (opening, named, is, me
   answer = λ file shows. rw shows meets;
 }
 
--- none
+-- no file is named
 pub opened_none : {T : Type 0} (slot : Slot) (expected : Option (List ℕ) → Result T NoAnswer) (before : Openings) (result : Result T NoAnswer)
     → ((file : Option (List ℕ)) → Meets source_of (Unit {0}) (expected file) result) → Opened slot None expected before before result
 opened_none slot expected before result meets = record {
@@ -76,7 +76,7 @@ opened_none slot expected before result meets = record {
   answer = λ file is. meets file;
 }
 
--- what is expected of a file says what else is
+-- a fact that follows from the expected result of a file
 pub opened_as : {T S : Type 0} (slot : Slot) (name : Option (List ℕ)) (expected : Option (List ℕ) → Result T NoAnswer)
     (also : Option (List ℕ) → Result S NoAnswer) (before after : Openings) (result : Result T NoAnswer) (other : Result S NoAnswer)
     → ((file : Option (List ℕ)) → Meets source_of (Unit {0}) (expected file) result → Meets source_of (Unit {0}) (also file) other)
@@ -91,7 +91,7 @@ opened_as slot name expected also before after result other says whole o = recor
   answer = λ file is. says file (o.answer file is);
 }
 
--- the same of a file that is named, whatever the fault of reading it
+-- such a fact for a file that is named, whatever the fault of reading it
 pub opened_once_as : {T E S : Type 0} (slot : Slot) (name : List ℕ) (source : E → Source) (expected : Option (List ℕ) → Result T E)
     (also : Option (List ℕ) → Result S NoAnswer) (before after : Openings) (result : Result T E) (other : Result S NoAnswer)
     → ((file : Option (List ℕ)) → Meets source (Unit {0}) (expected file) result → Meets source_of (Unit {0}) (also file) other)
@@ -101,18 +101,18 @@ opened_once_as slot name source expected also before after result other says out
 opened_once_as slot name source expected also before after result other says out (inr (opening, named, is, meets)) =
     inr (opening, named, is, says (as_came (limit_of slot) opening) meets)
 
--- what stands at an index behind as many
+-- the element at an index after that many others
 get_behind : (before : List Opening) (here : Opening) (more : List Opening) → slice_get (before ++ here ∷ more) (length before) ≡ Some here
 get_behind [] here more = refl
 get_behind (first ∷ before) here more = get_behind before here more
 
--- openings in their place show their file
+-- the opening at a file's index shows the file
 pub shown_at : (slot : Slot) (before here more : List Opening) (index : ℕ) → index ≡ length before
     → IsShown slot here (shown slot (slice_get (before ++ (here ++ more)) index))
 shown_at slot before [] more index at = tt
 shown_at slot before (opening ∷ rest) more index at = rw at (ap (shown slot) (get_behind before opening (rest ++ more)))
 
--- ---- What is read of a file, by what was read of its bytes
+-- ---- The contents of a file, from its bytes
 
 memory_of_bytes : (slot : Slot) (result : Result (List ℕ) ReadAllFault) → IsOutOfMemory source_of_reading result
     → IsOutOfMemory source_of (bytes_from slot result)
@@ -158,7 +158,7 @@ opened_book name before after result once =
 
 -- ---- One file after the other
 
--- what was opened goes on behind what was opened before
+-- openings follow those before
 pub go_on : (before between after : Openings) (first second : List Opening) → openings_of between ≡ openings_of before ++ first
     → openings_of after ≡ openings_of between ++ second → openings_of after ≡ openings_of before ++ (first ++ second)
 go_on before between after first second is then =
@@ -168,7 +168,7 @@ map-append : (first second : List Opening) → map (λ o. o.name) (first ++ seco
 map-append [] second = refl
 map-append (o ∷ first) second = ap (λ names. o.name ∷ names) (map-append first second)
 
--- and so do the names
+-- names follow those before
 pub names_on : (first second : List Opening) (names more left : List (List ℕ)) → names ≡ map (λ o. o.name) first
     → more ≡ map (λ o. o.name) second ++ left → names ++ more ≡ map (λ o. o.name) (first ++ second) ++ left
 names_on first second names more left is then =
@@ -217,7 +217,7 @@ stops_at name question slot None is = up_to name question slot
 stops_at name question slot (Some other) is =
     ([], ap (λ it. names_to name question (Some it)) (is other refl) ∙ sym (append-nil (names_to name question (Some slot))))
 
--- the files that were opened up to one that is why there is no answer
+-- the files that were opened up to one that is the reason
 stopped : (question : Question) (name : List ℕ) (slot : Slot) (before after : Openings) (none : NoAnswer) (openings : List Opening)
     (left : List (List ℕ)) → IsOf slot none → openings_of after ≡ openings_of before ++ openings
     → names_to name question (Some slot) ≡ map (λ o. o.name) openings ++ left
@@ -236,7 +236,7 @@ stopped question name slot before after none openings left of_slot all names ans
       answer = answer;
     })
 
--- ---- What the openings show of each file
+-- ---- The contents of each file, from the openings
 
 pub shown_second : (p q more : List Opening) → 1 ≡ length p → IsShown Offsets q (shown Offsets (slice_get (p ++ (q ++ more)) 1))
 shown_second p q more one = shown_at Offsets p q more 1 one
@@ -254,9 +254,9 @@ shown_fourth p q r s count also one counted too =
     (shown_at Certificate (p ++ (q ++ r)) s [] (1 + (count + also))
     (rw (one, counted, too) (sym (length-append p (q ++ r) ∙ ap (λ n. length p + n) (length-append q r)))))
 
--- ---- The files of a question
+-- ---- The files of a request
 
--- each is read by its own name, from the file that its openings show
+-- each file is read by its own name, with the contents that its opening shows
 abbrev pub book_shown : List ℕ → Option (List ℕ) → Result TheBook NoAnswer
 book_shown name file = book_named (λ _. file) name
 

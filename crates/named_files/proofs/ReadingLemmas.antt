@@ -1,4 +1,4 @@
--- How what was read follows from its steps.
+-- The contents of files, from the steps of reading.
 use Rattle.std.proofs.Common.{◌≡◌, ◌∙◌, ap, sym, ℕ, nat_le, Bool, true, false, cond, List, length, Option, Some, None, Result, Ok, Err, refl, subst}
 use Rattle.std.specs.Result.{IsErrAnd}
 use Rattle.decimal_text.specs.Expected.{◌>>=◌, Excused, Gives}
@@ -35,7 +35,7 @@ excuses_next firm memory step next none excused = tt
 excuses_next firm outside step next none excused = λ f. rw (excused f) refl
 excuses_next firm given step next none excused = rw excused refl
 
--- a result that is an excused fault meets what is expected
+-- a result that is an excused fault meets the expected one
 meets_fault : {A : Type 0} (firm : Type 0) (expected result : Result A NoAnswer) (none : NoAnswer) → IsErrAnd result (λ e. e ≡ none) → Excuses (source_of none) firm expected none → Meets source_of firm expected result
 meets_fault firm expected (Ok value) none is excused = absurd is
 meets_fault firm expected (Err e) none is excused =
@@ -44,12 +44,12 @@ meets_fault firm expected (Err e) none is excused =
 pub meets_at : {A B : Type 0} (firm : Type 0) (step : Result A NoAnswer) (next : A → Result B NoAnswer) (result : Result B NoAnswer) (none : NoAnswer) → IsErrAnd result (λ e. e ≡ none) → Excuses (source_of none) firm step none → Meets source_of firm (step >>= next) result
 meets_at firm step next result none is excused = meets_fault firm (step >>= next) result none is (excuses_next firm (source_of none) step next none excused)
 
--- whether reading has failed, where a step has
+-- reading has failed, if a step has
 pub failed_at : {A : Type 0} (result : Result A NoAnswer) (none : NoAnswer) → IsErrAnd result (λ e. e ≡ none) → reading_failed result ≡ is_unread none
 failed_at (Ok value) none is = absurd is
 failed_at (Err e) none is = ap is_unread is
 
--- ---- What excuses a fault
+-- ---- The excuses of a fault
 
 inside_excuses : {A : Type 0} (firm : Type 0) (memory_wanted : Bool) (expected : Result A NoAnswer) (none : NoAnswer) → Excused memory_wanted expected none → Excuses (cond memory_wanted memory given) firm expected none
 inside_excuses firm true expected none excused = tt
@@ -60,7 +60,7 @@ gives_excuses firm expected Unread excused = λ f. excused
 gives_excuses firm expected (Told fault) excused = inside_excuses firm (fault_wants_memory fault) expected (Told fault) excused
 gives_excuses firm expected (Refused refusal rows) excused = inside_excuses firm (wants_memory_of_refusal refusal) expected (Refused refusal rows) excused
 
--- a step of which nothing outside is asked
+-- a step that touches no file and no clock
 pub meets_inside : {A : Type 0} (firm : Type 0) (expected result : Result A NoAnswer) → Gives wants_memory expected result → Meets source_of firm expected result
 meets_inside firm expected (Ok value) gives = gives
 meets_inside firm expected (Err none) gives = gives_excuses firm expected none gives
@@ -84,7 +84,7 @@ excuses_bytes firm slot file reading.Failed excused = λ s. rw (excused s) refl
 excuses_bytes firm slot file reading.TooLong excused = rw excused refl
 excuses_bytes firm slot file reading.NoMemory excused = tt
 
--- ---- The book, which is loaded in pieces
+-- ---- The harmonic constants, which are loaded in pieces
 
 unfoldable pub named_from : Result TheBook LoadFault → Result TheBook NoAnswer
 named_from (Ok book) = Ok book
@@ -120,7 +120,7 @@ excuses_book firm folder name load.TooLong excused = named_as_loaded folder name
 excuses_book firm folder name (load.Book form.NoMemory) excused = tt
 excuses_book firm folder name (load.Book (form.At line why)) excused = named_as_loaded folder name (Err (load.Book (form.At line why))) excused
 
--- ---- How much was read before a fault
+-- ---- The bytes that were read before a fault
 
 to_fault : (question : Question) (slot : Slot) (said : Option Slot) (failed : Bool) (before after : FilesState) → ForSome said (λ other. other ≡ slot) → ReadWithin (files_allowed question) failed before after → ReadWithin (allowed_to question (Some slot)) failed before after → ReadWithin (allowed_to question said) failed before after
 to_fault question slot None failed before after is all own = all
@@ -148,12 +148,12 @@ to_zone question none before between beyond after is book table zone =
     (read_then (one_file (limit_of File)) (both (allowed_for Offsets question.offsets) (allowed_for Zone (zone_file question.zone))) (is_unread none) before between after book
     (read_then (allowed_for Offsets question.offsets) (allowed_for Zone (zone_file question.zone)) (is_unread none) between beyond after table zone))
 
--- a certificate is the last of them
+-- a certificate is the last file
 pub to_certificate : (question : Question) (none : NoAnswer) (before after : FilesState) → IsOf Certificate none → ReadWithin (files_allowed question) (is_unread none) before after → ReadWithin (allowed_to question (file_of none)) (is_unread none) before after
 to_certificate question none before after is all =
     to_fault question Certificate (file_of none) (is_unread none) before after is all all
 
--- the fault that was given is that of the step
+-- the returned fault is that of the step
 pub last_at : {A : Type 0} (question : Question) (result : Result A NoAnswer) (none : NoAnswer) (before after : FilesState) → IsErrAnd result (λ e. e ≡ none) → ReadWithin (allowed_to question (file_of none)) (is_unread none) before after → IfErr result (λ e. ReadWithin (allowed_to question (file_of e)) (is_unread e) before after)
 last_at question (Ok value) none before after is read = absurd is
 last_at question (Err e) none before after is read =

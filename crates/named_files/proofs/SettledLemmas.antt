@@ -1,4 +1,4 @@
--- A fault whose status isn't that of no memory is the expected one.
+-- A fault whose status isn't that of out of memory is the expected one.
 use Rattle.std.proofs.Common.{◌≡◌, ◌∙◌, Result, Err, inl, inr, refl}
 use Rattle.decimal_text.specs.Expected.{Excuses}
 use Rattle.harmonics_text.specs.declared.fault.BookFault.TheVariants as form
@@ -32,7 +32,7 @@ settles expected (Told (Refused _)) excuses other = excuses
 settles expected (none_of.Refused refusals.NoMemory rows) excuses other = absurd (other refl)
 settles expected (none_of.Refused _ rows) excuses other = excuses
 
--- the same of the status with which it was written
+-- a fault is the expected one, by the status with which its line was written
 pub told_settles : {T : Type 0} (expected : Result T NoAnswer) (none : NoAnswer) (status : Status) (before after : SinkState)
     → Excuses (source_of none) (Unit {0}) expected none → Tells none status before after → ¬ (status ≡ NoMemory) → expected ≡ Err none
 told_settles expected none status before after excuses told other =

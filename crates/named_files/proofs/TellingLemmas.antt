@@ -1,4 +1,4 @@
--- A fault of reading is told as one, and no other is.
+-- A fault of reading is reported as one, and no other is.
 use Rattle.std.proofs.Common.{◌≡◌, false, refl}
 use Rattle.question.specs.declared.fault.AskFault.TheVariants as ask
 use Rattle.harmonics_text.specs.declared.fault.BookFault.TheVariants as form

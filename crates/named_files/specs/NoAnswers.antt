@@ -1,4 +1,4 @@
--- Why the words of a run have no answer (this project).
+-- The reasons for which a command line has no answer (this project).
 use Rattle.std.specs.Prelude.{◌≡◌, ℕ, Bool, true, false, if◌then◌else◌, Option, Some, None, Result, Ok, Err, List, [], codes}
 use Rattle.std.specs.Option.{ForSome}
 use Rattle.station_table.specs.declared.offsets.Offsets.{Offsets}
@@ -14,59 +14,63 @@ use Rattle.decimal_text.specs.Expected.{Source, memory, outside, given}
 use Rattle.named_files.specs.declared.no_answer.NoAnswer.{NoAnswer}
 use Rattle.named_files.specs.declared.no_answer.NoAnswer.TheVariants.{Unread, Told, Refused}
 
--- a step of which nothing outside is asked
+-- the result of a step that touches no file and no clock
 abbrev pub told : {A : Type 0} → Result A Fault → Result A NoAnswer
 told (Ok value) = Ok value
 told (Err fault) = Err (Told fault)
 
--- a step over a table, whose rows go with its refusals
+-- the result of a step over a table, whose rows go with its refusals
 abbrev pub refused_over : {A : Type 0} → List Offsets → Result A Refusal → Result A NoAnswer
 refused_over rows (Ok value) = Ok value
 refused_over rows (Err refusal) = Err (Refused refusal rows)
 
+-- the exit status of a reason
 abbrev pub status_of : NoAnswer → Status
 status_of Unread = status.ReadFault
 status_of (Told fault) = status_of_fault fault
 status_of (Refused refusal rows) = status_of_refusal refusal
 
+-- the line of a reason
 abbrev pub line_of : NoAnswer → List ℕ
 line_of Unread = codes "read fault\n"
 line_of (Told fault) = line_of_fault [] fault
 line_of (Refused refusal rows) = line_of_fault rows (faults.Refused refusal)
 
--- its line can be written
+-- a reason whose line can be printed
 abbrev pub IsTold : NoAnswer → Type 0
 IsTold Unread = Unit {0}
 IsTold (Told fault) = IsToldFault [] fault
 IsTold (Refused refusal rows) = IsToldRefusal rows refusal
 
+-- true if memory ran out
 abbrev pub wants_memory : NoAnswer → Bool
 wants_memory Unread = false
 wants_memory (Told fault) = fault_wants_memory fault
 wants_memory (Refused refusal rows) = wants_memory_of_refusal refusal
 
--- where it comes from
+-- the source of a reason: a file or the clock, memory, or the request and the bytes of the files
 abbrev pub source_of : NoAnswer → Source
 source_of Unread = outside
 source_of (Told fault) = if fault_wants_memory fault then memory else given
 source_of (Refused refusal rows) = if wants_memory_of_refusal refusal then memory else given
 
--- a status says that something couldn't be read
+-- the status for a file or a clock that couldn't be read
 abbrev pub is_read_fault : Status → Bool
 is_read_fault status.ReadFault = true
 is_read_fault _ = false
 
--- a file or the clock couldn't be read
+-- the reason that a file or the clock couldn't be read
 abbrev pub is_unread : NoAnswer → Bool
 is_unread Unread = true
 is_unread (Told fault) = false
 is_unread (Refused refusal rows) = false
 
+-- a file or the clock couldn't be read
 abbrev pub reading_failed : {A : Type 0} → Result A NoAnswer → Bool
 reading_failed (Ok value) = false
 reading_failed (Err none) = is_unread none
 
--- the file that is too long or isn't of its form, where that is why
+-- the file that is too long or is not of its form, if this is the fault
 abbrev pub file_of_fault : Fault → Option Slot
 file_of_fault (faults.TooLong slot) = Some slot
 file_of_fault (faults.Book form) = Some slots.File
@@ -76,11 +80,12 @@ file_of_fault (faults.Ask ask) = None
 file_of_fault (faults.NoSheet word) = None
 file_of_fault (faults.Refused refusal) = None
 
+-- the file that is too long or is not of its form, if this is the reason
 abbrev pub file_of : NoAnswer → Option Slot
 file_of Unread = None
 file_of (Told fault) = file_of_fault fault
 file_of (Refused refusal rows) = None
 
--- no other file is why
+-- no other file is the reason
 abbrev pub IsOf : Slot → NoAnswer → Type 0
 IsOf slot none = ForSome (file_of none) (λ other. other ≡ slot)

@@ -1,4 +1,4 @@
--- What is opened of a question's files, and what they are by what came of them (this project).
+-- The openings of a request's files, and the contents that they show (this project).
 use Rattle.std.specs.Prelude.{◌≡◌, ◌+◌, ℕ, List, [], ◌∷◌, ◌++◌, length, map, Option, Some, None, Result, Ok, Err, OnOk, slice_get}
 use Rattle.decimal_text.specs.Expected.{Meets}
 use Rattle.question.specs.declared.question.Question.{Question}
@@ -11,13 +11,13 @@ use Rattle.named_files.specs.declared.no_answer.NoAnswer.{NoAnswer}
 use Rattle.named_files.specs.NoAnswers.{file_of, source_of}
 use Rattle.named_files.specs.Readings.{Folders, files_in, limit_of, zone_file}
 
--- ---- The names, in the order in which they are read
+-- ---- The names, in the order of reading
 
--- of all files of a question, the first of this name
+-- the names of all files of a request whose harmonics file has the name
 abbrev pub names_of : List ℕ → Question → List (List ℕ)
 names_of name question = name ∷ (listed question.offsets ++ (listed (zone_file question.zone) ++ listed question.certificate))
 
--- those up to the file that is why there is no answer; all of them, if it is none
+-- the names up to the file that is the reason, or all if none is
 abbrev pub names_to : List ℕ → Question → Option Slot → List (List ℕ)
 names_to name question None = names_of name question
 names_to name question (Some slots.File) = name ∷ []
@@ -25,35 +25,36 @@ names_to name question (Some slots.Offsets) = name ∷ listed question.offsets
 names_to name question (Some slots.Zone) = name ∷ (listed question.offsets ++ listed (zone_file question.zone))
 names_to name question (Some slots.Certificate) = names_of name question
 
--- the file that is why a result has no value, if it is one
+-- the file for which a result has no value, if one is the reason
 abbrev pub failing_file : {T : Type 0} → Result T NoAnswer → Option Slot
 failing_file (Ok value) = None
 failing_file (Err none) = file_of none
 
--- ---- What came
+-- ---- The bytes that were read
 
--- a file as an opening shows it; none without an opening
+-- the contents of a file as an opening shows them; none without an opening
 abbrev pub shown : Slot → Option Opening → Option (List ℕ)
 shown slot None = None
 shown slot (Some opening) = as_came (limit_of slot) opening
 
--- the index of a file among the openings of a question, if it is named
+-- the index of a file among the openings of a request, if it is named
 abbrev pub index_of : Question → Slot → ℕ
 index_of question slots.File = 0
 index_of question slots.Offsets = 1
 index_of question slots.Zone = 1 + length (listed question.offsets)
 index_of question slots.Certificate = 1 + (length (listed question.offsets) + length (listed (zone_file question.zone)))
 
--- the files of a question as these openings of them show them, whatever their names
+-- the files of a request as its openings show them, whatever their names
 abbrev pub folders_shown : Question → List Opening → Folders
 folders_shown question openings = λ slot name. shown slot (slice_get openings (index_of question slot))
 
--- One file was opened, if it is named and memory sufficed, and the result is that of the file as the opening shows it; if none is
--- named, of any.
+-- the contents of a file are what its opening shows; anything without an opening
 abbrev pub IsShown : Slot → List Opening → Option (List ℕ) → Type 0
 IsShown slot [] file = Unit {0}
 IsShown slot (opening ∷ more) file = file ≡ shown slot (Some opening)
 
+-- one file was opened, if it is named and memory sufficed, and the result is that of the contents that the
+-- opening shows
 pub record Opened {T : Type 0} (slot : Slot) (name : Option (List ℕ)) (expected : Option (List ℕ) → Result T NoAnswer)
     (before after : Openings) (result : Result T NoAnswer) : Type 0 where
   pub openings : List Opening
@@ -63,8 +64,8 @@ pub record Opened {T : Type 0} (slot : Slot) (name : Option (List ℕ)) (expecte
   pub whole : OnOk result (unopened ≡ [])
   pub answer : (file : Option (List ℕ)) → IsShown slot openings file → Meets source_of (Unit {0}) (expected file) result
 
--- Files were opened in the order of these names, each once and none behind the one that is why there is no value; and the result is
--- what is expected by what came of them.
+-- files were opened in the order of the names, each once and none after the one that is the reason; and the
+-- result is the expected one of the openings
 pub record IsResultOf {T : Type 0} (wanted : Option Slot → List (List ℕ)) (expected : List Opening → Result T NoAnswer) (before after : Openings)
     (result : Result T NoAnswer) : Type 0 where
   pub openings : List Opening
@@ -73,8 +74,8 @@ pub record IsResultOf {T : Type 0} (wanted : Option Slot → List (List ℕ)) (e
   pub names : wanted (failing_file result) ≡ map (λ o. o.name) openings ++ unopened
   pub answer : Meets source_of (Unit {0}) (expected openings) result
 
--- The files of a question were opened in their order, each once, none behind the one that is why there is no answer, and all if there is
--- one; and the result is that of the files as these openings show them.
+-- the files of a request were opened in their order, each once, none after the one that is the reason, and
+-- all if there is none; and the result is that of the files as these openings show them
 pub record AreOpened (question : Question) (name : List ℕ) (before after : Openings) (result : Result Materials NoAnswer) : Type 0 where
   pub openings : List Opening
   pub unopened : List (List ℕ)

@@ -1,4 +1,5 @@
--- What a run reads from outside beside its words, a file's reading before its form (this project).
+-- The contents of a request's files; each is read and its form checked before the next is opened (this
+-- project).
 use Rattle.std.specs.Prelude.{ℕ, List, [], Option, Some, None, Result, Ok, Err}
 use Rattle.decimal_text.specs.Expected.{◌>>=◌}
 use Rattle.harmonics_text.specs.declared.book.Book.{Book as TheBook}
@@ -32,61 +33,68 @@ use Rattle.decimal_text.specs.declared.limits.TheConstants.{MOST_BYTES}
 
 -- ---- The bytes of a file
 
--- the most bytes of a file, by what it is read as
+-- the greatest number of bytes of a file, by what it is read as
 abbrev pub limit_of : Slot → ℕ
 limit_of slots.File = 67108864
 limit_of slots.Offsets = 67108864
 limit_of slots.Zone = 1048576
 limit_of slots.Certificate = MOST_BYTES
 
+-- the reason for which a file couldn't be read
 abbrev pub fault_of_reading : Slot → ReadAllFault → NoAnswer
 fault_of_reading slot reading.Failed = Unread
 fault_of_reading slot reading.TooLong = Told (TooLong slot)
 fault_of_reading slot reading.NoMemory = Told (Refused NoMemory)
 
+-- the bytes of a file, or the reason
 abbrev pub bytes_from : Slot → Result (List ℕ) ReadAllFault → Result (List ℕ) NoAnswer
 bytes_from slot (Ok bytes) = Ok bytes
 bytes_from slot (Err fault) = Err (fault_of_reading slot fault)
 
--- of what is under a name: the bytes, or the fault of reading them
+-- the bytes of the file of a name, or the reason
 abbrev pub bytes_of : Slot → Option (List ℕ) → Result (List ℕ) NoAnswer
 bytes_of slot file = bytes_from slot (whole (limit_of slot) file)
 
--- the fault of loading the file, whose form is found while it is read
+-- the reason for which a harmonics file, whose form is checked while it is read, couldn't be loaded
 abbrev pub fault_of_loading : LoadFault → NoAnswer
 fault_of_loading load.Failed = Unread
 fault_of_loading load.TooLong = Told (TooLong slots.File)
 fault_of_loading (load.Book fault) = Told (Book fault)
 
--- ---- What they hold
+-- ---- The contents
 
+-- the harmonic constants of a file, or the reason
 abbrev pub book_from : Result TheBook At → Result TheBook NoAnswer
 book_from (Ok book) = Ok book
 book_from (Err at) = Err (Told (Book (form.At at.line at.why)))
 
+-- the rows of a table's file, or the reason
 abbrev pub table_from : Result (List Row) OffsetFault → Result (List Row) NoAnswer
 table_from (Ok rows) = Ok rows
 table_from (Err fault) = Err (Told (Offsets fault))
 
+-- the zone of a file, or the reason
 abbrev pub zone_from : Result Zone ZoneFault → Result Zone NoAnswer
 zone_from (Ok zone) = Ok zone
 zone_from (Err zones.BadZone) = Err (Told BadZone)
 zone_from (Err zones.NoMemory) = Err (Told (Refused NoMemory))
 
--- ---- By the names of a question
+-- ---- By the names of a request
 
+-- the harmonic constants in the file of a name
 unfoldable pub book_named : Folder → List ℕ → Result TheBook NoAnswer
 book_named folder name = do
   bytes ← bytes_of slots.File (folder name)
   book_from (book_of bytes)
 
--- no row where no table is named
+-- the rows in the file of a name; no row if no table is named
 unfoldable pub table_named : Folder → Option (List ℕ) → Result (List Row) NoAnswer
 table_named folder None = Ok []
 table_named folder (Some name) = do
   bytes ← bytes_of slots.Offsets (folder name)
   table_from (table_of bytes)
 
+-- the zone of a request, which may name a file
 unfoldable pub zone_named : Folder → ZoneWord → Result Zone NoAnswer
 zone_named folder words.Utc = Ok Utc
 zone_named folder (words.Fixed minutes) = Ok (Fixed minutes)
@@ -94,16 +102,16 @@ zone_named folder (words.Named name) = do
   bytes ← bytes_of slots.Zone (folder name)
   zone_from (zone_of bytes)
 
--- no byte where no certificate is named; what it says is judged with the question
+-- the text in the file of a name; no byte if no certificate is named; the request checks its form
 unfoldable pub certificate_named : Folder → Option (List ℕ) → Result (List ℕ) NoAnswer
 certificate_named folder None = Ok []
 certificate_named folder (Some name) = bytes_of slots.Certificate (folder name)
 
--- a folder for each thing that a file is read as, since a file that is read twice may have changed in between
+-- a folder for each purpose of a file, since a file that is read twice may have changed in between
 abbrev pub Folders : Type 0
 Folders = Slot → Folder
 
--- all files of a question in their order, the first of this name
+-- the contents of all files of a request in their order; the harmonics file has the name
 unfoldable pub files_in : Folders → Question → List ℕ → Result Materials NoAnswer
 files_in folders question name = do
   book ← book_named (folders slots.File) name
@@ -112,27 +120,27 @@ files_in folders question name = do
   certificate ← certificate_named (folders slots.Certificate) question.certificate
   Ok (record { book = book; table = table; zone = zone; certificate = certificate })
 
--- ---- How much of them may be read
+-- ---- The bytes that may be read
 
--- the file of a zone's word
+-- the name of a zone's file
 abbrev pub zone_file : ZoneWord → Option (List ℕ)
 zone_file words.Utc = None
 zone_file (words.Fixed minutes) = None
 zone_file (words.Named name) = Some name
 
--- of what is read as this, where it is named
+-- the bytes that may be read of a file, if it is named
 abbrev pub allowed_for : Slot → Option (List ℕ) → Allowance
 allowed_for slot None = no_file
 allowed_for slot (Some name) = one_file (limit_of slot)
 
--- of all files of a question that names one
+-- the bytes that may be read of all files of a request
 abbrev pub files_allowed : Question → Allowance
 files_allowed question =
     both (one_file (limit_of slots.File))
     (both (allowed_for slots.Offsets question.offsets)
     (both (allowed_for slots.Zone (zone_file question.zone)) (allowed_for slots.Certificate question.certificate)))
 
--- of these files those up to the one that is why there is no answer, or all, where that is none of them
+-- the bytes that may be read up to the file that is the reason, or of all files if none is
 abbrev pub allowed_to : Question → Option Slot → Allowance
 allowed_to question None = files_allowed question
 allowed_to question (Some slots.File) = one_file (limit_of slots.File)

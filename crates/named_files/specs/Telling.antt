@@ -1,4 +1,4 @@
--- What is told of a fault (this project).
+-- The line that reports a reason (this project).
 use Rattle.std.specs.Prelude.{◌≡◌, ◌⊎◌, ℕ, Bool, false, List, codes}
 use Rattle.tide_edge.specs.SinkStates.{SinkState, Wrote}
 use Rattle.tide_fault.specs.declared.status.Status.{Status}
@@ -10,12 +10,12 @@ use Rattle.named_files.specs.NoAnswers.{status_of, line_of, is_unread}
 abbrev pub WroteLine : SinkState → SinkState → List ℕ → Type 0
 WroteLine before after line = (failed : Bool) × Wrote before after failed line
 
--- a status with its line; or want of memory with its own
+-- a status with its line; or that memory ran out
 abbrev pub TellsFault : Status → List ℕ → Status → SinkState → SinkState → Type 0
 TellsFault own line status before after =
     ((status ≡ own) × WroteLine before after line) ⊎ ((status ≡ NoMemory) × WroteLine before after (codes "no memory\n"))
 
--- the same of what kept the words from an answer; but want of memory isn't told of what couldn't be read
+-- the status and the line of a reason; or that memory ran out, except if something couldn't be read
 abbrev pub Tells : NoAnswer → Status → SinkState → SinkState → Type 0
 Tells none status before after =
     ((status ≡ status_of none) × WroteLine before after (line_of none))

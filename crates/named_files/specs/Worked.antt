@@ -1,4 +1,4 @@
--- Files for the worked rows (this project).
+-- The files of worked rows (this project).
 use Rattle.std.specs.Prelude.{Some, None}
 use Rattle.harmonics_text.specs.Worked.{file_of, pier_lines}
 use Rattle.tide_fault.specs.declared.slot.Slot.TheVariants.{File, Offsets, Zone, Certificate}

@@ -1,8 +1,9 @@
-//! What a question names, read from files, and what is told where there is no answer.
+//! The files of a request, and the line that reports why there is no answer.
 //!
-//! [`read_files`] reads the files of a question in their order, of each its reading before its form: each is opened at
-//! most once and read to its end, or to a piece past its limit. [`NoAnswer`] is why words have no answer, and [`tell`] writes its
-//! line.
+//! [`read_files`] reads the files of a request in their order; each is opened at most once and read
+//! to its end, or to a piece of 65,536 bytes past its limit, and its form is checked before the
+//! next is opened. [`NoAnswer`] is the reason for which a command line has no answer, and [`tell`]
+//! writes its line.
 #![tactic(auto)]
 
 mod materials;

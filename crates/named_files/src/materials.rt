@@ -1,18 +1,18 @@
-//! What the files of a question hold.
+//! The contents of a request's files.
 
 use decimal_text::Bytes;
 use harmonics_text::Book;
 use station_table::OffsetTable;
 use zone_time::Zone;
 
-/// What the files of a question hold.
+/// The contents of a request's files.
 #[derive(Drop)]
 pub struct Materials {
     pub book: Book,
-    /// It has no row where no table is named.
+    /// The subordinate stations. It has no row if no table is named.
     pub table: OffsetTable,
-    /// The zone in which local times are shown.
+    /// The zone of local times.
     pub zone: Zone,
-    /// A certificate's text, or nothing where none is named.
+    /// The text of the certificate, which is empty if none is named.
     pub certificate: Bytes,
 }

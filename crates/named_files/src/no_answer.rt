@@ -1,16 +1,17 @@
-//! Why the words of a run have no answer.
+//! The reasons for which a command line has no answer.
 
 use station_table::OffsetTable;
 use tide_fault::{Fault, Refusal};
 
-/// Why the words of a run have no answer.
+/// A reason for which a command line has no answer.
 #[derive(Debug, Drop)]
 pub enum NoAnswer {
     /// A file couldn't be opened or read, or the clock couldn't be read.
     Unread,
-    /// The words ask nothing, a file has no reading, or a question that names no file has no answer.
+    /// The command line is no request, a file is not of its form, or a request that names no file
+    /// has no answer.
     Told(Fault),
-    /// What is asked of the files has no answer. The table is the one that was read.
+    /// The request has no answer over the files that were read. The table is the one that was read.
     Refused(Refusal, OffsetTable),
 }
 

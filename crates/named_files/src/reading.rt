@@ -1,4 +1,4 @@
-//! Reading the files of a question.
+//! The files of a request, read.
 
 ghost use Rattle.std.specs.Prelude.{◌≡◌, ◌≤◌, false, IsTrue, [], length, Some, None, Ok, IfOk, IfErr};
 ghost use Rattle.decimal_text.specs.Expected.{Gives};
@@ -26,9 +26,13 @@ use tide_edge::{Files, ReadAllFault, read_all};
 use tide_fault::{Fault, Refusal, Slot};
 use zone_time::{Zone, ZoneFault, read_zone};
 
-/// What the files of a question hold, or the first fault of them in their order: the harmonic
-/// constants, the table, the zone, the certificate, of each its reading before its form. Behind a file that
-/// is too long or isn't of its form nothing is opened, and nothing again.
+/// Reads the files of `question` in this order: the harmonic constants, which are in the file
+/// `name`, the table, the zone, the certificate. Each is read and its form checked before the next
+/// is opened; none is opened after a fault, and none twice.
+///
+/// # Errors
+/// The first fault: [`NoAnswer::Unread`] if a file couldn't be opened or read, and
+/// [`NoAnswer::Told`] if one is too long or is not of its form, or if memory ran out.
 #[tactic(auto, unfolding(crate::specs::Readings::files_in))]
 pub fn read_files<F: Files>(
     alloc: Global,
@@ -57,7 +61,10 @@ pub fn read_files<F: Files>(
     })
 }
 
-/// The book of harmonic constants of a name. A file that is too long isn't read to its end.
+/// Reads the harmonic constants in the file `name`. A file that is too long isn't read to its end.
+///
+/// # Errors
+/// As [`read_files`].
 pub fn read_book<F: Files>(alloc: Global, files: &mut F, name: &Text) -> Result<Book, NoAnswer>
     ensures own { IsTrue (F.state files.old).store.is_observable
         → Meets source_of (IsTrue (F.state files.old).store.is_steady) (book_named (F.state files.old).store.folder name.now) result }
@@ -73,7 +80,11 @@ pub fn read_book<F: Files>(alloc: Global, files: &mut F, name: &Text) -> Result<
     }
 }
 
-/// The table of subordinate stations, which has no row where none is named.
+/// Reads the table of subordinate stations in the file `name`, or returns a table without a row if
+/// there is no name.
+///
+/// # Errors
+/// As [`read_files`].
 pub fn read_table<F: Files>(
     alloc: Global,
     files: &mut F,
@@ -96,6 +107,7 @@ pub fn read_table<F: Files>(
     }
 }
 
+/// Reads the table whose text is `bytes`.
 fn table_in(alloc: Global, bytes: &Bytes) -> Result<OffsetTable, NoAnswer>
     requires { length bytes.now ≤ MOST_BYTES }
     ensures exact { Gives wants_memory (table_from (table_of bytes.now)) result }
@@ -109,7 +121,7 @@ fn table_in(alloc: Global, bytes: &Bytes) -> Result<OffsetTable, NoAnswer>
     }
 }
 
-// The zone in which times are shown.
+// Returns the zone of `word`, which may name a file.
 fn read_zone_named<F: Files>(
     alloc: Global,
     files: &mut F,
@@ -135,6 +147,7 @@ fn read_zone_named<F: Files>(
     }
 }
 
+/// Reads the zone file whose contents are `bytes`.
 fn zone_in(alloc: Global, bytes: &Bytes) -> Result<Zone, NoAnswer>
     ensures exact { Gives wants_memory (zone_from (zone_of bytes.now)) result }
     ensures sound { IfOk result IsZone }
@@ -149,7 +162,7 @@ fn zone_in(alloc: Global, bytes: &Bytes) -> Result<Zone, NoAnswer>
     }
 }
 
-// The text of the certificate, which has no byte where none is named.
+// Reads the text of the certificate in the file `name`, or returns no byte if there is no name.
 fn read_certificate<F: Files>(
     alloc: Global,
     files: &mut F,
@@ -170,7 +183,7 @@ fn read_certificate<F: Files>(
     }
 }
 
-// The bytes of a file that is read as this.
+// Reads the bytes of the file `name`, which is to be read as `slot`.
 fn read_file<F: Files>(
     alloc: Global,
     files: &mut F,
@@ -191,7 +204,7 @@ fn read_file<F: Files>(
     }
 }
 
-// The most bytes of a file.
+// Returns the greatest number of bytes of a file that is read as `slot`.
 fn limit_of(slot: Slot) -> u64
     ensures { result ≡ limit_of slot }
 {
@@ -202,6 +215,7 @@ fn limit_of(slot: Slot) -> u64
     }
 }
 
+/// Returns the reason for which the file of `slot` couldn't be read.
 fn fault_of_reading(slot: Slot, fault: ReadAllFault) -> NoAnswer
     ensures { result ≡ fault_of_reading slot fault }
 {

@@ -1,4 +1,4 @@
-//! Telling why there is no answer.
+//! The line that reports why there is no answer.
 
 ghost use Rattle.std.specs.Prelude.{◌≡◌, Bool};
 ghost use Rattle.tide_fault.specs.Faults.{IsTold as IsToldFault, line_of as line_of_fault, status_of as status_of_fault};
@@ -12,7 +12,8 @@ use std::alloc::Global;
 use tide_edge::{Sink, write_all};
 use tide_fault::{Fault, Status, fault_line, fault_status};
 
-/// Writes the line of what kept the words from an answer, and answers its status.
+/// Writes the line of the reason `none` to `err`, and returns its exit status. The status doesn't
+/// depend on whether the write fails.
 pub fn tell<E: Sink>(alloc: Global, none: NoAnswer, err: &mut E) -> Status
     requires { IsTold none }
     ensures told { Tells none result (E.state err.old) (E.state err.new) }
@@ -30,6 +31,7 @@ pub fn tell<E: Sink>(alloc: Global, none: NoAnswer, err: &mut E) -> Status
     }
 }
 
+/// Writes the line of `fault`, and returns its status.
 fn tell_fault<E: Sink>(alloc: Global, fault: &Fault, table: &OffsetTable, err: &mut E) -> Status
     requires { IsToldFault table.now fault.now }
     ensures { TellsFault (status_of_fault fault.now) (line_of_fault table.now fault.now) result (E.state err.old) (E.state err.new) }
@@ -40,8 +42,7 @@ fn tell_fault<E: Sink>(alloc: Global, fault: &Fault, table: &OffsetTable, err: &
     }
 }
 
-/// Writes a line, and answers the status that goes with it. A failed write changes nothing of the
-/// status, and nothing is tried again.
+/// Writes `line` to `err`, and returns `status`, also if the write fails. Nothing is tried again.
 pub fn refuse<E: Sink>(err: &mut E, status: Status, line: &[u8]) -> Status
     ensures same { result ≡ status }
     ensures line { (failed : Bool) × Wrote (E.state err.old) (E.state err.new) failed line.now }

@@ -1,4 +1,4 @@
-//! Files and faults that were worked out by hand.
+//! Files and faults worked out by hand.
 
 ghost use Rattle.std.specs.Prelude.{◌≡◌, [], codes, Some, Ok, Err};
 ghost use Rattle.harmonics_text.specs.declared.fault.BookFault.{BookFault};
@@ -18,7 +18,7 @@ ghost use Rattle.named_files.specs.Worked.{pier_alone};
 
 use crate::no_answer::NoAnswer;
 
-/// What is read of files: an empty one under each name, or the pier's alone.
+/// The contents of files: an empty one under each name, or that of the pier alone.
 pub fn worked_files()
     ensures form_before_table { files_in (λ slot name. Some []) (record (bare Command.Stations) { offsets = Some (codes "o.csv") }) (codes "pier.txt")
         ≡ Err (NoAnswer.Told (Fault.Book (BookFault.At 1 Why.CutShort))) }
@@ -29,7 +29,7 @@ pub fn worked_files()
     ensures absent_certificate { files_in pier_alone (record (bare Command.Check) { certificate = Some (codes "cert") }) (codes "pier.txt") ≡ Err NoAnswer.Unread }
 {}
 
-/// What is told of faults.
+/// The lines and statuses of reasons.
 #[tactic(auto, unfolding(tide_fault::specs::Faults::line_of, tide_fault::specs::Faults::refusal_line))]
 pub fn worked_faults()
     ensures reference { line_of (NoAnswer.Refused (Refusal.NoReference 2) dock_rows) ≡ codes "refused: no reference Nowhere\n" }

@@ -1,4 +1,4 @@
-//! Questions, and what is wrong with words and queries that are none.
+//! Requests, and the faults of command lines and queries that are none.
 
 use decimal_text::{Text, Words};
 use question::{
@@ -9,7 +9,7 @@ use question::{
 use std::alloc::{AllocError, Global};
 use std::test::Fail;
 
-// The words of a line, with `|` between, and what is wrong with them.
+// Arguments, separated by `|`, and their fault.
 const LINES: &[(&str, Option<AskFault>)] = &[
     (
         "predict|file=pier.txt|station=Pier|begin=2000-01-10T00:00Z|end=2000-01-11T00:00Z",
@@ -161,7 +161,7 @@ const LINES: &[(&str, Option<AskFault>)] = &[
     ("predict |file=f", Some(AskFault::UnknownCommand)),
 ];
 
-// The command and the pairs of a query in the same form.
+// The command and the pairs of a query in the same form, and their fault.
 const QUERIES: &[(&str, Option<AskFault>)] = &[
     (
         "predict|station=Pier|begin=2000-01-10T00:00Z|end=2000-01-11T00:00Z",

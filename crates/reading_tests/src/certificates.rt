@@ -1,4 +1,4 @@
-//! Texts of certificates, and the lines of faults in others.
+//! Texts of certificates, and the lines of faults.
 
 use crate::texts::changed;
 use arrayvec::ArrayString;
@@ -18,7 +18,7 @@ const PIER: &str =
 const NARROWS: &str =
     "tide certificate 2\nstation Pi\u{e9}r\nbegin 2000-01-10T05:59Z\nend 2000-01-10T06:01Z\nmark -500000\ntrack turn\ns\nt low -1000000\ntrack slack\nt flood 0\nt ebb 99999999999999\nq 1024\ntrack mark\nt rise -99999999999999\nt fall 7\ns\ndone\n";
 
-/// The line of a text's fault: 0 where it is a certificate's.
+/// Returns the line of the fault of `bytes`, or 0 if they are a certificate's text.
 fn fault(alloc: Global, bytes: &[u8]) -> u32 {
     if bytes.len() > MOST_BYTES {
         return 9998;
@@ -30,8 +30,8 @@ fn fault(alloc: Global, bytes: &[u8]) -> u32 {
     }
 }
 
-/// Lines of the first certificate, another text in the place of each, and the line of the fault: 0 where
-/// there is none.
+/// The number of a line of the first certificate, a text in its place, and the line of the fault: 0
+/// if there is none.
 const CHANGED_LINES: [(usize, &str, u32); 58] = [
     (1, "tide certificate 2", 0),
     (1, "tide certificate 3", 1),

@@ -1,4 +1,4 @@
-//! The outside in memory, and that of the machine.
+//! Files, ports, clocks and sinks in memory and of the machine.
 
 ghost use Rattle.std.specs.Prelude.{◌≡◌, ◌≢◌, false, [], IsTrue, IfOk, MatchResult, OnErr, Ok, Err};
 ghost use Rattle.std.specs.List.{list_all};
@@ -19,7 +19,7 @@ use tide_edge::{
 
 const PIER: [u8; 10] = *b"pier files";
 
-/// A folder with the file `pier`, of which the second isn't found, and a long one.
+/// Returns a folder with the file `pier`, another one that can't be opened, and a long one.
 fn folder(alloc: Global, fails: &[u64]) -> Result<MemoryFiles, AllocError> {
     let mut files = Vec::new(alloc);
     for (name, bytes) in [
@@ -35,7 +35,7 @@ fn folder(alloc: Global, fails: &[u64]) -> Result<MemoryFiles, AllocError> {
     Ok(MemoryFiles::new(files, fails.to_vec(alloc)?))
 }
 
-/// What a caller knows of reading from steady files in memory.
+/// Reads from steady files in memory, with the facts that a caller knows as its contract.
 fn read_steady(
     alloc: Global,
     files: &mut MemoryFiles,
@@ -163,7 +163,7 @@ fn the_clock_of_the_machine_is_past_2026(rt: HostRuntime) {
     assert!(rt; minute.is_ok_and(|minute| minute > 29_000_000 && minute < 10_000_000_000));
 }
 
-/// Takes one connection, and sends back what comes first over it.
+/// Accepts one connection, and sends back the first bytes that are read over it.
 fn echo<D: Door>(door: &mut D) -> Result<bool, Failed>
     requires listens { IsTrue (D.state door.old).doorway.listens }
     requires none_open { (D.state door.old).doorway.is_open ≡ false }
@@ -184,7 +184,7 @@ fn echo<D: Door>(door: &mut D) -> Result<bool, Failed>
     sent.map(|_| true)
 }
 
-/// A request in two pieces, and one without a byte.
+/// Returns a request in two pieces, and one without a byte.
 fn requests(alloc: Global) -> Result<Vec<Vec<Bytes>>, AllocError>
     ensures { IfOk result (λ requests. IsTrue (list_all (λ request. are_pieces request.items) requests.items)) }
 {
@@ -197,7 +197,8 @@ fn requests(alloc: Global) -> Result<Vec<Vec<Bytes>>, AllocError>
     Ok(requests)
 }
 
-/// The room for replies, the call that fails, the outcomes of three connections, and the first reply.
+/// The room for replies, the call that fails, the outcomes of three connections, and the first
+/// reply.
 const DOORS: [(u64, u64, [Result<bool, Failed>; 3], &str); 7] = [
     (4, 0, [Ok(true), Ok(true), Ok(false)], "pier"),
     (4, 2, [Err(Failed), Ok(true), Ok(true)], "pier"),

@@ -1,4 +1,4 @@
-//! Files of harmonic constants, and what is wrong with others.
+//! Files of harmonic constants, and the faults of others.
 
 ghost use Rattle.std.specs.Prelude.{◌<◌, ◌≤◌, length};
 ghost use Rattle.decimal_text.specs.declared.limits.TheConstants.{MOST_BYTES};
@@ -12,7 +12,8 @@ use harmonics_text::{
 use std::alloc::{AllocError, Global};
 use std::test::Fail;
 
-/// The line and the number of a file's fault: two zeros where it has a book.
+/// Returns the line and the number of the fault of `bytes`, or two zeros if they are a harmonics
+/// file.
 fn fault(alloc: Global, bytes: &[u8]) -> (u32, u32) {
     if bytes.len() > MOST_BYTES {
         return (0, 98);
@@ -78,7 +79,7 @@ fn a_file_as_people_write_it(rt: HostRuntime) -> Result<(), Fail> {
     Ok(())
 }
 
-/// A line, its text, and the line and the number of the fault.
+/// The number of a line, its text, and the line and the number of the fault.
 const CHANGES: [(usize, &str, u32, u32); 43] = [
     (2, "2", 4, 3),
     (2, "0000000001", 2, 1),
@@ -138,7 +139,7 @@ fn changes_of_a_line(rt: HostRuntime) -> Result<(), Fail> {
     Ok(())
 }
 
-/// The book of a file that comes in pieces of so many bytes.
+/// Reads `bytes` in pieces of `count` bytes.
 fn read_in_pieces(alloc: Global, bytes: &[u8], count: usize) -> Result<Book, BookFault>
     requires few { length bytes.now ≤ MOST_BYTES }
     requires some { 0 < count }
@@ -153,7 +154,8 @@ fn read_in_pieces(alloc: Global, bytes: &[u8], count: usize) -> Result<Book, Boo
     reader.finish()
 }
 
-/// What a file comes to that is fed in pieces of so many bytes: its book in words, or its fault.
+/// Returns the harmonic constants of `bytes`, fed in pieces of `count` bytes, as text, or their
+/// fault.
 pub fn told_in_pieces(alloc: Global, bytes: &[u8], count: usize) -> Result<String, AllocError> {
     if bytes.len() > MOST_BYTES || count == 0 {
         return Ok(String::new(alloc));
@@ -185,8 +187,8 @@ fn a_file_may_be_cut_anywhere(rt: HostRuntime) -> Result<(), Fail> {
     Ok(())
 }
 
-/// A line, what stands before and behind so many letters there, and the line and the number of the
-/// fault.
+/// The number of a line, the text before that many letters, their number, the text after them, and
+/// the line and the number of the fault.
 const LETTERS: [(usize, &str, u32, &str, u32, u32); 10] = [
     (3, "", 32, "", 3, 3),
     (3, "", 33, "", 3, 2),

@@ -1,8 +1,8 @@
 //! Tests of the crates that read and write: files of harmonic constants and of offsets, zones and
-//! moments, questions, certificates, and the outside.
+//! moments, requests, certificates, and the objects of the machine.
 //!
-//! They see only what is public of those crates. They stand here because a crate with tests is proved
-//! twice: with and without them.
+//! They use only the public items of those crates. They are in a crate of their own because a crate
+//! with tests is proved twice: with and without them.
 #![tactic(auto)]
 
 #[cfg(test)]

@@ -1,4 +1,4 @@
-//! Books, loaded from files in memory.
+//! Harmonic constants, loaded from files in memory.
 
 use book_loading::{LoadFault, load_book};
 use decimal_text::{Bytes, MOST_BYTES, Text};
@@ -17,7 +17,7 @@ const FAULT: LoadFault = LoadFault::Book(BookFault::At {
     why: Why::BadNumber,
 });
 
-/// A folder with the file `pier`, a bad one, and one of three pieces.
+/// Returns a folder with the file `pier`, a bad one, and one of three pieces.
 fn folder(alloc: Global, failing: u64) -> Result<MemoryFiles, AllocError> {
     let mut long = vec![in alloc; b'#'; 131_072]?;
     long.push(b'\n')?;
@@ -39,7 +39,7 @@ fn folder(alloc: Global, failing: u64) -> Result<MemoryFiles, AllocError> {
 #[test]
 fn a_book_is_loaded_in_pieces(rt: HostRuntime) -> Result<(), Fail> {
     let alloc = rt.alloc();
-    // a file, a limit, the call that fails, and how many stations came
+    // a file, a limit, the call that fails, and the number of stations
     for (name, limit, failing, expected) in [
         ("pier", MOST_BYTES as u64, 0, Ok(1)),
         ("pier", 10, 0, Err(LoadFault::TooLong)),

@@ -1,4 +1,4 @@
-//! Tables of subordinate stations, and the basis of a name.
+//! Tables of subordinate stations, and the stations that names find.
 
 use crate::texts::PIER;
 use decimal_text::{MOST_BYTES, Text};
@@ -18,7 +18,7 @@ const DOCKS: &[u8] =
 const GATES: &[u8] =
     b"name,reference,high_add,low_add,high_times,low_times,high_plus,low_plus,flood_add,ebb_add\nGate,Pier,,,,,,,0:05,-24:00\nHut,Pier,,,,,,,,\n";
 
-/// The row and the number of a table's fault: two zeros where it has none.
+/// Returns the row and the number of the fault of `text`, or two zeros if it is a table.
 fn fault(alloc: Global, text: &[u8]) -> (u32, u32) {
     if text.len() > MOST_BYTES {
         return (0, 98);
@@ -83,7 +83,7 @@ fn slack_times_are_read(rt: HostRuntime) -> Result<(), Fail> {
     Ok(())
 }
 
-/// What stands after the plain header, and the row and the number of the fault.
+/// The text after the header without slacks, and the row and the number of the fault.
 const FILES: [(&[u8], u32, u32); 13] = [
     (b"", 0, 0),
     (b",flood_add,ebb_add", 0, 0),
@@ -114,7 +114,7 @@ fn files_are_refused(rt: HostRuntime) -> Result<(), Fail> {
     Ok(())
 }
 
-/// What stands before a field and after it, the field, and the number of the fault.
+/// The text before a field and after it, the field, and the number of the fault.
 const FIELDS: [(&[u8], &[u8], &[u8], u32); 50] = [
     (b"", b"a", b",Pier,,,,,,,,", 0),
     (b"", b"", b",Pier,,,,,,,,", 7),
@@ -183,7 +183,7 @@ fn fields_are_read(rt: HostRuntime) -> Result<(), Fail> {
     Ok(())
 }
 
-/// The basis of a name over the pier and the docks.
+/// Returns the station `name` over the pier and the docks.
 fn found(alloc: Global, name: &str) -> Result<Result<Basis, FindFault>, Fail> {
     let Ok(book) = read_book(alloc, PIER.as_bytes()) else {
         return Err(Fail::from("no book"));

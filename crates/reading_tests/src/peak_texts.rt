@@ -1,4 +1,4 @@
-//! Texts of certificates of a highest water, and the lines of faults in others.
+//! Texts of certificates of a highest water, and the lines of faults.
 
 use crate::texts::changed;
 use decimal_text::MOST_BYTES;
@@ -12,7 +12,7 @@ use std::test::Fail;
 const PIER: &str =
     "peak certificate 1\nstation Pier\nbegin 2000-01-10T00:00Z\nend 2000-01-10T01:04Z\nat 2000-01-10T00:00Z\nvalue 4147200000000000000000000000000\nm\nm\nm\nm\nm\nm\nm\nm\nm\nm\nm\nm\nm\nm\nm\nm\nu 2\nu 2\nu 4\nu 4\nu 4\nu 8\nu 8\nu 16\ndone\n";
 
-/// The line of a text's fault: 0 where it is a certificate's.
+/// Returns the line of the fault of `bytes`, or 0 if they are a certificate's text.
 fn fault(alloc: Global, bytes: &[u8]) -> u32 {
     if bytes.len() > MOST_BYTES {
         return 9998;
@@ -24,7 +24,7 @@ fn fault(alloc: Global, bytes: &[u8]) -> u32 {
     }
 }
 
-/// Lines of the text, another in the place of each, and the line of the fault: 0 where there is none.
+/// The number of a line, a text in its place, and the line of the fault: 0 if there is none.
 const CHANGED_LINES: [(usize, &str, u32); 44] = [
     (1, "tide certificate 2", 1),
     (1, "peak certificate 2", 1),

@@ -1,4 +1,4 @@
-//! Files, tables, questions and certificates of the sizes that users have.
+//! Files, tables, requests and certificates of the sizes that users have.
 
 use crate::harmonics::told_in_pieces;
 use cert_text::{read_certificate, write_certificate};
@@ -11,7 +11,7 @@ use station_table::read_offsets;
 use std::alloc::{AllocError, Global};
 use std::test::Fail;
 
-/// So many letters.
+/// Returns `count` letters.
 fn letters(alloc: Global, count: usize) -> Result<String, AllocError> {
     let mut text = String::new(alloc);
     for _ in 0..count {
@@ -20,7 +20,7 @@ fn letters(alloc: Global, count: usize) -> Result<String, AllocError> {
     Ok(text)
 }
 
-/// A text with 400 letters in the place of each `%`.
+/// Returns `text` with 400 letters in place of each `%`.
 fn filled(alloc: Global, text: &str) -> Result<String, AllocError> {
     let long = letters(alloc, 400)?;
     let mut whole = String::new(alloc);
@@ -107,7 +107,7 @@ fn a_table_of_many_rows_is_read(rt: HostRuntime) -> Result<(), Fail> {
     Ok(())
 }
 
-/// The question of words that stand with `|` between, the names among them 400 letters long.
+/// Returns the request of the arguments in `line`, separated by `|`, whose names have 400 letters.
 fn long_question(alloc: Global, line: &str) -> Result<Question, Fail> {
     let line = filled(alloc, line)?;
     let mut words = Vec::new(alloc);
@@ -118,7 +118,7 @@ fn long_question(alloc: Global, line: &str) -> Result<Question, Fail> {
     Ok(read_question(alloc, &pairs)?)
 }
 
-/// Lines with every key of a command.
+/// Command lines with every key of a command.
 const LONGEST: [&str; 9] = [
     "predict|file=%|offsets=%|station=%|begin=0001-01-01T00:00Z|end=9999-12-31T23:59Z|mark=-10000.000000|zone=@%|layout=csv",
     "certify|file=%|offsets=%|station=%|begin=0001-01-01T00:00Z|end=9999-12-31T23:59Z|mark=-10000.000000",
@@ -162,7 +162,7 @@ fn long_words_are_read(rt: HostRuntime) -> Result<(), Fail> {
     Ok(())
 }
 
-/// A certificate of a year's tide and slack water, with a name of 400 letters.
+/// Returns a certificate of a year's tides and slacks, with a name of 400 letters.
 fn long_certificate(alloc: Global) -> Result<String, AllocError> {
     let mut text = filled(
         alloc,

@@ -1,12 +1,12 @@
-//! Texts that several of the tests take.
+//! Texts that several of the tests use.
 
 use std::alloc::{AllocError, Global};
 
-/// A pier with a tide of half a day, from 1999 to 2001.
+/// A pier with a half-daily tide, from 1999 to 2001.
 pub const PIER: &str =
     "# Pier test\n1\nS2 30.0000000\n1999\n3\nS2\n0 0 0\n*END*\n3\nS2\n1 1 1\n*END*\nPier\n0:00 :UTC\n0 feet\nS2 1 0\n";
 
-/// A text with another line in the place of one: lines are counted from 1, and line 0 changes nothing.
+/// Returns `text` with `other` in place of line `line`, counted from 1; line 0 changes nothing.
 pub fn changed(alloc: Global, text: &str, line: usize, other: &str) -> Result<String, AllocError> {
     let mut file = String::new(alloc);
     for (i, old) in text.lines().enumerate() {

@@ -174,7 +174,8 @@ fn zones_show_local_times(rt: HostRuntime) -> Result<(), Fail> {
 const LONG_HEAD: &[u8] =
     b"TZif2\0\0\0\0\0\0\0\0\0\0\0\0\0\0\0\0\0\0\0\0\0\0\0\0\0\0\0\0\0\0\xec\0\0\0\x03\0\0\0\x0c";
 
-// A zone file with 236 changes, 182 and a half days from each to the next, the first in 1901.
+// Returns a zone file with 236 changes, 182 and a half days from each to the next, the first in
+// 1901.
 fn changed_often(alloc: Global) -> Result<Vec<u8>, Fail> {
     let mut bytes = Vec::new(alloc);
     bytes.extend_from_slice(OLD_BLOCK)?;

@@ -1,4 +1,4 @@
--- The first of the events beyond which none goes, one event after the other.
+-- The first event that no event is beyond, found one event after the other.
 use Rattle.std.proofs.Common.{◌≡◌, ◌∙◌, ℤ, Bool, true, false, List, [], ◌∷◌, ◌++◌, length, Option, Some, None, refl, sym, ap, arith, append_assoc, append-nil, ℕ, ◌+◌, ◌<◌, take, get_or, cond}
 use Rattle.std.specs.Prelude.{All, find, filter}
 use Rattle.std.specs.List.{list_all}
@@ -13,7 +13,7 @@ use Rattle.report_sheets.specs.declared.extreme.Extreme.TheVariants.{Highest, Lo
 use Rattle.report_sheets.specs.Ranges.{reaches, is_of, first_of, extreme_of}
 use Rattle.report_sheets.specs.Workings.{better_of}
 
--- no level goes beyond itself
+-- no level is beyond itself
 reaches_itself : (extreme : Extreme) (a : ℤ) → reaches extreme a a ≡ true
 reaches_itself Highest a = grind (arith, ints)
 reaches_itself Lowest a = grind (arith, ints)
@@ -23,12 +23,12 @@ reaches_back : (extreme : Extreme) (a b : ℤ) → reaches extreme a b ≡ false
 reaches_back Highest a b below = grind (arith, ints)
 reaches_back Lowest a b below = grind (arith, ints)
 
--- what a level is beyond that reaches a third, is beyond the third too
+-- a level that is beyond one which reaches a third is beyond the third too
 reaches_on : (extreme : Extreme) (a b c : ℤ) → reaches extreme b a ≡ true → reaches extreme b c ≡ false → reaches extreme a c ≡ false
 reaches_on Highest a b c near below = grind (arith, ints)
 reaches_on Lowest a b c near below = grind (arith, ints)
 
--- the events before it are all passed by it, and it by none
+-- the most extreme event: it is beyond all events before it, and no event is beyond it
 pub record IsFirst (extreme : Extreme) (events : List Event) (best : Event) : Type 0 where
   pub before : List Event
   pub after : List Event
@@ -36,12 +36,12 @@ pub record IsFirst (extreme : Extreme) (events : List Event) (best : Event) : Ty
   pub passed : All (λ event. reaches extreme event.level best.level ≡ false) before
   pub others : All (λ event. reaches extreme best.level event.level ≡ true) after
 
--- the best of the events so far, if there was one
+-- the most extreme event so far, if there is one
 abbrev pub IsBest : Extreme → List Event → Option Event → Type 0
 IsBest extreme events None = events ≡ []
 IsBest extreme events (Some best) = IsFirst extreme events best
 
--- all of them are reached
+-- the most extreme event reaches all events
 all_reached : (extreme : Extreme) (events : List Event) (best : Event) → (first : IsFirst extreme events best)
     → All (λ event. reaches extreme best.level event.level ≡ true) (first.before ++ best ∷ first.after)
 all_reached extreme events best first =
@@ -60,7 +60,7 @@ best_alone extreme events event none = record {
   others = All-nil (λ other. reaches extreme event.level other.level ≡ true);
 }
 
--- one event more, which goes beyond the best one
+-- one more event, which is beyond the most extreme one
 best_passed : (extreme : Extreme) (events : List Event) (best event : Event) → IsFirst extreme events best → reaches extreme best.level event.level ≡ false
     → IsFirst extreme (events ++ event ∷ []) event
 best_passed extreme events best event first beyond =
@@ -73,7 +73,7 @@ best_passed extreme events best event first beyond =
       others = All-nil (λ other. reaches extreme event.level other.level ≡ true);
     }
 
--- one event more, which doesn't
+-- one more event, which isn't
 best_kept : (extreme : Extreme) (events : List Event) (best event : Event) → IsFirst extreme events best → reaches extreme best.level event.level ≡ true
     → IsFirst extreme (events ++ event ∷ []) best
 best_kept extreme events best event first near = record {
@@ -93,7 +93,7 @@ best_of-more extreme events (Some best) event first =
       | false ↦ best_passed extreme events best event first
     ] refl
 
--- one event more, of that kind or of another
+-- one more event, of the kind or of another
 pub best_more : (extreme : Extreme) (events : List Event) (i : ℕ) (best after : Option Event) (d : Event) → i < length events
     → IsBest extreme (filter (λ event. is_of extreme event.kind) (take i events)) best
     → is_of extreme (get_or events i d).kind ≡ true → after ≡ better_of extreme best (get_or events i d)
@@ -128,12 +128,12 @@ first_of-parts extreme events best first =
     (All-weaker (λ event. reaches extreme event.level best.level ≡ false) (λ event. test event ≡ false) fails first.before first.passed)
     (list_all-from_AllPass (λ other. reaches extreme best.level other.level) all (all_reached extreme events best first))))
 
--- at the end it is the first one beyond which none goes
+-- the most extreme of all events is the first that no event is beyond
 pub best_is : (extreme : Extreme) (events : List Event) (best : Option Event) → IsBest extreme events best → best ≡ first_of extreme events
 best_is extreme events None none = rw none refl
 best_is extreme events (Some best) first = first_of-parts extreme events best first
 
--- what holds of each event holds of the one that is found
+-- a fact that holds of each event holds of the one that is found
 find-holds : (P : Event → Type 0) (p : Event → Bool) (events : List Event) (event : Event) → All P events → Some event ≡ find p events → P event
 find-holds P p [] event all is = cc
 find-holds P p (x ∷ events) event all is =

@@ -12,7 +12,7 @@ use Rattle.harmonics_text.specs.declared.book.Units.{Units}
 use Rattle.report_sheets.specs.Tallies.{count_at, count_line, names, place_of}
 use Rattle.std.proofs.Common.{⊎_elim}
 
--- one count more at the place of an event's name
+-- one more count at the index of an event's name
 pub count_at-more : (units : Units) (events : List Event) (i : ℕ) (d : Event) (counts : List ℕ) (at place : ℕ) → i < length events → at < length counts
     → at ≡ place_of (word_of units (get_or events i d).kind (get_or events i d).level)
     → get_or counts at 0 ≡ count_at units (take i events) at
@@ -27,7 +27,7 @@ count_at-more units events i d counts at place within inside is here there =
     ∙ sym (count_by_more_no (p place) events i d within (ne_eqb _ _ (λ e. other (is ∙ e)))))
     (cases_eq at place)
 
--- the line of one name more
+-- the line of one more name
 pub lines_more : (counts start text after : List ℕ) (i place : ℕ) (d : EventWord) → i < 10
     → place ≡ place_of (get_or names i d)
     → text ≡ start ++ flat_map (λ word. count_line (slice_index counts (place_of word)) word) (take i names)

@@ -8,7 +8,7 @@ use Rattle.std.proofs.lemmas.List.Sums.{position_or_len_is}
 use Rattle.report_sheets.specs.Sheets.{SheetMeaning}
 use Rattle.report_sheets.specs.Pages.{has_sheet, missing_of}
 
--- one of some values is a sheet of that word, where each is read as a sheet
+-- one of some values is a sheet of the word, if each is read as a sheet
 abbrev pub is_known : {Y : Type 0} → (Y → SheetMeaning) → List Y → List ℕ → Bool
 is_known h ys word = list_any (λ y. bytes_eq word (h y).word) ys
 

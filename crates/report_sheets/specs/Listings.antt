@@ -1,4 +1,4 @@
--- The first events, line by line (the layout of XTide's plain listings).
+-- The sheet of the first events, line by line (the layout of XTide's plain listings).
 use Rattle.std.specs.Prelude.{ℕ, List, codes}
 use Rattle.curve_law.specs.declared.event.Event.{Event}
 use Rattle.listing.specs.Listings.{plain_events_of}

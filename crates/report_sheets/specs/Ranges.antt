@@ -12,18 +12,18 @@ use Rattle.report_sheets.specs.declared.extreme.Extreme.TheVariants.{Highest, Lo
 use Rattle.report_sheets.specs.declared.head.Head.{Head}
 use Rattle.report_sheets.specs.Sheets.{SheetMeaning}
 
--- the highest water is a high, and the lowest a low
+-- a kind that is an end of the range: a high is the highest water's, a low the lowest water's
 abbrev pub is_of : Extreme → Kind → Bool
 is_of Highest High = true
 is_of Lowest Low = true
 is_of _ _ = false
 
--- a level that another doesn't go beyond
+-- a level that another level isn't beyond
 abbrev pub reaches : Extreme → ℤ → ℤ → Bool
 reaches Highest level other = int_le other level
 reaches Lowest level other = int_le level other
 
--- the first event beyond which no event goes
+-- the first event that no event is beyond
 abbrev pub first_of : Extreme → List Event → Option Event
 first_of extreme events = find (λ event. list_all (λ other. reaches extreme event.level other.level) events) events
 
@@ -31,11 +31,12 @@ first_of extreme events = find (λ event. list_all (λ other. reaches extreme ev
 abbrev pub extreme_of : Extreme → List Event → Option Event
 extreme_of extreme events = first_of extreme (filter (λ event. is_of extreme event.kind) events)
 
+-- the first word of an end's line
 abbrev pub label_of : Extreme → List ℕ
 label_of Highest = codes "Highest "
 label_of Lowest = codes "Lowest "
 
--- a level with its unit and its moment, or nothing
+-- the line of an end: the level with its unit and its moment; no line if there is no event
 abbrev pub range_line : Extreme → Units → Option Event → List ℕ
 range_line extreme units None = []
 range_line extreme units (Some event) =

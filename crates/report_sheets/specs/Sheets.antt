@@ -1,4 +1,4 @@
--- What a sheet is, and what it does with an event (this project).
+-- Sheets: the word, the limit and the layout, and the list after one more event (this project).
 use Rattle.std.specs.Prelude.{◌≢◌, ℕ, pos, ◌≤◌, ◌==◌, if◌then◌else◌, List, [], ◌∷◌, ◌++◌, length, All}
 use Rattle.curve_law.specs.declared.event.Event.{Event}
 use Rattle.harmonics_text.specs.declared.book.Units.TheVariants.{Feet, KnotsSquared}
@@ -6,18 +6,18 @@ use Rattle.report_sheets.specs.declared.head.Head.{Head}
 use Rattle.report_sheets.specs.declared.taken.Taken.{Taken}
 use Rattle.report_sheets.specs.declared.taken.Taken.TheVariants.{Kept, Full}
 
--- what stays the same of a sheet: its word, how many events it takes, and what it writes of a head and a list
+-- the constants of a sheet: its word, the greatest number of its events, and its text for a head and a list
 pub record SheetMeaning : Type 0 where
   pub word : List ℕ
   pub limit : ℕ
   pub layout : Head → List Event → List ℕ
 
--- a sheet takes some events, and at most a million
+-- a limit of 1 to 1,000,000 events
 pub record IsLimit (limit : ℕ) : Type 0 where
   pub some : 1 ≤ limit
   pub few : limit ≤ 1000000
 
--- a name without control characters, and a unit that names events
+-- a name without control characters, and a unit that has names for events
 pub record IsHead (head : Head) : Type 0 where
   pub printable : All (λ b. (32 ≤ b) × (b ≢ 127)) head.name
   pub named : head.units ≢ KnotsSquared
@@ -26,10 +26,10 @@ pub record IsHead (head : Head) : Type 0 where
 abbrev pub first_head : Head
 first_head = record { name = []; units = Feet; now = pos 0 }
 
--- what a sheet of that limit answers to one more event
+-- the answer of a sheet with a limit to one more event
 abbrev pub taken_of : ℕ → List Event → Taken
 taken_of limit list = if length list == limit then Full else Kept
 
--- the list after one more event: a full one stays as it is
+-- the list after one more event: a full list is unchanged
 abbrev pub list_after : ℕ → List Event → Event → List Event
 list_after limit list event = if length list == limit then list else list ++ event ∷ []

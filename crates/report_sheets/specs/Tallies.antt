@@ -1,4 +1,4 @@
--- How many events of each name there are (this project).
+-- The number of events of each name (this project).
 use Rattle.std.specs.Prelude.{ℕ, ◌==◌, if◌then◌else◌, List, [], ◌∷◌, ◌++◌, codes, count_by, decimal}
 use Rattle.std.specs.List.{flat_map}
 use Rattle.curve_law.specs.declared.event.Event.{Event}
@@ -9,11 +9,11 @@ use Rattle.harmonics_text.specs.declared.book.Units.{Units}
 use Rattle.report_sheets.specs.declared.head.Head.{Head}
 use Rattle.report_sheets.specs.Sheets.{SheetMeaning}
 
--- the names in their order
+-- the names in the order of their lines
 abbrev pub names : List EventWord
 names = HighTide ∷ LowTide ∷ MaxFlood ∷ MinFlood ∷ MaxEbb ∷ MinEbb ∷ SlackFloodBegins ∷ SlackEbbBegins ∷ MarkRising ∷ MarkFalling ∷ []
 
--- a name's place among them
+-- the index of a name in this order
 abbrev pub place_of : EventWord → ℕ
 place_of HighTide = 0
 place_of LowTide = 1
@@ -26,11 +26,11 @@ place_of SlackEbbBegins = 7
 place_of MarkRising = 8
 place_of MarkFalling = 9
 
--- how many events have the name at that place
+-- the number of events with the name at an index
 abbrev pub count_at : Units → List Event → ℕ → ℕ
 count_at units events place = count_by (λ event. place_of (word_of units event.kind event.level) == place) events
 
--- a name with its count, or nothing
+-- the line of a name with its count; no line if the count is 0
 abbrev pub count_line : ℕ → EventWord → List ℕ
 count_line count word = if count == 0 then [] else decimal count ++ codes " " ++ word_text word ++ codes "\n"
 

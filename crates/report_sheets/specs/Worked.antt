@@ -1,4 +1,4 @@
--- Sheets and events that were worked out by hand (this project).
+-- Sheets and events worked out by hand (this project).
 use Rattle.std.specs.Prelude.{ℕ, pos, negsuc, List, [], ◌∷◌, codes}
 use Rattle.curve_law.specs.declared.event.Event.{Event}
 use Rattle.curve_law.specs.declared.kind.Kind.TheVariants.{High, Low, MarkFalling}
@@ -10,17 +10,18 @@ use Rattle.report_sheets.specs.Tallies.{tally_sheet}
 use Rattle.report_sheets.specs.Ranges.{range_sheet}
 use Rattle.report_sheets.specs.Listings.{first_sheet}
 
--- the tides of a day whose second ones are as high and as low as the first
+-- the tides of a day of which the second high and low are as high and as low as the first
 abbrev pub tides : List Event
 tides =
     low_tide ∷ high_tide
     ∷ (record { minute = pos 15792120; kind = Low; level = negsuc 999999 })
     ∷ (record { minute = pos 15792479; kind = High; level = pos 999962 }) ∷ []
 
--- the station of these tides, and one of a current
+-- the station of these tides
 abbrev pub pier : Head
 pier = record { name = codes "Pier"; units = Feet; now = pos 15791220 }
 
+-- the station of a current
 abbrev pub gate : Head
 gate = record { name = codes "Gate"; units = Knots; now = pos 15791220 }
 
@@ -31,6 +32,6 @@ ebbs =
     ∷ (record { minute = pos 15791400; kind = MarkFalling; level = negsuc 2999999 })
     ∷ (record { minute = pos 15791760; kind = Low; level = negsuc 1999999 }) ∷ []
 
--- three sheets, the last of a few events
+-- three sheets, the last with a limit
 abbrev pub sheets_with : ℕ → List SheetMeaning
 sheets_with limit = tally_sheet 1000000 ∷ range_sheet 1000000 ∷ first_sheet limit ∷ []

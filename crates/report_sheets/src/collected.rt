@@ -1,4 +1,4 @@
-//! What a sheet collects.
+//! The events that a sheet has collected.
 
 ghost use Rattle.std.specs.Prelude.{◌≤◌, length, All};
 ghost use Rattle.event_text.specs.Lines.{IsListed};
@@ -11,15 +11,15 @@ use decimal_text::Text;
 use harmonics_text::Units;
 use std::alloc::{AllocError, Global};
 
-/// The head that a sheet was opened with, and the events that it has taken since. A sheet whose text
-/// is made at the end can be made of it.
+/// The head with which a sheet was opened, and the events that it has taken since. A sheet that
+/// writes its text at the end can be built on it.
 #[derive(Drop)]
 pub struct Collected {
-    /// How many events the sheet takes, from 1 to 1,000,000.
+    /// The greatest number of events that the sheet takes, from 1 to 1,000,000.
     pub limit: u32,
     pub head: Head,
-    /// In their order. Each has a [`word`](event_text::word) in the head's unit, and a minute of the
-    /// years from 2 to 9300 or of the day before them.
+    /// The events in their order. Each has a [`word`](event_text::word) in the head's unit, and a
+    /// minute in the years 2 to 9300 or on the day before them.
     pub events: Vec<Event>,
     pub ghost limited: { IsLimit limit },
     pub ghost headed: { IsHead head },
@@ -31,7 +31,8 @@ impl Collected {
     ghost use Rattle.std.specs.Prelude.{◌≡◌, [], IfOk, OnOk, OnErr};
     ghost use Rattle.report_sheets.specs.Sheets.{first_head, taken_of, list_after};
 
-    /// No event, and a head of an empty name, feet and minute 0. It takes no memory.
+    /// Returns a collection of no event with an empty name, feet and minute 0 as its head. Doesn't
+    /// allocate.
     pub fn new(alloc: Global, limit: u32) -> Collected
         requires { IsLimit limit }
         ensures limit { result.limit ≡ limit }
@@ -49,7 +50,8 @@ impl Collected {
         }
     }
 
-    /// Begins anew with that head, as [`Sheet::open`](crate::Sheet::open) has it.
+    /// Removes all events and takes a copy of `head`, as [`Sheet::open`](crate::Sheet::open)
+    /// requires.
     pub fn open(&mut self, head: &Head) -> Result<(), AllocError>
         requires { IsHead head.now }
         ensures limit { self.new.limit ≡ self.old.limit }
@@ -62,7 +64,8 @@ impl Collected {
         Ok(())
     }
 
-    /// Appends an event, as [`Sheet::take`](crate::Sheet::take) has it.
+    /// Appends `event` unless the collection is full, as [`Sheet::take`](crate::Sheet::take)
+    /// requires.
     pub fn take(&mut self, event: &Event) -> Result<Taken, AllocError>
         requires { IsListed self.old.head.units event.now }
         ensures limit { self.new.limit ≡ self.old.limit }

@@ -1,4 +1,4 @@
-//! The two ends of a range.
+//! The two ends of the range of levels.
 
 use curve_law::Kind;
 
@@ -15,7 +15,8 @@ impl Extreme {
     ghost use Rattle.std.specs.Prelude.{◌≡◌, ◌≤◌, length, not};
     ghost use Rattle.report_sheets.specs.Ranges.{is_of, label_of, reaches};
 
-    /// Whether an event of that kind is a high or a low, as the end is.
+    /// Returns true if `kind` is an event of this end: a high for the highest water, a low for the
+    /// lowest.
     pub fn is_of(self, kind: Kind) -> bool
         ensures { result ≡ is_of self kind }
     {
@@ -25,7 +26,8 @@ impl Extreme {
         }
     }
 
-    /// Whether the other level goes beyond the first.
+    /// Returns true if `other` is beyond `level`: above it for the highest water, below it for the
+    /// lowest.
     pub fn is_passed(self, level: i64, other: i64) -> bool
         ensures { result ≡ not (reaches self level other) }
     {
@@ -35,7 +37,7 @@ impl Extreme {
         }
     }
 
-    /// What its line begins with, at most 8 bytes.
+    /// Returns the first word of the end's line, at most 8 bytes.
     pub fn label(self) -> &'static str
         ensures text { result.now ≡ label_of self }
         ensures short { length result.now ≤ 8 }

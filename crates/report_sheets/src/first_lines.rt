@@ -16,8 +16,8 @@ use harmonics_text::Units;
 use std::alloc::{AllocError, Global};
 use zone_time::Zone;
 
-/// The sheet `first`: below the station's name, the line of each event in universal time, as
-/// [`event_line`] has it.
+/// The sheet `first`: the station's name, and the line of each event in universal time, as
+/// [`event_line`] writes it.
 pub type FirstLines = SheetOf<FirstLinesPage>;
 
 /// The layout of [`FirstLines`].
@@ -42,6 +42,7 @@ impl Layout for FirstLinesPage {
     }
 }
 
+/// Appends the line of `event`.
 fn push_line(text: &mut Vec<u8>, units: Units, event: &Event) -> Result<(), AllocError>
     requires { IsListed units event.now }
     ensures { OnOk result (text.new.items ≡ text.old.items ++ event_line_in Zone.Utc units event.now) }

@@ -1,4 +1,4 @@
-//! What a report is about.
+//! The head of a report.
 
 ghost use Rattle.std.specs.Prelude.{◌≡◌, ◌++◌, IfOk, codes};
 
@@ -6,19 +6,19 @@ use decimal_text::Text;
 use harmonics_text::Units;
 use std::alloc::{AllocError, Global};
 
-/// What a report is about: a station, its unit, and when the report is made.
+/// The head of a report: a station, its unit and the minute at which the report is made.
 #[derive(Drop)]
 pub struct Head {
     /// The station's name.
     pub name: Text,
     /// The unit of the events' levels.
     pub units: Units,
-    /// When the report is made, in minutes since 1970-01-01T00:00Z.
+    /// The minute at which the report is made, since 1970-01-01T00:00Z.
     pub now: i64,
 }
 
 impl Head {
-    /// A second head of the same.
+    /// Returns a copy.
     pub fn copy(&self) -> Result<Head, AllocError>
         ensures { IfOk result (λ head. head ≡ self.entry.now) }
     {
@@ -29,7 +29,7 @@ impl Head {
         })
     }
 
-    /// The line of the name, which a page begins with.
+    /// Returns the first line of a page, the station's name.
     pub fn name_line(&self, alloc: Global) -> Result<Vec<u8>, AllocError>
         ensures { IfOk result (λ text. text.items ≡ self.entry.now.name ++ codes "\n") }
     {

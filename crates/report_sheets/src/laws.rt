@@ -1,4 +1,4 @@
-//! What a page shows, and what three sheets write.
+//! Laws of pages and of the three sheets.
 
 ghost use Rattle.std.specs.Prelude.{◌≡◌, ◌≤◌, List, length, take};
 ghost use Rattle.curve_law.specs.declared.event.Event.{Event};
@@ -14,8 +14,8 @@ use crate::layout::Layout;
 use crate::ranges::RangesPage;
 use crate::tally::TallyPage;
 
-/// A sheet that takes all events shows all of them. One that is full shows exactly as many as it
-/// takes, and these are the first.
+/// A sheet whose limit no list of events exceeds shows all of them. A sheet that is full shows
+/// exactly as many events as its limit, and these are the first.
 #[tactic(auto, unfolding(crate::specs::Pages::page_of))]
 pub fn pages_show_the_first_events()
     ensures all { (sheet : SheetMeaning) (head : Head) (events : List Event)
@@ -24,7 +24,7 @@ pub fn pages_show_the_first_events()
         → sheet.limit ≤ length events → (page_of head events sheet ≡ sheet.layout head (take sheet.limit events)) × (length (take sheet.limit events) ≡ sheet.limit) }
 {}
 
-/// A tally, a range and the first lines are the sheets that their definitions say.
+/// The layouts of a tally, of ranges and of first lines are those of their definitions.
 pub fn sheets_write_their_layouts()
     ensures tally { ⟦<TallyPage as Layout>⟧.sheet ≡ tally_sheet }
     ensures range { ⟦<RangesPage as Layout>⟧.sheet ≡ range_sheet }

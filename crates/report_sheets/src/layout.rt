@@ -1,4 +1,4 @@
-//! What a kind of sheet writes.
+//! The layouts of sheets.
 
 ghost use Rattle.std.specs.Prelude.{◌≡◌, ℕ, All, IfOk};
 ghost use Rattle.event_text.specs.Lines.{IsListed};
@@ -9,21 +9,21 @@ use curve_law::Event;
 use decimal_text::Bytes;
 use std::alloc::{AllocError, Global};
 
-/// The word of a kind of sheet, and what such a sheet writes of a head and of events.
+/// A layout: the word of a sheet, and the text that it writes for a head and events.
 pub trait Layout {
-    /// What a sheet of a limit is.
+    /// The meaning of the sheet with a limit.
     ghost sheet: { ℕ → SheetMeaning };
 
-    /// The word.
+    /// Returns the word by which the sheet is requested.
     fn word() -> &'static str
         ensures { (limit : ℕ) → result.now ≡ (sheet limit).word };
 
-    /// The text of a head and of events. Each event has a [`word`](event_text::word) in the head's
-    /// unit, and a minute of the years from 2 to 9300 or of the day before them.
+    /// Returns the text for `head` and `events`. Each event has a [`word`](event_text::word) in the
+    /// head's unit, and a minute in the years 2 to 9300 or on the day before them.
     fn text(alloc: Global, head: &Head, events: &[Event]) -> Result<Bytes, AllocError>
         requires { All (IsListed head.now.units) events.now }
         ensures { (limit : ℕ) → IfOk result (λ text. text ≡ (sheet limit).layout head.entry.now events.now) };
 
-    /// The limit is how many events the sheet takes.
+    /// The limit is the greatest number of events that the sheet takes.
     ghost limited: { (limit : ℕ) → (sheet limit).limit ≡ limit };
 }

@@ -1,10 +1,10 @@
 //! Sheets: listings of one station's events, each in a layout of its own, joined into a report.
 //!
-//! A [`Sheet`] has a word, is opened with a [`Head`], takes the events one by one up to its limit, and
-//! writes its text. [`Tally`] counts events, [`Ranges`] shows the highest and the lowest water, and
-//! [`FirstLines`] the first events. These are sheets of one form, [`SheetOf`] a [`Layout`].
-//! [`missing`] finds a wanted word that no sheet has, and [`fill`] makes the text of the wanted
-//! sheets. `specs/` has the layouts.
+//! A [`Sheet`] has a word, is opened with a [`Head`], takes the events one by one up to its limit,
+//! and writes its text. [`Tally`] counts events, [`Ranges`] shows the highest and the lowest water,
+//! and [`FirstLines`] the first events; each is a [`SheetOf`] a [`Layout`]. [`missing`] finds a
+//! requested word that no sheet has, and [`fill`] writes the requested sheets. `specs/` has the
+//! layouts.
 #![tactic(auto)]
 
 mod collected;

@@ -14,7 +14,7 @@ use curve_law::{Event, Events};
 use decimal_text::{Bytes, Text, Words};
 use std::alloc::{AllocError, Global};
 
-/// The place, from 0, of the first wanted word that no sheet has. It takes no memory.
+/// Returns the index of the first word in `wanted` that no sheet has. Doesn't allocate.
 pub fn missing(sheets: &Vec<Box<dyn Sheet>>, wanted: &Words) -> Option<u64>
     ensures { result ≡ missing_of (map meaning sheets.now.items) wanted.now }
 {
@@ -26,7 +26,7 @@ pub fn missing(sheets: &Vec<Box<dyn Sheet>>, wanted: &Words) -> Option<u64>
     None
 }
 
-/// Whether a sheet has the word.
+/// Returns true if one of `sheets` has the word `word`.
 fn is_known(sheets: &[Box<dyn Sheet>], word: &Text) -> bool
     ensures { result ≡ list_any (λ sheet. bytes_eq word.now (meaning sheet).word) sheets.now }
 {
@@ -38,17 +38,18 @@ fn is_known(sheets: &[Box<dyn Sheet>], word: &Text) -> bool
     false
 }
 
+/// Returns true if the word of `sheet` is `word`.
 fn is_named(sheet: &Box<dyn Sheet>, word: &Text) -> bool
     ensures { result ≡ bytes_eq word.now (meaning sheet.now).word }
 {
     sheet.named(word)
 }
 
-/// The text of a report: the pages of the sheets whose word is wanted, joined as the sheets were
-/// handed in. A page shows the head and the first events, as many as its sheet takes.
+/// Returns the text of a report: the pages of those `sheets` whose word is in `wanted`, in the
+/// order of `sheets`. A page shows the head and the first events, up to the limit of its sheet.
 ///
 /// The name has no control characters, and the unit isn't knots squared. Each event has a
-/// [`word`](event_text::word) in that unit, and a minute of the years from 2 to 9300 or of the day
+/// [`word`](event_text::word) in the head's unit, and a minute in the years 2 to 9300 or on the day
 /// before them.
 #[tactic(auto, using(crate::proofs::PageLemmas::pages_more, crate::proofs::PageLemmas::pages_kept), unfolding(crate::specs::Pages::pages_of))]
 pub fn fill(
@@ -71,7 +72,7 @@ pub fn fill(
     Ok(Bytes::from_vec(text))
 }
 
-/// Whether a sheet's word is among the wanted ones.
+/// Returns true if the word of `sheet` is in `wanted`.
 fn is_wanted(sheet: &Box<dyn Sheet>, wanted: &[Text]) -> bool
     ensures { result ≡ is_wanted wanted.now (meaning sheet.now) }
 {
@@ -83,7 +84,8 @@ fn is_wanted(sheet: &Box<dyn Sheet>, wanted: &[Text]) -> bool
     false
 }
 
-/// Appends the page of a sheet: gives it each event until it is full, and keeps its text.
+/// Appends the page of `sheet`: opens it with `head`, offers it `events` until it is full, and
+/// appends its text.
 #[tactic(auto, unfolding(crate::specs::Pages::page_of))]
 fn push_page(
     text: &mut Vec<u8>,
@@ -105,7 +107,7 @@ fn push_page(
     push_text(text, sheet)
 }
 
-/// Gives a sheet one event.
+/// Offers `event` to `sheet`.
 fn offer(sheet: &mut Box<dyn Sheet>, event: &Event) -> Result<Taken, AllocError>
     requires { IsListed (heading sheet.old).units event.now }
     ensures same { meaning sheet.new ≡ meaning sheet.old }
@@ -116,7 +118,7 @@ fn offer(sheet: &mut Box<dyn Sheet>, event: &Event) -> Result<Taken, AllocError>
     sheet.take(event)
 }
 
-/// Appends a sheet's text.
+/// Appends the text of `sheet`.
 fn push_text(text: &mut Vec<u8>, sheet: &Box<dyn Sheet>) -> Result<(), AllocError>
     ensures { OnOk result (text.new.items ≡ text.old.items ++ (meaning sheet.now).layout (heading sheet.now) (list sheet.now)) }
 {

@@ -18,9 +18,9 @@ use harmonics_text::Units;
 use std::alloc::{AllocError, Global};
 use zone_time::write_moment;
 
-/// The sheet `range`: below the station's name, a line such as
-/// `Highest 1.00 feet 2000-01-10T11:59Z` for the first high of greatest level, and one such as
-/// `Lowest -1.00 feet 2000-01-10T06:00Z` for the first low of least level.
+/// The sheet `range`: the station's name; a line such as `Highest 1.00 feet 2000-01-10T11:59Z` for
+/// the first high of greatest level; and one such as `Lowest -1.00 feet 2000-01-10T06:00Z` for the
+/// first low of least level.
 pub type Ranges = SheetOf<RangesPage>;
 
 /// The layout of [`Ranges`].
@@ -44,7 +44,7 @@ impl Layout for RangesPage {
     }
 }
 
-/// Appends the line of an end of the range.
+/// Appends the line of the end `extreme`, if `events` has one.
 fn push_extreme(
     text: &mut Vec<u8>,
     extreme: Extreme,
@@ -60,7 +60,7 @@ fn push_extreme(
     }
 }
 
-/// The first high of greatest level, or the first low of least level.
+/// Returns the first high of greatest level, or the first low of least level.
 fn first_extreme(extreme: Extreme, events: &[Event]) -> Option<Event>
     ensures { result ≡ extreme_of extreme events.now }
 {
@@ -73,7 +73,7 @@ fn first_extreme(extreme: Extreme, events: &[Event]) -> Option<Event>
     best
 }
 
-/// The better of the best event so far and the next, and the earlier of two equals.
+/// Returns the more extreme of `best` and `event`, and `best` if they are equal.
 fn better(extreme: Extreme, best: Option<Event>, event: &Event) -> Event
     ensures { Some result ≡ better_of extreme best event.now }
 {
@@ -83,6 +83,7 @@ fn better(extreme: Extreme, best: Option<Event>, event: &Event) -> Event
     }
 }
 
+/// Appends the line of `event` as the end `extreme`.
 fn push_range(
     text: &mut Vec<u8>,
     extreme: Extreme,

@@ -1,4 +1,4 @@
-//! What a sheet does.
+//! The trait of sheets.
 
 ghost use Rattle.std.specs.Prelude.{◌≡◌, List, [], IfOk, OnOk, OnErr};
 ghost use Rattle.std.specs.Str.{bytes_eq};
@@ -13,28 +13,30 @@ use curve_law::Event;
 use decimal_text::{Bytes, Text};
 use std::alloc::AllocError;
 
-/// A listing in a layout of its own. It is opened with a head, takes events up to its limit, and
-/// writes its text of that head and those events.
+/// A listing of events in a layout of its own. It is opened with a head, takes events up to its
+/// limit, and writes its text for that head and those events.
 ///
 /// Its word, its limit and its layout never change.
 pub trait Sheet: Drop {
     /// The word, the limit and the layout.
     ghost meaning: { Self → SheetMeaning };
 
-    /// The head that it was last opened with.
+    /// The head with which the sheet was last opened.
     ghost heading: { Self → Head };
 
-    /// The events that it has taken since, in their order.
+    /// The events taken since then, in their order.
     ghost list: { Self → List Event };
 
-    /// Whether this is the sheet's word. It takes no memory.
+    /// Returns true if `word` is the sheet's word. Doesn't allocate.
     fn named(&self, word: &Text) -> bool
         ensures { result ≡ bytes_eq word.now (meaning self.now).word };
 
-    /// Begins a sheet of that head with an empty list. Where it refuses, the list is empty too, and
-    /// the head stays.
+    /// Opens the sheet with `head` and an empty list.
     ///
     /// The name has no control characters, and the unit isn't knots squared.
+    ///
+    /// # Errors
+    /// [`AllocError`] if memory runs out: then the list is empty too, and the head is unchanged.
     fn open(&mut self, head: &Head) -> Result<(), AllocError>
         requires { IsHead head.now }
         ensures same { meaning self.new ≡ meaning self.old }
@@ -42,11 +44,13 @@ pub trait Sheet: Drop {
         ensures ok { OnOk result (heading self.new ≡ head.entry.now) }
         ensures err { OnErr result (heading self.new ≡ heading self.old) };
 
-    /// Appends an event, or answers that the list has as many events as the limit. Where it refuses,
-    /// nothing changes.
+    /// Appends `event`, or returns [`Taken::Full`] if the list has as many events as the limit.
     ///
-    /// The event has a [`word`](event_text::word) in the head's unit, and a minute of the years from
-    /// 2 to 9300 or of the day before them.
+    /// The event has a [`word`](event_text::word) in the head's unit, and a minute in the years 2
+    /// to 9300 or on the day before them.
+    ///
+    /// # Errors
+    /// [`AllocError`] if memory runs out: then nothing changes.
     fn take(&mut self, event: &Event) -> Result<Taken, AllocError>
         requires { IsListed (heading self.old).units event.now }
         ensures same { meaning self.new ≡ meaning self.old }
@@ -55,10 +59,10 @@ pub trait Sheet: Drop {
         ensures list { OnOk result (list self.new ≡ list_after (meaning self.old).limit (list self.old) event.now) }
         ensures err { OnErr result (list self.new ≡ list self.old) };
 
-    /// What the layout makes of the head and the list.
+    /// Returns the text of the head and the list in the sheet's layout.
     fn text(&self) -> Result<Bytes, AllocError>
         ensures { IfOk result (λ text. text ≡ (meaning self.now).layout (heading self.now) (list self.now)) };
 
-    /// A sheet takes from 1 to 1,000,000 events.
+    /// The limit of a sheet is 1 to 1,000,000 events.
     ghost limited: { (sheet : Self) → IsLimit (meaning sheet).limit };
 }

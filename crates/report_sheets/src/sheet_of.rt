@@ -13,7 +13,7 @@ use decimal_text::{Bytes, Text};
 use std::alloc::{AllocError, Global};
 use std::marker::PhantomData;
 
-/// A sheet that collects its events, and writes them in a layout.
+/// A sheet that collects its events, and writes them in the layout `L` at the end.
 #[derive(Drop)]
 pub struct SheetOf<L> {
     collected: Collected,
@@ -21,7 +21,7 @@ pub struct SheetOf<L> {
 }
 
 impl<L: Layout> SheetOf<L> {
-    /// A sheet that takes from 1 to 1,000,000 events. It takes no memory.
+    /// Returns a sheet of at most `limit` events, which is 1 to 1,000,000. Doesn't allocate.
     pub fn new(alloc: Global, limit: u32) -> SheetOf<L>
         requires { IsLimit limit }
         ensures meaning { ⟦<SheetOf<L> as Sheet>⟧.meaning result ≡ L.sheet limit }

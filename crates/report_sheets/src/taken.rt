@@ -1,9 +1,9 @@
-//! What a sheet answers to an event.
+//! The answer of a sheet to an event.
 
-/// Whether a sheet took an event.
+/// The answer of a sheet to an event that it is offered.
 #[derive(Clone, Copy, Debug, PartialEq, Eq)]
 pub enum Taken {
-    /// The event stands at the end of the sheet's list.
+    /// The event was appended to the sheet's list.
     Kept,
     /// The list has as many events as the sheet takes, and stays as it is.
     Full,

@@ -16,7 +16,7 @@ use harmonics_text::Units;
 use itoa::Buffer;
 use std::alloc::{AllocError, Global};
 
-/// The names in the order in which they are counted.
+/// The names of events in the order of their lines.
 const NAMES: [EventWord; 10] = [
     EventWord::HighTide,
     EventWord::LowTide,
@@ -30,7 +30,7 @@ const NAMES: [EventWord; 10] = [
     EventWord::MarkFalling,
 ];
 
-/// The sheet `tally`: below the station's name, a line such as `2 High Tide` for each name that an
+/// The sheet `tally`: the station's name, and a line such as `2 High Tide` for each name that an
 /// event has.
 pub type Tally = SheetOf<TallyPage>;
 
@@ -55,7 +55,7 @@ impl Layout for TallyPage {
     }
 }
 
-/// How many events have each name, by the name's place.
+/// Returns the number of events with each name, by the index of the name in [`NAMES`].
 fn counts(units: Units, events: &[Event]) -> [u64; 10]
     requires { All (IsListed units) events.now }
     ensures { (place : ℕ) → place < 10 → slice_index result place ≡ count_at units events.now place }
@@ -67,6 +67,7 @@ fn counts(units: Units, events: &[Event]) -> [u64; 10]
     counts
 }
 
+/// Returns the index in [`NAMES`] of the name of `event`.
 fn place_of_event(units: Units, event: &Event) -> usize
     requires { IsListed units event.now }
     ensures value { result ≡ place_of (word_of units event.now.kind event.now.level) }
@@ -75,7 +76,7 @@ fn place_of_event(units: Units, event: &Event) -> usize
     place(word(units, event.kind, event.level))
 }
 
-/// A name's place among the names.
+/// Returns the index of `word` in [`NAMES`].
 fn place(word: EventWord) -> usize
     ensures value { result ≡ place_of word }
     ensures small { result < 10 }
@@ -83,7 +84,7 @@ fn place(word: EventWord) -> usize
     word as usize
 }
 
-/// Appends a line for each name that has a count.
+/// Appends a line for each name with a count.
 fn push_counts(text: &mut Vec<u8>, counts: &[u64]) -> Result<(), AllocError>
     requires { length counts.now ≡ 10 }
     ensures { OnOk result (text.new.items ≡ text.old.items ++ flat_map (λ word. count_line (slice_index counts.now (place_of word)) word) names) }
@@ -94,7 +95,7 @@ fn push_counts(text: &mut Vec<u8>, counts: &[u64]) -> Result<(), AllocError>
     Ok(())
 }
 
-/// Appends the line of a name, if it has a count.
+/// Appends the line of a name, if its `count` isn't 0.
 fn push_count(text: &mut Vec<u8>, count: u64, word: EventWord) -> Result<(), AllocError>
     ensures { OnOk result (text.new.items ≡ text.old.items ++ count_line count word) }
 {

@@ -1,4 +1,4 @@
-//! Reports that were worked out by hand.
+//! Reports worked out by hand.
 
 ghost use Rattle.std.specs.Prelude.{◌≡◌, [], ◌∷◌, Some, None, codes};
 ghost use Rattle.report_sheets.specs.Listings.{lines_of};
@@ -7,7 +7,7 @@ ghost use Rattle.report_sheets.specs.Ranges.{ranges_of};
 ghost use Rattle.report_sheets.specs.Tallies.{tally_of};
 ghost use Rattle.report_sheets.specs.Worked.{ebbs, gate, pier, sheets_with, tides};
 
-/// How many events of each name there are, in the order of the names.
+/// The number of events with each name, in the order of the names.
 pub fn worked_tallies()
     ensures tides { tally_of pier tides ≡ codes "Pier\n2 High Tide\n2 Low Tide\n" }
     ensures currents { tally_of gate ebbs ≡ codes "Gate\n1 Max Ebb\n1 Min Ebb\n1 Mark Falling\n" }
@@ -21,7 +21,7 @@ pub fn worked_ranges()
     ensures none { ranges_of pier [] ≡ codes "Pier\n" }
 {}
 
-/// The pages of the wanted sheets in the order of the sheets, where the last takes two events.
+/// The pages of the requested sheets in the order of the sheets; the last sheet takes two events.
 pub fn worked_pages()
     ensures first { pages_of (sheets_with 2) (codes "first" ∷ codes "tally" ∷ []) pier tides
         ≡ codes "Pier\n2 High Tide\n2 Low Tide\nPier\n2000-01-10 06:00 UTC      -1.00 feet  Low Tide\n2000-01-10 11:59 UTC       1.00 feet  High Tide\n" }
@@ -30,7 +30,7 @@ pub fn worked_pages()
     ensures none_wanted { pages_of (sheets_with 2) [] pier tides ≡ [] }
 {}
 
-/// The first wanted word that no sheet has.
+/// The index of the first requested word that no sheet has.
 #[tactic(auto, unfolding(crate::specs::Pages::missing_of))]
 pub fn worked_words()
     ensures second { missing_of (sheets_with 10) (codes "tally" ∷ codes "graph" ∷ codes "table" ∷ []) ≡ Some 1 }

@@ -1,4 +1,4 @@
--- The cells of a track's curve may stand in the track, and have usual levels.
+-- The cells of a track's curve can be in the track, and have usual levels.
 use Rattle.std.proofs.Common.{◌≡◌, ℕ, suc, ◌≤◌, ◌==◌, ℤ, pos, ◌+ℤ◌, Bool, true, false, ◌&&◌, cond, nat_le, List, [], ◌∷◌, length, All, refl, ap, ◌∙◌, arith}
 use Rattle.std.specs.Prelude.{unsigned_abs}
 use Rattle.std.specs.Ordering.{int_eq}
@@ -23,7 +23,7 @@ use Rattle.curve_law.proofs.VerdictLemmas.{one_kind}
 use Rattle.event_list.specs.declared.span.Span.{Span}
 use Rattle.event_list.specs.Events.{minutes_in}
 
--- what an accepted cell says
+-- the facts of an accepted cell
 both_true : (a b : Bool) → (a && b) ≡ true → (a ≡ true) × (b ≡ true)
 both_true true true h = (refl, refl)
 both_true true false h = (refl, h)
@@ -40,7 +40,7 @@ pub accepted_if : (b : Bool) (v w : Verdict) → (w ≡ Accepted → ⊥) → co
 accepted_if true v w unlike h = (refl, h)
 accepted_if false v w unlike h = absurd (unlike h)
 
--- the levels of its events, and the track that they stand in
+-- the levels of a curve's events, and their track
 pub record IsOf (track : TrackName) (c : Meaning) : Type 0 where
   pub rising : track_of c.track.rising ≡ track
   pub falling : track_of c.track.falling ≡ track
@@ -82,7 +82,7 @@ usual_cell track c a number (Quiet n) is at ok = tt
 usual_cell track c a number Still is at ok = tt
 usual_cell track c a number (Turn kind level) is at ok = rw (accepted_event c a number kind level ok).1 (is.small a at)
 
--- what each accepted cell says, all do
+-- a fact of each accepted cell, if it holds of one
 abbrev IfAccepted : Meaning → (Cell → Type 0) → Type 0
 IfAccepted c P = (a : ℤ) (number : ℕ) (cell : Cell) → IsMinute c a → cell_verdict c a number cell ≡ Accepted → P cell
 

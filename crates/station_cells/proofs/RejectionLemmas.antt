@@ -1,4 +1,4 @@
--- What follows where nothing is wrong with tracks, and what curves that agree find on them.
+-- Consequences of tracks without a fault, and the verdicts of curves that agree.
 use Rattle.std.proofs.Common.{◌≡◌, ℕ, ◌≤◌, ◌==◌, ℤ, Bool, true, false, List, Option, Some, None, is_some, refl, ap, ◌∙◌, arith}
 use Rattle.std.specs.Option.{ForSome, option_or}
 use Rattle.std.proofs.lemmas.Bool.Decides.{Decides-eqb}
@@ -18,7 +18,7 @@ use Rattle.station_cells.specs.declared.rejection.Rejection.{Rejection}
 use Rattle.station_cells.specs.Rejections.{slack_fault, fault_from, track_fault, rejection_of}
 use Rattle.station_cells.proofs.CellLemmas.{accepted_if}
 
--- ---- nothing is wrong
+-- ---- no fault
 
 none_of : (a b : Option Rejection) → option_or a b ≡ None → (a ≡ None) × (b ≡ None)
 none_of None b h = (refl, h)

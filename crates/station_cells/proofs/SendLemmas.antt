@@ -1,4 +1,4 @@
--- What the parts that are written come to together.
+-- The pieces of a text that are written, together.
 use Rattle.std.proofs.Common.{◌≡◌, ℕ, suc, ◌+◌, ◌-◌, ◌<◌, ◌≤◌, Bool, true, false, if◌then◌else◌, List, [], ◌∷◌, ◌++◌, length, take, Result, Ok, Err, refl, sym, ap, ◌∙◌, arith, append_assoc, append-nil, length-append}
 use Rattle.std.specs.Prelude.{IfOk}
 use Rattle.std.proofs.lemmas.List.{take-append-le}
@@ -14,7 +14,7 @@ take_beyond (x ∷ xs) ys n =
     let e : suc (length xs) + n ≡ suc (length xs + n) = omega arith in
     ap (λ k. take k (x ∷ (xs ++ ys))) e ∙ ap (λ l. x ∷ l) (take_beyond xs ys n)
 
--- a part that failed is one of the text that goes on
+-- a piece that failed, as a piece of a text that goes on
 pub sends_cut : (before after : SinkState) (sent : Sent) (text rest : List ℕ) (n k : ℕ) (fault : WriteFailed) → Sends before after sent text n (Err fault) → Sends before after sent (text ++ rest) k (Err fault)
 sends_cut before after sent text rest n k fault sends =
     let least = sends.0 in
@@ -23,7 +23,7 @@ sends_cut before after sent text rest n k fault sends =
     let few : fault.sent - sent.bytes ≤ length text = omega (arith, least, most) in
     (least, omega (arith, most, both), sends.2 ∙ ap (λ xs. sink_failed (put xs before)) (sym (take-append-le (fault.sent - sent.bytes) text rest few)))
 
--- a part after one that was taken whole
+-- a piece after one that was written whole
 pub sends_then : (before now after : SinkState) (sent done : Sent) (text rest : List ℕ) (n k : ℕ) (result : Result Sent WriteFailed) → Sends before now sent text n (Ok done) → Sends now after done rest k result → Sends before after sent (text ++ rest) (n + k) result
 sends_then before now after sent done text rest n k (Ok last) first second =
     let bytes = first.0 in
@@ -53,20 +53,20 @@ pub sends_sum : (before now after : SinkState) (sent done : Sent) (text rest : L
 sends_sum before now after sent done text rest n k both sum result first second =
     rw (← sum) (sends_then before now after sent done text rest n k result first second)
 
--- nothing as yet
+-- nothing was written yet
 pub same_state : (s : SinkState) → s ≡ put [] s
 same_state s = sym (put_none s)
 
 pub sends_none : (before : SinkState) (sent : Sent) → Sends before before sent [] 0 (Ok sent)
 sends_none before sent = (omega arith, omega arith, same_state before)
 
--- ---- lines on a page
+-- ---- lines in a buffer
 
 by_room : (fits : Bool) (held line : List ℕ) → (if fits then [] else held) ++ (if fits then held ++ line else line) ≡ held ++ line
 by_room true held line = refl
 by_room false held line = refl
 
--- no byte is lost where a line is put on a page, and none comes twice
+-- putting a line into a buffer loses no byte and repeats none
 pub page_kept : (held line now : List ℕ) → now ≡ held_after held line → gone_for held line ++ now ≡ held ++ line
 page_kept held line now is = rw is (by_room (has_room held line) held line)
 
@@ -83,7 +83,7 @@ page_step all left rest x whole text held line now is more put so_far =
     ∙ ap (λ ys. text ++ (held ++ ys)) (sym more ∙ ap all (sym is))
     ∙ so_far
 
--- and the last
+-- the last line
 pub page_done : {T : Type 0} (all : List T → List ℕ) (left : List T) (whole text held : List ℕ) → left ≡ [] → all [] ≡ [] → text ++ (held ++ all left) ≡ whole → text ++ held ≡ whole
 page_done all left whole text held none empty so_far =
     ap (λ ys. text ++ ys) (sym (append-nil held) ∙ ap (λ ys. held ++ ys) (sym empty ∙ ap all (sym none))) ∙ so_far

@@ -1,4 +1,4 @@
--- Why a certificate whose question is in order isn't valid, and the line that tells it (this project).
+-- The faults of a certificate whose request is in order, and the line that reports one (this project).
 use Rattle.std.specs.Prelude.{ℕ, ◌<◌, ◌^◌, Bool, true, false, List, ◌++◌, length, codes, decimal, Option, Some, None, is_some}
 use Rattle.std.specs.Option.{option_or, ForSome}
 use Rattle.std.specs.Fmt.{signed_decimal}
@@ -18,10 +18,11 @@ use Rattle.station_cells.specs.declared.rejection.Rejection.TheVariants.{SlackWa
 
 -- ---- the line
 
+-- the text of a cell by its number, counted from 1
 abbrev pub cell_text : ℕ → List ℕ
 cell_text cell = codes ": cell " ++ decimal cell
 
--- what is said of a track after its name
+-- the end of a track's line: what its verdict says
 unfoldable pub finding_text : Verdict → List ℕ
 finding_text Accepted = codes ": accepted\n"
 finding_text (WrongLength covered wanted) =
@@ -31,30 +32,32 @@ finding_text (WrongStep cell) = cell_text cell ++ codes " has the wrong step\n"
 finding_text (WrongLevel cell written computed) =
     cell_text cell ++ (codes " has level " ++ signed_decimal written) ++ (codes ", computed " ++ signed_decimal computed ++ codes "\n")
 
+-- the line of a rejection
 unfoldable pub rejection_line : Rejection → List ℕ
 rejection_line SlackWanted = codes "Rejected: slack track wanted\n"
 rejection_line SlackNotWanted = codes "Rejected: slack track not wanted\n"
 rejection_line (Track track finding) = codes "Rejected: track " ++ track_word track ++ finding_text finding
 
--- ---- what is wrong first
+-- ---- the first fault
 
--- the slack track is there exactly where it is asked
+-- the slack track is present exactly if it is required
 abbrev pub slack_fault : Bool → Bool → Option Rejection
 slack_fault true false = Some SlackWanted
 slack_fault false true = Some SlackNotWanted
 slack_fault true true = None
 slack_fault false false = None
 
+-- the verdict on a track as a rejection, if it doesn't accept
 abbrev pub fault_from : TrackName → Verdict → Option Rejection
 fault_from track Accepted = None
 fault_from track finding = Some (Track track finding)
 
--- the cells of a track against its curve, over the minutes of the reference that are looked at
+-- the fault of a track's cells by its curve, over the minutes of the reference that are evaluated
 abbrev pub track_fault : Span → TrackName → Option Meaning → Option (List Cell) → Option Rejection
 track_fault span track (Some curve) (Some cells) = fault_from track (verdict curve span.begin (minutes_in span) cells)
 track_fault span track _ _ = None
 
--- first whether slack water is asked, then the tracks one after the other
+-- the first fault: whether the slack track is required, and then the tracks one after the other
 unfoldable pub rejection_of : Followed → Span → Tracks → Option Rejection
 rejection_of curves span tracks =
     option_or (option_or (option_or
@@ -63,7 +66,7 @@ rejection_of curves span tracks =
     (track_fault span Slack curves.slack tracks.slack))
     (track_fault span Mark curves.mark tracks.mark)
 
--- each track has fewer cells than a number tells
+-- tracks of fewer than 2^32 cells each
 pub record HasFewCells (tracks : Tracks) : Type 0 where
   pub turn : length tracks.turn < 2 ^ 32
   pub slack : ForSome tracks.slack (λ cells. length cells < 2 ^ 32)

@@ -1,4 +1,4 @@
-//! The cells of a track, written as they are found. It takes no memory.
+//! The cells of a track, written as they are found. None of these functions allocates.
 
 ghost use Rattle.std.specs.Prelude.{◌≡◌, ◌+◌, ◌*◌, ◌<◌, ◌≤◌, ◌^◌, length, map, All, IfOk, OnOk};
 ghost use Rattle.std.specs.Option.{ForSome};
@@ -15,7 +15,10 @@ use curve_law::{Cell, Curve};
 use interval_search::Search;
 use tide_edge::{Sink, WriteFailed};
 
-/// Writes a track, if there is a search for it.
+/// Writes the heading and the cells of `track`, if there is a search for it.
+///
+/// # Errors
+/// [`WriteFailed`] if the sink fails: then it holds a prefix of the lines.
 #[tactic(auto, using(crate::proofs::SendLemmas::same_state))]
 pub fn send_if_followed<C: Curve + Drop, S: Sink>(
     out: &mut S,
@@ -35,7 +38,10 @@ pub fn send_if_followed<C: Curve + Drop, S: Sink>(
     }
 }
 
-/// Writes a track's heading, and the line of each cell that its search has left.
+/// Writes the heading of `track`, and the line of each cell that `search` still finds.
+///
+/// # Errors
+/// [`WriteFailed`] if the sink fails: then it holds a prefix of the lines.
 pub fn send_track<C: Curve + Drop, S: Sink>(
     out: &mut S,
     sent: Sent,
@@ -54,7 +60,7 @@ pub fn send_track<C: Curve + Drop, S: Sink>(
     send_cells(out, sent, search)
 }
 
-// Writes the line of each cell that a search has left.
+// Writes the line of each cell that `search` still finds.
 fn send_cells<C: Curve + Drop, S: Sink>(
     out: &mut S,
     sent: Sent,
@@ -75,7 +81,7 @@ fn send_cells<C: Curve + Drop, S: Sink>(
     page.end(out, so_far)
 }
 
-// Puts the line of a cell on a page, and counts the cell.
+// Puts the line of `cell` on `page`, and counts the cell.
 fn put_cell<S: Sink>(
     page: &mut Page,
     out: &mut S,

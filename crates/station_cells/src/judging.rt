@@ -1,4 +1,4 @@
-//! What is wrong with the tracks of a certificate.
+//! The check of a certificate's tracks.
 
 ghost use Rattle.std.specs.Prelude.{◌≡◌, ◌<◌, ◌^◌, length, option_map};
 ghost use Rattle.std.specs.Option.{ForSome};
@@ -13,9 +13,9 @@ use cert_text::TrackName;
 use curve_law::{Cells, Curve, Tracks, Verdict};
 use event_list::Span;
 
-/// The first thing that is wrong with tracks over a span, by the curves that are followed: whether
-/// slack water is asked, and then the tracks one after the other. No curve was asked for a value, and
-/// each tells the span's minutes. It takes no memory.
+/// Returns the first fault of `tracks` over `span`, or `None` if they are right: first whether the
+/// slack track is present exactly if there is a curve `slack`, and then the cells of each track. No
+/// curve has been evaluated yet, and each is valid over the span. Doesn't allocate.
 #[tactic(auto, unfolding(crate::specs::Rejections::rejection_of))]
 pub fn rejection_over<A: Curve + Drop, B: Curve + Drop>(
     turn: A,
@@ -42,7 +42,7 @@ pub fn rejection_over<A: Curve + Drop, B: Curve + Drop>(
     fault_if_followed(TrackName::Mark, mark, &tracks.mark, span)
 }
 
-// The slack track is there exactly where it is asked.
+// Returns a rejection unless the slack track is present exactly if it is required.
 fn slack_fault(is_asked: bool, is_there: bool) -> Option<Rejection>
     ensures { result ≡ slack_fault is_asked is_there }
 {
@@ -53,6 +53,8 @@ fn slack_fault(is_asked: bool, is_there: bool) -> Option<Rejection>
     }
 }
 
+/// Returns the first fault of a track's cells, or `None` if the track isn't followed or the cells
+/// are right.
 fn fault_if_followed<C: Curve + Drop>(
     track: TrackName,
     curve: Option<C>,
@@ -69,6 +71,7 @@ fn fault_if_followed<C: Curve + Drop>(
     }
 }
 
+/// Returns the first fault of `cells` as the cells of `track`, or `None` if they are right.
 fn track_fault<C: Curve + Drop>(
     track: TrackName,
     curve: C,
@@ -83,6 +86,7 @@ fn track_fault<C: Curve + Drop>(
     fault_from(track, check_track(&mut curve, cells, span.begin, span.end))
 }
 
+/// Returns the verdict `finding` on `track` as a rejection, or `None` if it accepts.
 fn fault_from(track: TrackName, finding: Verdict) -> Option<Rejection>
     ensures { result ≡ fault_from track finding }
 {

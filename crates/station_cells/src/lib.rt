@@ -1,9 +1,9 @@
-//! The cells of the curves that are followed at a station, and what is wrong with a certificate's.
+//! The cells of the curves that are followed at a station, and the check of a certificate's cells.
 //!
-//! [`tracks_over`] finds the cells of each curve, [`rejection_over`] the first thing that is wrong with
-//! cells that somebody wrote, and [`rejection_line`] tells it. [`send_track`] writes the cells as a
-//! search finds them, a [`Page`] at a time. The curves may be any: `specs/Rejections.antt` says what is
-//! wrong first.
+//! [`tracks_over`] finds the cells of each curve, [`rejection_over`] the first fault of cells that
+//! anybody wrote, and [`rejection_line`] prints it. [`send_track`] writes the cells as a search
+//! finds them, buffered in a [`Page`]. The functions take any curve; `specs/Rejections.antt`
+//! defines the order of faults.
 #![tactic(auto)]
 
 mod certifying;

@@ -1,4 +1,4 @@
-//! Lines that are gathered before they are written, since a call of the system for each is slow.
+//! A buffer of lines, which saves a system call for each line.
 
 ghost use Rattle.std.specs.Prelude.{◌≡◌, ◌+◌, ◌<◌, ◌≤◌, ◌^◌, [], length, OnErr, OnOk};
 ghost use Rattle.station_cells.specs.Sending.{Sends, gone_for, held_after};
@@ -7,13 +7,14 @@ use crate::sending::{Sent, send};
 use arrayvec::ArrayString;
 use tide_edge::{Sink, WriteFailed};
 
-/// What comes next of a text, and isn't written yet. It takes no memory.
+/// A buffer of the end of a text that isn't written yet, at most 4,096 bytes. It doesn't allocate.
 #[derive(Drop)]
 pub struct Page {
     text: ArrayString<4096>,
 }
 
 impl Page {
+    /// Returns an empty buffer.
     pub fn new() -> Page
         ensures { result.text.bytes ≡ [] }
     {
@@ -22,8 +23,11 @@ impl Page {
         }
     }
 
-    /// Puts a line on the page. What is there is written first where the line has no room after it,
-    /// and where that fails the page is as it was.
+    /// Appends `line`, of at most 4,096 bytes, to the buffer. If there is no room for it the buffer
+    /// is written first.
+    ///
+    /// # Errors
+    /// [`WriteFailed`] if this write fails: then the buffer is unchanged.
     #[tactic(auto, using(crate::proofs::SendLemmas::same_state))]
     pub fn put<S: Sink>(&mut self, out: &mut S, sent: Sent, line: &str) -> Result<Sent, WriteFailed>
         requires short { length line.now ≤ 4096 }
@@ -42,7 +46,10 @@ impl Page {
         Ok(done)
     }
 
-    /// Writes what is on the page.
+    /// Writes the buffer.
+    ///
+    /// # Errors
+    /// [`WriteFailed`] if the write fails.
     pub fn end<S: Sink>(self, out: &mut S, sent: Sent) -> Result<Sent, WriteFailed>
         requires { sent.bytes + length self.text.bytes < 2 ^ 64 }
         ensures { Sends (S.state out.old) (S.state out.new) sent self.text.bytes 0 result }

@@ -1,4 +1,4 @@
-//! Why a certificate isn't valid.
+//! The faults of a certificate's tracks.
 
 ghost use Rattle.std.specs.Prelude.{◌≡◌, ◌++◌, codes, decimal, IfOk, string_bytes};
 ghost use Rattle.std.specs.Fmt.{signed_decimal};
@@ -10,18 +10,18 @@ use curve_law::Verdict;
 use decimal_text::Bytes;
 use std::alloc::{AllocError, Global};
 
-/// The first thing that is wrong with the tracks of a certificate whose question is in order.
+/// The first fault of the tracks of a certificate whose request is in order.
 #[derive(Clone, Copy, Debug, PartialEq, Eq)]
 pub enum Rejection {
-    /// Slack water is asked of the station, and its track isn't there.
+    /// The slack track is required and isn't there.
     SlackWanted,
-    /// Slack water isn't asked, and its track is there.
+    /// The slack track is there and isn't required.
     SlackNotWanted,
-    /// The finding on the cells of a track.
+    /// The verdict on the cells of a track.
     Track(TrackName, Verdict),
 }
 
-/// The line that tells it, with its LF.
+/// Returns the line that reports `rejection`, with its LF.
 #[tactic(auto, unfolding(crate::specs::Rejections::rejection_line))]
 pub fn rejection_line(alloc: Global, rejection: Rejection) -> Result<Bytes, AllocError>
     ensures { IfOk result (λ line. line ≡ rejection_line rejection) }
@@ -36,6 +36,7 @@ pub fn rejection_line(alloc: Global, rejection: Rejection) -> Result<Bytes, Allo
     Ok(Bytes::from_vec(text.into_bytes()))
 }
 
+/// Returns the line of the verdict `finding` on `track`.
 fn track_text(alloc: Global, track: TrackName, finding: Verdict) -> Result<String, AllocError>
     ensures { IfOk result (λ text. string_bytes text ≡ codes "Rejected: track " ++ track_word track ++ finding_text finding) }
 {
@@ -46,6 +47,7 @@ fn track_text(alloc: Global, track: TrackName, finding: Verdict) -> Result<Strin
     Ok(text)
 }
 
+/// Returns the end of that line: what `finding` says of the cells.
 #[tactic(auto, unfolding(crate::specs::Rejections::finding_text))]
 fn finding_text(alloc: Global, finding: Verdict) -> Result<String, AllocError>
     ensures { IfOk result (λ text. string_bytes text ≡ finding_text finding) }
@@ -63,6 +65,7 @@ fn finding_text(alloc: Global, finding: Verdict) -> Result<String, AllocError>
     }
 }
 
+/// Returns the end of the line for cells that cover `covered` minutes in place of `wanted`.
 fn length_text(alloc: Global, covered: i64, wanted: i64) -> Result<String, AllocError>
     ensures { IfOk result (λ text. string_bytes text
         ≡ (codes ": cells cover " ++ signed_decimal covered) ++ (codes " of " ++ signed_decimal wanted ++ codes " minutes\n")) }
@@ -73,7 +76,7 @@ fn length_text(alloc: Global, covered: i64, wanted: i64) -> Result<String, Alloc
     Ok(text)
 }
 
-// A cell by its number, and what is said of it.
+// Returns the end of the line for the cell with the number `cell`, counted from 1.
 fn cell_text(alloc: Global, cell: u32, said: &str) -> Result<String, AllocError>
     ensures { IfOk result (λ text. string_bytes text ≡ cell_text cell ++ said.now) }
 {
@@ -82,6 +85,8 @@ fn cell_text(alloc: Global, cell: u32, said: &str) -> Result<String, AllocError>
     Ok(text)
 }
 
+/// Returns the end of the line for a cell whose level `written` isn't the `computed` one, in
+/// millionths.
 fn level_text(alloc: Global, cell: u32, written: i64, computed: i64) -> Result<String, AllocError>
     ensures { IfOk result (λ text. string_bytes text
         ≡ cell_text cell ++ (codes " has level " ++ signed_decimal written) ++ (codes ", computed " ++ signed_decimal computed ++ codes "\n")) }

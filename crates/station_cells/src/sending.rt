@@ -1,4 +1,4 @@
-//! A text that is written part after part. None takes memory.
+//! A text that is written piece by piece. None of these functions allocates.
 
 ghost use Rattle.std.specs.Prelude.{◌≡◌, ◌+◌, ◌<◌, ◌^◌, ◌++◌, length, codes};
 ghost use Rattle.station_cells.specs.Sending.{Sends};
@@ -6,16 +6,19 @@ ghost use Rattle.station_cells.specs.Sending.{Sends};
 use decimal_text::Text;
 use tide_edge::{Sink, WriteFailed, write_all};
 
-/// How much of a text is written.
+/// The progress of a text that is written piece by piece.
 #[derive(Clone, Copy, Debug)]
 pub struct Sent {
-    /// Its bytes, from the first on.
+    /// The number of its bytes that are written.
     pub bytes: u64,
-    /// The cells whose lines are written, or are on a page.
+    /// The number of cells whose lines are written, or are in a buffer.
     pub cells: u64,
 }
 
-/// Writes a piece after what is written before.
+/// Writes `piece` after what is written already, and returns the new progress.
+///
+/// # Errors
+/// [`WriteFailed`] if the sink fails.
 pub fn send<S: Sink>(out: &mut S, sent: Sent, piece: &str) -> Result<Sent, WriteFailed>
     requires { sent.bytes + length piece.now < 2 ^ 64 }
     ensures { Sends (S.state out.old) (S.state out.new) sent piece.now 0 result }
@@ -31,7 +34,7 @@ pub fn send<S: Sink>(out: &mut S, sent: Sent, piece: &str) -> Result<Sent, Write
     }
 }
 
-/// Writes a front and a name as a line.
+/// Writes the line of `front` and `name`.
 pub fn send_name<S: Sink>(
     out: &mut S,
     sent: Sent,

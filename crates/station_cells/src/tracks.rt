@@ -10,8 +10,8 @@ use event_list::Span;
 use interval_search::search;
 use std::alloc::{AllocError, Global};
 
-/// The cells of each curve over a span. No curve was asked for a value, and each tells the span's
-/// minutes.
+/// Returns the cells of each curve over `span`. No curve has been evaluated yet, and each is valid
+/// over the span.
 pub fn tracks_over<A: Curve + Drop, B: Curve + Drop>(
     alloc: Global,
     turn: A,
@@ -30,6 +30,7 @@ pub fn tracks_over<A: Curve + Drop, B: Curve + Drop>(
     Ok(Tracks { turn, slack, mark })
 }
 
+/// Returns the cells of `curve` over `span`.
 fn cells_over<C: Curve + Drop>(alloc: Global, curve: C, span: &Span) -> Result<Cells, AllocError>
     requires { Tells span.now (C.meaning curve) (C.count curve) }
     ensures { IfOk result (λ cells. cells ≡ cover_over span.now (C.meaning curve)) }
@@ -38,6 +39,7 @@ fn cells_over<C: Curve + Drop>(alloc: Global, curve: C, span: &Span) -> Result<C
     search(alloc, &mut curve, span.begin, span.end)
 }
 
+/// Returns the cells of a curve that may not be followed.
 fn cells_if_followed<C: Curve + Drop>(
     alloc: Global,
     curve: Option<C>,
@@ -52,7 +54,7 @@ fn cells_if_followed<C: Curve + Drop>(
     }
 }
 
-/// How many cells the tracks have together.
+/// Returns the number of cells of all tracks.
 #[tactic(auto, unfolding(event_list::specs::Events::cells_in))]
 pub fn cell_count(tracks: &Tracks) -> u64
     requires { cells_in tracks.now < 2 ^ 64 }
@@ -61,12 +63,14 @@ pub fn cell_count(tracks: &Tracks) -> u64
     count_of(&tracks.turn) + count_if_followed(&tracks.slack) + count_if_followed(&tracks.mark)
 }
 
+/// Returns the number of `cells`.
 fn count_of(cells: &Cells) -> u64
     ensures { result ≡ length cells.now }
 {
     cells.as_slice().len() as u64
 }
 
+/// Returns the number of cells of a track that may be absent.
 fn count_if_followed(cells: &Option<Cells>) -> u64
     ensures { result ≡ sum_by length (option_to_list cells.now) }
 {

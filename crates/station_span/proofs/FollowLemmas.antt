@@ -1,4 +1,4 @@
--- The curves that are followed at a site, by its tide and by every constituent of the book.
+-- The curves that are followed at a station, by its tide and by every constituent of the harmonics file.
 use Rattle.std.proofs.Common.{◌≡◌, ◌^◌, ◌<◌, ◌≤◌, ℤ, pos, ◌+ℤ◌, ◌≤ℤ◌, ◌<ℤ◌, unsigned_abs, Bool, true, false, Option, Some, None, option_map, IsTrue, List, All, subst, ap, refl, sym, ◌∙◌, arith}
 use Rattle.std.proofs.lemmas.Int.{ints}
 use Rattle.std.specs.Option.{ForSome}
@@ -51,7 +51,7 @@ for_none P x e = cc
 for_some : {T : Type 0} (P : T → Type 0) (v : T) → P v → ForSome (Some v) P
 for_some P v holds x e = let same : v ≡ x = cc in subst P same holds
 
--- ---- what was found can be followed
+-- ---- a station that was found can be followed
 
 pub ready_of_found : (book : Book) (asked : Asked) (site : Site) (found : SiteTide) → IsFound Events book asked site found → IsReady asked found
 ready_of_found book asked site found is = record {
@@ -68,7 +68,7 @@ ready_of_found book asked site found is = record {
   mark = is.near.mark;
 }
 
--- ---- both say the same
+-- ---- the curves by the tide and by every constituent agree
 
 alike_if_asked : (s : Span) (asks : Bool) (c d : Meaning) → AgreeOver c d s.begin (minutes_in s) → AgreeIfFollowed s (if_asked asks c) (if_asked asks d)
 alike_if_asked s true c d agree = agree
@@ -78,14 +78,14 @@ alike_if_marked : (s : Span) (mark : Option ℤ) (f g : ℤ → Meaning) → ((l
 alike_if_marked s (Some level) f g agree = agree level
 alike_if_marked s None f g agree = tt
 
--- a site and what was found of it, for the minutes of a span
+-- a station and its tide, for the minutes of a span
 pub record IsSame (book : Book) (site : Site) (found : SiteTide) (s : Span) : Type 0 where
   pub basis : found.basis ≡ site.basis
   pub units : found.units ≡ site.station.units
   pub predicts : PredictsOver book site.station s.begin s.end found.curve
   pub years : AreYears book.first_year book.years
 
--- a span of a book's years
+-- a span in the file's years
 pub record IsOf (book : Book) (s : Span) : Type 0 where
   pub forward : s.begin ≤ℤ s.end
   pub begins : InDomain book.first_year book.years s.begin
@@ -111,7 +111,7 @@ followed_alike version book site found mark s same of =
           (λ level. mark_agrees version book site.station s.begin s.end found.curve site.basis.high.times site.basis.high.plus level false s.begin (minutes_in s) same.predicts same.years of.begins ends from until);
     })
 
--- ---- the curves are known over the span
+-- ---- the curves are valid over the span
 
 pub mark_scale : (basis : Basis) (level : ℤ) → HasOffsets basis → unsigned_abs level ≤ 10000000000 → IsScale basis.high.times basis.high.plus level
 mark_scale basis level has small =
@@ -140,7 +140,7 @@ pub slack_scale : (slack : Option Slack) (basis : Basis) → basis.slack ≡ sla
 slack_scale (Some slack) basis is has = rw is usual_scale
 slack_scale None basis is has = rw is (mark_scale basis (pos 0) has (omega arith))
 
--- what is asked for, or marked, has what each has
+-- a fact that holds of each curve holds of one that may not be followed
 pub for_asked : (P : Meaning → Type 0) (asks : Bool) (c : Meaning) → P c → ForSome (if_asked asks c) P
 for_asked P true c has = for_some P c has
 for_asked P false c has = for_none P
@@ -177,7 +177,7 @@ slack_named Meters basis c named = for_none (IsNamed Meters)
 slack_named Knots basis c named = for_asked (IsNamed Knots) (asks_slack Knots basis) c named
 slack_named KnotsSquared basis c named = for_none (IsNamed KnotsSquared)
 
--- turns and marks of each unit of levels
+-- the kinds of turns and marks have words in each unit of levels
 plain_word : (units : Units) → HasLevels units → (has_word units High ≡ true) × (has_word units Low ≡ true) × (has_word units MarkRising ≡ true) × (has_word units MarkFalling ≡ true)
 plain_word Feet levels = (refl, refl, refl, refl)
 plain_word Meters levels = (refl, refl, refl, refl)
@@ -194,7 +194,7 @@ followed_named version found mark levels =
       mark = for_marked (IsNamed found.units) mark _ (λ level is. record { rising = words.2; falling = words.3 });
     }
 
--- ---- the events over the minutes that are looked at
+-- ---- the events over the minutes that are evaluated
 
 pub ready_minutes : (asked : Asked) (found : SiteTide) → IsReady asked found → HasMinutes found.curve (widened_of found.basis asked.begin asked.end)
 ready_minutes asked found ready = record { years = ready.years; forward = ready.near.forward; begins = ready.begins; ends = ready.ends }
@@ -245,7 +245,7 @@ plain_is_whole asked found events ready merged plain =
 
 -- ---- the searches of all curves
 
--- the cells that they have left are those of the curves
+-- the cells that the searches have left are those of the curves
 pub tracks_are : (asked : Asked) (found : SiteTide) (turn : List Cell) (slack mark : Option (List Cell)) → turn ≡ (covers_of (followed_tide Second found asked.mark) (widened_of found.basis asked.begin asked.end)).turn → slack ≡ (covers_of (followed_tide Second found asked.mark) (widened_of found.basis asked.begin asked.end)).slack → mark ≡ (covers_of (followed_tide Second found asked.mark) (widened_of found.basis asked.begin asked.end)).mark → record { turn = turn; slack = slack; mark = mark } ≡ covers_of (followed_tide Second found asked.mark) (widened_of found.basis asked.begin asked.end)
 tracks_are asked found turn slack mark t s m = rw (t, s, m) refl
 
@@ -289,7 +289,7 @@ tide_lines asked found ready =
     (events-lie (followed_tide Second found asked.mark) found.basis asked.begin asked.end)
     (events-named found.units (followed_tide Second found asked.mark) found.basis asked.begin asked.end (followed_named Second found asked.mark ready.levels))
 
--- ---- and are those of the site
+-- ---- the events are those of the station
 
 same_site : (book : Book) (asked : Asked) (site : Site) (found : SiteTide) → IsFound Events book asked site found → IsSame book site found (widened_of found.basis asked.begin asked.end)
 same_site book asked site found is = record { basis = is.basis; units = is.units; predicts = is.predicts; years = is.years }
@@ -311,7 +311,7 @@ unfolding cells_of
 found_cells book asked site found is =
     rw (count-agrees (followed_tide Second found asked.mark) (followed_by Second book site asked.mark) (widened_of found.basis asked.begin asked.end) (found_alike Second book asked site found asked.mark is), is.basis) refl
 
--- ---- and so are the covers of its curves
+-- ---- the cells are those of the station's curves
 
 cover_if_alike : (s : Span) (c d : Option Meaning) → AgreeIfFollowed s c d → option_map (cover_over s) c ≡ option_map (cover_over s) d
 cover_if_alike s None None agree = refl

@@ -1,4 +1,4 @@
--- What the steps of a station's span come to.
+-- The results of the steps of a station's span.
 use Rattle.std.proofs.Common.{◌≡◌, ℕ, Bool, true, false, List, [], Option, Some, None, ℤ, Result, Ok, Err, slice_get, refl, arith}
 use Rattle.decimal_text.specs.Expected.{◌>>=◌, Excused}
 use Rattle.harmonics_text.specs.declared.book.Book.{Book}
@@ -23,7 +23,7 @@ pub excused_then : {A B : Type 0} (memory : Bool) (step : Result A Refusal) (nex
 excused_then true step next refusal excused = tt
 excused_then false step next refusal excused = rw excused refl
 
--- ---- the curve for some minutes is refused where that for all is
+-- ---- the curve for some minutes is refused if that for all is
 
 both_ok : (over whole same : Tide) (fault : Option CurveFault) → tide_from (tide_or over fault) ≡ Ok same → tide_from (tide_or whole fault) ≡ Ok whole
 both_ok over whole same None ok = refl
@@ -38,7 +38,7 @@ over_ok false book station first last tide is ok =
 pub curve_allowed : (book : Book) (station : Station) (first last : ℤ) (tide : Tide) → tide_from (curve_over book station first last) ≡ Ok tide → tide_from (curve_of book station) ≡ Ok (tide_of book station)
 curve_allowed book station first last tide ok = over_ok _ book station first last tide refl ok
 
--- and it is of these minutes alone
+-- the curve for some minutes predicts these alone
 over_only : (hydraulic : Bool) (fault : Option CurveFault) (book : Book) (station : Station) (first last : ℤ) (tide : Tide) → is_hydraulic station.units ≡ hydraulic → first_fault book station book.years ≡ fault → tide_from (curve_over book station first last) ≡ Ok tide → tide ≡ tide_over book station first last
 unfolding curve_over
 over_only true fault book station first last tide is found ok = absurd (let none = rw is at ok in cc)
@@ -62,39 +62,39 @@ pub curve_excused : (memory : Bool) (book : Book) (station : Station) (first las
 curve_excused true book station first last refusal excused = tt
 curve_excused false book station first last refusal excused = over_refused _ book station first last refusal refl excused
 
--- ---- the steps behind the curve
+-- ---- the steps after the curve
 
--- those that a site has gone through when its curve is made
+-- the steps of a station up to its curve
 pub record HasCurve (reach : Reach) (book : Book) (site : Site) (asked : Asked) (units : Units) (tide : Tide) : Type 0 where
   pub unit : level_unit site.station.units ≡ Ok units
   pub span : span_in reach book site.basis asked.begin asked.end ≡ Ok tt
   pub curve : tide_from (curve_of book site.station) ≡ Ok tide
 
--- where the span is refused
+-- the span is refused
 pub refused_span : (memory : Bool) (reach : Reach) (book : Book) (site : Site) (asked : Asked) (units : Units) (refusal : Refusal) → level_unit site.station.units ≡ Ok units → Excused memory (span_in reach book site.basis asked.begin asked.end) refusal → Excused memory (site_at reach book site asked) refusal
 unfolding site_at
 refused_span memory reach book site asked units refusal unit excused =
     rw unit (excused_then memory (span_in reach book site.basis asked.begin asked.end) _ refusal excused)
 
--- where the tide is
+-- the tide is refused
 pub refused_curve : (memory : Bool) (reach : Reach) (book : Book) (site : Site) (asked : Asked) (units : Units) (refusal : Refusal) → level_unit site.station.units ≡ Ok units → span_in reach book site.basis asked.begin asked.end ≡ Ok tt → Excused memory (tide_from (curve_of book site.station)) refusal → Excused memory (site_at reach book site asked) refusal
 unfolding site_at
 refused_curve memory reach book site asked units refusal unit span excused =
     rw (unit, span) (excused_then memory (tide_from (curve_of book site.station)) _ refusal excused)
 
--- where the span's length is
+-- the span's length is refused
 pub refused_length : (memory : Bool) (reach : Reach) (book : Book) (site : Site) (asked : Asked) (units : Units) (tide : Tide) (refusal : Refusal) → HasCurve reach book site asked units tide → Excused memory (length_in asked.begin asked.end) refusal → Excused memory (site_at reach book site asked) refusal
 unfolding site_at
 refused_length memory reach book site asked units tide refusal has excused =
     rw (has.unit, has.span, has.curve) (excused_then memory (length_in asked.begin asked.end) _ refusal excused)
 
--- where the mark is
+-- the mark is refused
 pub refused_mark : (memory : Bool) (reach : Reach) (book : Book) (site : Site) (asked : Asked) (units : Units) (tide : Tide) (refusal : Refusal) → HasCurve reach book site asked units tide → length_in asked.begin asked.end ≡ Ok tt → Excused memory (mark_in site.basis asked.mark) refusal → Excused memory (site_at reach book site asked) refusal
 unfolding site_at
 refused_mark memory reach book site asked units tide refusal has few excused =
     rw (has.unit, has.span, has.curve, few) (excused_then memory (mark_in site.basis asked.mark) _ refusal excused)
 
--- where nothing is
+-- nothing is refused
 pub found_whole : (reach : Reach) (book : Book) (site : Site) (asked : Asked) (units : Units) (tide : Tide) → HasCurve reach book site asked units tide → length_in asked.begin asked.end ≡ Ok tt → mark_in site.basis asked.mark ≡ Ok tt → site_at reach book site asked ≡ Ok site
 unfolding site_at
 found_whole reach book site asked units tide has few mark = rw (has.unit, has.span, has.curve, few, mark) refl
@@ -112,7 +112,7 @@ found_by reach book table name asked basis station from is = rw (from, is) refl
 pub finds_by : (reach : Reach) (book : Book) (table : List Offsets) (name : List ℕ) (asked : Asked) (basis : Basis) (station : Station) (result : Result Found Refusal) → basis_from (basis_of book table name) ≡ Ok basis → slice_get book.stations basis.station ≡ Some station → FindsIn reach book asked (site_at reach book (record { basis = basis; station = station }) asked) result → FindsIn reach book asked (site_in reach book table name asked) result
 finds_by reach book table name asked basis station result from is finds = rw (found_by reach book table name asked basis station from is) finds
 
--- where the name is refused
+-- the name is refused
 pub excused_by : {A : Type 0} (memory : Bool) (expected : Result A Refusal) (refusal : Refusal) → expected ≡ Err refusal → Excused memory expected refusal
 excused_by true expected refusal e = tt
 excused_by false expected refusal e = e
@@ -121,7 +121,7 @@ pub refused_name : (memory : Bool) (reach : Reach) (book : Book) (table : List O
 unfolding site_in
 refused_name memory reach book table name asked refusal from = excused_by memory _ refusal (rw from refl)
 
--- what is told of no table is told of any
+-- a refusal whose line can be printed without a table can be printed with any
 pub told_any : (rows : List Offsets) (refusal : Refusal) → IsToldRefusal [] refusal → IsToldRefusal rows refusal
 told_any rows (NoReference place) told = absurd (omega (arith, told))
 told_any rows (OutOfYears first last) told = told

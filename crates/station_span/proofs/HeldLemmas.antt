@@ -1,4 +1,4 @@
--- What a station that was found says, in the words of the definitions.
+-- The facts of a station that was found, by the definitions.
 use Rattle.std.proofs.Common.{◌≡◌, ◌<◌, ◌^◌, ℤ, pos, ◌-ℤ◌, ◌≤ℤ◌, ◌<ℤ◌, unsigned_abs, IsTrue, List, All, Option, refl, sym, subst, ap, ◌∙◌, arith}
 use Rattle.std.proofs.lemmas.Int.{ints}
 use Rattle.curve_law.specs.declared.cell.Cell.{Cell}
@@ -33,7 +33,7 @@ use Rattle.station_span.specs.Workings.Peaks.{HasHighest, IsSourceIn, tide_level
 
 -- ---- events
 
--- where events are looked for
+-- a station that was found for a purpose
 pub found_for : (f : Found) (reach : Reach) → f.reach ≡ reach → IsFound reach f.origin.book f.asked (site_of f) (tide_of_found f)
 found_for f reach is = subst (λ r. IsFound r f.origin.book f.asked (site_of f) (tide_of_found f)) is f.sound
 
@@ -46,7 +46,7 @@ ready_for f is = ready_of_found f.origin.book f.asked (site_of f) (tide_of_found
 pub minutes_for : (f : Found) → f.reach ≡ Events → HasMinutes f.curve f.span
 minutes_for f is = rw (span_for f Events is) (ready_minutes f.asked (tide_of_found f) (ready_for f is))
 
--- the site's tracks are the covers of its curves
+-- the tracks of the station are the cells of its curves
 pub tracks_tide : (f : Found) → f.reach ≡ Events → tracks_of f.origin.book (site_of f) f.asked ≡ covers_of (followed_tide Second (tide_of_found f) f.asked.mark) (widened_of f.basis f.asked.begin f.asked.end)
 tracks_tide f is = sym (tracks_alike f.origin.book f.asked (site_of f) (tide_of_found f) _ (found_for f Events is) refl)
 
@@ -85,7 +85,7 @@ plain_for f events is references plain =
     plain_is_whole f.asked (tide_of_found f) events (ready_for f is) (merged_for f events is references) plain
     ∙ found_events f.origin.book f.asked (site_of f) (tide_of_found f) (found_for f Events is)
 
--- the cells of its searches are the site's tracks
+-- the cells of its searches are the station's tracks
 pub tracks_are : (f : Found) (turn : List Cell) (slack mark : Option (List Cell)) → turn ≡ (tracks_of f.origin.book (site_of f) f.asked).turn → slack ≡ (tracks_of f.origin.book (site_of f) f.asked).slack → mark ≡ (tracks_of f.origin.book (site_of f) f.asked).mark → record { turn = turn; slack = slack; mark = mark } ≡ tracks_of f.origin.book (site_of f) f.asked
 tracks_are f turn slack mark t s m = rw (t, s, m) refl
 
@@ -140,7 +140,7 @@ pub rising_for : (f : Found) (minute : ℤ) → IsLooked f minute → is_tide_ri
 rising_for f minute looked =
     site_rising f.origin.book (site_of f) (tide_of_found f) f.span.begin f.span.end minute refl (predicted_for f minute looked) (looked_level f minute looked)
 
--- where events are looked for, that of the first minute
+-- the first minute has a level, if the station was found for events
 pub first_looked : (f : Found) → f.reach ≡ Events → IsLooked f f.asked.begin
 first_looked f is =
     let adds = within_adds f.basis in
@@ -151,7 +151,7 @@ first_looked f is =
     let ends : f.span.end ≡ (widened_of f.basis f.asked.begin f.asked.end).end = ap (λ (s : Span). s.end) (span_for f Events is) in
     record { from = omega (arith, ints); until = omega (arith, ints) }
 
--- where levels are, those of the whole span
+-- all minutes of the span have a level, if the station was found for levels
 moved_looked : (f : Found) → f.span ≡ moved f.basis f.asked.begin f.asked.end → IsTrue (is_equal f.basis) → AreLooked f
 moved_looked f is equal minute from until =
     let begins : f.span.begin ≡ f.asked.begin -ℤ f.basis.high.add = ap (λ (s : Span). s.begin) (rw equal at is) in
@@ -177,7 +177,7 @@ pub verdict_for : (f : Found) (peak : Peak) → HasPeak f → tide_verdict (tide
 verdict_for f peak has =
     verdict_alike f.origin.book f.asked (site_of f) (tide_of_found f) peak (found_for f Highest has.reach) has.equal (highest_for f has)
 
--- the minutes that are looked at
+-- the minutes of the reference that are evaluated
 pub peak_begins : (f : Found) → HasPeak f → f.span.begin ≡ source_of (tide_of_found f) f.asked.begin
 peak_begins f has = ap (λ (s : Span). s.begin) (rw has.equal at (span_for f Highest has.reach))
 

@@ -1,4 +1,4 @@
--- What is known of the levels of a site.
+-- The levels of a station.
 use Rattle.std.proofs.Common.{◌≡◌, ◌∷◌, ℕ, suc, ◌+◌, ◌*◌, ◌^◌, ◌<◌, ◌≤◌, ℤ, pos, negsuc, ◌-ℤ◌, ◌*ℤ◌, ◌≤ℤ◌, unsigned_abs, length, Ok, refl, sym, lit<, arith}
 use Rattle.std.specs.Prelude.{IsTrue}
 use Rattle.std.proofs.Math.Nat.{div-mul-le_self, mul-le-mul_right}
@@ -41,7 +41,7 @@ zone_minute found minute has =
 pub near_minute : (found : SiteTide) (minute : ℤ) → HasLevel found minute → unsigned_abs minute ≤ 20000000000
 near_minute found minute has = let in_years = zone_minute found minute has in omega (arith, ints)
 
--- the minutes between two such
+-- a minute between two minutes with a level has one
 pub between : (found : SiteTide) (asked : Asked) (minute : ℤ) → HasLevelsIn found asked → asked.begin ≤ℤ minute → minute ≤ℤ asked.end → HasLevel found minute
 between found asked minute has after before =
     let least = has.first.inside.least in
@@ -52,7 +52,7 @@ between found asked minute has after before =
       inside = record { least = omega (arith, ints); most = omega (arith, ints) };
     }
 
--- ---- what was found of a site
+-- ---- a station that was found
 
 pub tide_years : (book : Book) (found : SiteTide) → found.curve.first_year ≡ book.first_year → length found.curve.years ≡ book.years → AreYears book.first_year book.years → AreYears found.curve.first_year (length found.curve.years)
 tide_years book found first count are = rw (first, count) are
@@ -63,7 +63,7 @@ in_tide book found minute first count inside = rw (first, count) inside
 pub in_book : (book : Book) (found : SiteTide) (minute : ℤ) → found.curve.first_year ≡ book.first_year → length found.curve.years ≡ book.years → InTide found.curve minute → InDomain book.first_year book.years minute
 in_book book found minute first count inside = rw (sym first, sym count) inside
 
--- where levels are asked, the span's
+-- the span has levels, if the station was found for levels
 pub found_levels : (book : Book) (asked : Asked) (site : Site) (found : SiteTide) → IsFound Levels book asked site found → IsTrue (is_equal found.basis) → HasLevelsIn found asked
 found_levels book asked site found is equal =
     let begins = rw equal at is.span.begins in
@@ -75,20 +75,20 @@ found_levels book asked site found is equal =
       last = record { offset = is.sound.high; years = years; inside = in_tide book found _ is.predicts.first_year is.predicts.years ends };
     }
 
--- where events are, that of the span's first minute
+-- the span's first minute has a level, if the station was found for events
 pub within_adds : (basis : Basis) → (least_add basis ≤ℤ basis.high.add) × (basis.high.add ≤ℤ greatest_add basis)
 within_adds basis = (
   (fold-int_min_bounds basis.high.add (basis.low.add ∷ slack_adds basis.slack) _ refl).0,
   (fold-int_max_bounds basis.high.add (basis.low.add ∷ slack_adds basis.slack) _ refl).0,
 )
 
--- where levels aren't refused, all offsets are the same
+-- highs and lows have the same offsets, if levels aren't refused
 pub level_equal : (basis : Basis) → level_in basis ≡ Ok tt → IsTrue (is_equal basis)
 level_equal basis ok = by_test (is_equal basis)
     (λ equal. rw equal refl)
     (λ other. absurd (let none = rw other at ok in cc))
 
--- ---- the levels by every constituent of the book
+-- ---- the levels by every constituent of the harmonics file
 
 -- a minute of the reference that its curve predicts
 pub record IsPredicted (book : Book) (site : Site) (found : SiteTide) (first last minute : ℤ) : Type 0 where
@@ -106,11 +106,11 @@ site_rising book site found first last minute basis is has =
     let inside = in_book book found _ is.predicts.first_year is.predicts.years has.inside in
     rw (is.predicts.slope (source_of found minute) inside is.from is.until, basis) refl
 
--- where levels are asked, each minute of the span
+-- each minute of the span is one, if the station was found for levels
 pub predicts_sources : (reach : Reach) (book : Book) (asked : Asked) (site : Site) (found : SiteTide) → reached reach found.basis asked.begin asked.end ≡ moved found.basis asked.begin asked.end → IsTrue (is_equal found.basis) → PredictsReached reach book asked site found → PredictsOver book site.station (source_of found asked.begin) (source_of found asked.end) found.curve
 predicts_sources reach book asked site found is equal predicts = rw (is, equal) at predicts
 
--- ---- a level of the reference that isn't lower is moved to one that isn't
+-- ---- the order of the reference's levels is kept by the offset
 
 half_order : (m n unit : ℕ) → 0 < unit → m ≤ n → half_up m unit ≤ half_up n unit
 half_order m n unit some less =

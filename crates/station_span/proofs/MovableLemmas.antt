@@ -1,4 +1,4 @@
--- The reference's events can be moved: their minutes and levels are small.
+-- The reference's events can be moved: their minutes and levels are in range.
 use Rattle.std.proofs.Common.{◌≡◌, ℕ, zero, suc, ◌*◌, ◌^◌, ◌<◌, ◌≤◌, ℤ, pos, negsuc, ◌+ℤ◌, unsigned_abs, Bool, true, false, cond, List, [], ◌∷◌, Option, Some, None, All, refl, arith, lit<}
 use Rattle.std.specs.Prelude.{flat_map, option_to_list}
 use Rattle.std.specs.Option.{ForSome}
@@ -46,7 +46,7 @@ millionths_small tide m gentle inside =
 
 -- ---- the events of one curve
 
--- its levels are those of a station
+-- a curve whose levels are those of a station
 abbrev pub HasSmallNotes : Meaning → Type 0
 HasSmallNotes c = (m : ℤ) → IsMinute c m → unsigned_abs (c.track.note m) ≤ 11000000000
 
@@ -84,7 +84,7 @@ movable_turns : (c : Meaning) (s : Span) (cells : List Cell) → IsNearSpan s �
 movable_turns c s cells near notes known accepted =
     rw (verdict-exact c s.begin (minutes_in s) cells known.lawful known.span accepted) (movable_list c s near notes known.span)
 
--- ---- and of all of them
+-- ---- the events of all curves
 
 pub record AreSmall (f : Followed) : Type 0 where
   pub turn : HasSmallNotes f.turn

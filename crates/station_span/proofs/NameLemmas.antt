@@ -25,7 +25,7 @@ use Rattle.station_span.specs.declared.reach.Reach.{Reach}
 use Rattle.tide_fault.specs.declared.refusal.Refusal.{Refusal}
 use Rattle.station_span.specs.Sites.{Site, basis_from, site_in}
 
--- ---- the names of a book and of a table
+-- ---- the names of a harmonics file and of a table
 
 -- a byte of a name in a certificate
 abbrev IsPrinted : ℕ → Type 0
@@ -128,7 +128,7 @@ rows_named (o ∷ rows) all =
     (row_name o.name (All-head IsOffsets o rows all).name)
     (rows_named rows (All-tail IsOffsets o rows all))
 
--- ---- a name with a site
+-- ---- the name of a station that was found
 
 of_row : (book : Book) (table : List Offsets) (name : List ℕ) (basis : Basis) (place : Option ℕ) → IsTable table → row_at table name ≡ place → basis_in book table name ≡ Ok basis → IsStationName name
 unfolding basis_in

@@ -1,4 +1,4 @@
--- What was found of a station whose span has a highest water.
+-- A station that was found for a highest water.
 use Rattle.std.proofs.Common.{◌≡◌, ℕ, ℤ, pos, ◌+ℤ◌, ◌-ℤ◌, ◌≤ℤ◌, ◌<ℤ◌, ◌≤◌, unsigned_abs, length, Bool, true, false, List, None, Ok, Err, refl, subst, ap, ◌∙◌, arith}
 use Rattle.std.specs.Bool.{IsTrue}
 use Rattle.std.proofs.lemmas.Int.{ints}
@@ -40,7 +40,7 @@ use Rattle.station_span.proofs.LevelLemmas.{between, found_levels, in_book, leve
 use Rattle.station_span.proofs.SiteLemmas.{found_at, site_minutes, site_unmarked, then_ok}
 use Rattle.station_span.proofs.SpanLemmas.{moment}
 
--- ---- it has levels
+-- ---- its levels
 
 never_lacking : (begin end : ℤ) → lacks_minute Levels begin end ≡ false
 unfolding lacks_minute
@@ -79,7 +79,7 @@ has_highest book asked site found is equal = record {
   few = is.few;
 }
 
--- ---- its curve says the same as by every constituent
+-- ---- its curve agrees with the curve of every constituent
 
 last_source : (begin end add : ℤ) → begin ≤ℤ end → (begin -ℤ add) +ℤ pos (unsigned_abs (end -ℤ begin)) ≡ end -ℤ add
 last_source begin end add forward = omega (arith, ints)
@@ -115,7 +115,7 @@ near_source found asked at has inside =
 pub source_inside : (found : SiteTide) (asked : Asked) (at : ℤ) → source_of found asked.begin ≤ℤ at → at <ℤ source_of found asked.end → IsSourceIn found asked at
 source_inside found asked at from before = record { from = omega (arith, ints); before = omega (arith, ints) }
 
--- ---- what was found is what is expected
+-- ---- the highest water that is found is the expected one
 
 pub peak_alike : (book : Book) (asked : Asked) (site : Site) (found : SiteTide) → IsFound Highest book asked site found → IsTrue (is_equal found.basis) → HasHighest found asked → tide_peak found asked ≡ highest_of book site asked
 unfolding tide_peak highest_of
@@ -149,7 +149,7 @@ pub tide_peak-is : (found : SiteTide) (asked : Asked) (c : Meaning) (b e : ℤ) 
 unfolding tide_peak
 tide_peak-is found asked c b e levels first last = rw (levels, first, last) refl
 
--- ---- what is accepted by the tide
+-- ---- a highest water that the tide accepts
 
 levels_lawful : (found : SiteTide) → IsGentle found.curve → IsLawful (tide_levels found)
 levels_lawful found gentle = mark_lawful Second found.curve (pos 1000000) (pos 0) (pos 0) true gentle usual_scale
@@ -157,7 +157,7 @@ levels_lawful found gentle = mark_lawful Second found.curve (pos 1000000) (pos 0
 source_end : (begin end add : ℤ) → begin ≤ℤ end → (begin -ℤ add) +ℤ pos (unsigned_abs ((end -ℤ add) -ℤ (begin -ℤ add))) ≡ end -ℤ add
 source_end begin end add forward = omega (arith, ints)
 
--- it is the highest water
+-- an accepted highest water is the highest water
 pub tide_highest : (found : SiteTide) (asked : Asked) (peak : Peak) → IsGentle found.curve → HasHighest found asked → tide_verdict found asked peak ≡ Accepted → IsHighest (tide_levels found) (source_of found asked.begin) (source_of found asked.end) peak.at peak.value
 unfolding tide_verdict
 tide_highest found asked peak gentle has ok =
@@ -166,7 +166,7 @@ tide_highest found asked peak gentle has ok =
     record { first = has.levels.first.inside.least; last = rw all has.levels.last.inside.most } in
     rw all at (verdict-highest (tide_levels found) (source_of found asked.begin) (source_count found asked) peak (levels_lawful found gentle) span ok)
 
--- a certificate of it has a text
+-- a certificate of an accepted highest water has a text
 pub accepted_certificate : (name : List ℕ) (asked : Asked) (found : SiteTide) (peak : Peak) → IsStationName name → AreMoments asked → IsGentle found.curve → HasHighest found asked → tide_verdict found asked peak ≡ Accepted → IsPeakCertificate (record { station = name; begin = asked.begin; end = asked.end; peak = peak })
 unfolding tide_verdict
 accepted_certificate name asked found peak named moments gentle has ok =
@@ -185,14 +185,14 @@ accepted_certificate name asked found peak named moments gentle has ok =
       cells = (verdict-cells (tide_levels found) (source_of found asked.begin) (source_count found asked) peak ok).1;
     }
 
--- the one that is found is accepted
+-- the highest water that is found is accepted
 pub tide_peak_accepted : (found : SiteTide) (asked : Asked) → HasHighest found asked → tide_verdict found asked (tide_peak found asked) ≡ Accepted
 unfolding tide_verdict tide_peak
 tide_peak_accepted found asked has =
     let some = has.some in
     peak_of-accepted (tide_levels found) (source_of found asked.begin) (source_count found asked) (omega (arith, ints))
 
--- ---- a site with a highest water
+-- ---- a station with a highest water
 
 pub highest_parts : (book : Book) (table : List Offsets) (name : List ℕ) (asked : Asked) (site : Site) → highest_site book table name asked ≡ Ok site → (site_in Highest book table name asked ≡ Ok site) × IsTrue (is_equal site.basis)
 unfolding highest_site
@@ -205,7 +205,7 @@ highest_parts book table name asked site ok =
 equal_level : (basis : Basis) → IsTrue (is_equal basis) → level_in basis ≡ Ok tt
 equal_level basis equal = rw equal refl
 
--- a mark asks nothing of it
+-- the station is found also without a mark
 pub highest_unmarked : (book : Book) (table : List Offsets) (name : List ℕ) (asked : Asked) (site : Site) → highest_site book table name asked ≡ Ok site → highest_site book table name (record asked { mark = None }) ≡ Ok site
 unfolding highest_site
 highest_unmarked book table name asked site ok =
@@ -216,7 +216,8 @@ pub highest_minutes : (book : Book) (table : List Offsets) (name : List ℕ) (as
 highest_minutes book table name asked site ok =
     some_minute asked.begin asked.end (site_minutes Highest book table name asked site (highest_parts book table name asked site ok).0)
 
--- a minute and its value are the highest water of the reference's minutes that are moved into the span
+-- a minute and its value are the highest water of the reference's minutes that the offset moves into the
+-- span
 abbrev pub IsHighestAt : Book → Site → Asked → ℤ → ℤ → Type 0
 IsHighestAt book site asked at value =
     IsHighest (level_curve book site) (first_source site asked) (first_source site asked +ℤ pos (minute_count asked)) at value

@@ -1,4 +1,4 @@
--- A site that was found has a tide that predicts it.
+-- A station that was found has a tide that predicts it.
 use Rattle.std.proofs.Common.{◌≡◌, ℕ, zero, suc, ◌<◌, ◌≤◌, nat_lt, ℤ, pos, negsuc, ◌-ℤ◌, ◌≤ℤ◌, int_lt, unsigned_abs, Bool, true, false, IsTrue, List, [], ◌∷◌, length, Option, Some, None, Result, Ok, Err, All, slice_get, fold, refl, subst, ◌∙◌, arith}
 use Rattle.std.specs.Int.{int_max, int_min}
 use Rattle.std.specs.List.{position, position_or_len}
@@ -36,7 +36,7 @@ use Rattle.station_span.specs.Workings.Spans.{HasLevels, IsBeside, IsFound, IsNe
 use Rattle.station_span.proofs.FoundLemmas.{HasCurve, found_by, found_whole}
 use Rattle.station_span.proofs.SpanLemmas.{book_years, has_offsets, reached_span}
 
--- ---- what the steps of a site came to
+-- ---- the results of a station's steps
 
 pub then_ok : {A B E : Type 0} (step : Result A E) (next : A → Result B E) (b : B) → (step >>= next) ≡ Ok b → (a : A) × (step ≡ Ok a) × (next a ≡ Ok b)
 then_ok (Ok a) next b ok = (a, refl, ok)
@@ -125,7 +125,7 @@ span_tests reach book basis begin end ok = by_test (int_lt end begin)
     (λ inside. (forward, some, inside))
     (λ outside. absurd (let none = rw (forward, some, outside) at ok in cc))))
 
--- ---- the basis
+-- ---- the offsets
 
 placed : {T : Type 0} (test : T → Bool) (xs : List T) (place : ℕ) → position test xs ≡ Some place → place < length xs
 placed test xs place is = by_test (nat_lt (position_or_len test xs) (length xs))
@@ -189,7 +189,7 @@ unfolding basis_of
 basis_sound book table name basis is ok =
     of_sound book table name basis (station_at book name) is refl (basis_ok _ basis ok)
 
--- ---- the minutes that are looked at
+-- ---- the minutes that are evaluated
 
 record AreAdds (low high : ℤ) : Type 0 where
   pub least : negsuc 1439 ≤ℤ low
@@ -240,7 +240,7 @@ span_reached reach book basis asked has near ok =
     let both = reached_near reach basis asked.begin asked.end forward near.begin near.end has in
     reached_span reach book basis asked.begin asked.end tests.0 tests.1 tests.2 both.0 both.1
 
--- ---- a site that was found has a tide that predicts it
+-- ---- a station that was found has a tide that predicts it
 
 abbrev pub found_at : Book → Site → SiteTide
 found_at book site = record { basis = site.basis; units = site.station.units; curve = tide_of book site.station }
@@ -265,20 +265,20 @@ found_of_site reach book table name asked site is rows near ok =
       near = near;
     }
 
--- ---- what any site that was found says
+-- ---- the facts of any station that was found
 
--- its span has the minutes that are needed
+-- the span of a station that was found has the minutes that are needed
 pub site_minutes : (reach : Reach) (book : Book) (table : List Offsets) (name : List ℕ) (asked : Asked) (site : Site) → site_in reach book table name asked ≡ Ok site → lacks_minute reach asked.begin asked.end ≡ false
 site_minutes reach book table name asked site ok =
     let was = was_found reach book table name asked site ok in
     (span_tests reach book site.basis asked.begin asked.end was.steps.curve.span).1
 
--- its offsets lie in the ranges of a table
+-- the offsets of a station that was found are in the ranges of a table
 pub site_basis : (reach : Reach) (book : Book) (table : List Offsets) (name : List ℕ) (asked : Asked) (site : Site) → IsTable table → site_in reach book table name asked ≡ Ok site → IsBasis (length book.stations) site.basis
 site_basis reach book table name asked site rows ok =
     basis_sound book table name site.basis rows (was_found reach book table name asked site ok).basis
 
--- it is found where no mark is asked too
+-- a station that was found is found also without a mark
 pub site_unmarked : (reach : Reach) (book : Book) (table : List Offsets) (name : List ℕ) (asked : Asked) (site : Site) → site_in reach book table name asked ≡ Ok site → site_in reach book table name (record asked { mark = None }) ≡ Ok site
 site_unmarked reach book table name asked site ok =
     let was = was_found reach book table name asked site ok in

@@ -1,4 +1,4 @@
--- Where the minutes of a span lie.
+-- The minutes of a span.
 use Rattle.std.proofs.Common.{◌≡◌, ℕ, ℤ, pos, ◌+ℤ◌, int_lt, Bool, true, false, ◌&&◌, refl, arith}
 use Rattle.std.proofs.lemmas.Int.{ints}
 use Rattle.event_list.specs.Shifts.{HasOffsets}
@@ -24,7 +24,7 @@ file_minute first_year years m are inside =
     let most = inside.most in
     record { least = omega (arith, ints); most = omega (arith, ints) }
 
--- what the tests of a span say
+-- the facts that the tests of a span decide
 in_domain : (book : Book) (minute : ℤ) → has_minute book minute ≡ true → InDomain book.first_year book.years minute
 in_domain book minute inside = record { least = grind (arith, ints); most = grind (arith, ints) }
 

@@ -1,4 +1,4 @@
--- The curves of a station tell the minutes of the reference that are looked at.
+-- The curves of a station are valid over the minutes of the reference that are evaluated.
 use Rattle.std.proofs.Common.{◌≡◌, ℕ, ℤ, Option, Some, None, option_map, refl, sym, ap, ◌∙◌}
 use Rattle.std.specs.Option.{ForSome}
 use Rattle.curve_law.specs.Meaning.{Meaning}

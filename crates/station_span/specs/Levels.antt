@@ -9,14 +9,14 @@ use Rattle.tide_fault.specs.declared.refusal.Refusal.{Refusal}
 use Rattle.tide_fault.specs.declared.refusal.Refusal.TheVariants.{LevelNotHere}
 use Rattle.station_span.specs.Sites.{Site}
 
--- a level is asked only where highs and lows have the same offsets
+-- a station has a level at each minute only if its highs and lows have the same offsets
 abbrev pub level_in : Basis → Result (Unit {0}) Refusal
 level_in basis = if is_equal basis then Ok tt else Err LevelNotHere
 
--- the station's level at a minute, from the reference's at the minute that is moved there
+-- the station's level at a minute: the reference's at the minute that the offset moves there, scaled
 abbrev pub level_at : Book → Site → ℤ → ℤ
 level_at book site minute = scaled site.basis.high (predicted_millionths book site.station (minute -ℤ site.basis.high.add))
 
--- and whether it rises there
+-- the station's level rises at a minute
 abbrev pub is_rising_at : Book → Site → ℤ → Bool
 is_rising_at book site minute = int_lt (pos 0) (predicted_slope book site.station (minute -ℤ site.basis.high.add))

@@ -1,4 +1,4 @@
--- The steps that every question about a station's span goes through, in the order of refusals (this project).
+-- The steps of every request about a station's span, in the order of refusals (this project).
 use Rattle.std.specs.Prelude.{ℕ, ℤ, pos, ◌+ℤ◌, ◌-ℤ◌, int_lt, int_le, Bool, true, false, ◌&&◌, if◌then◌else◌, List, Option, Some, None, Result, Ok, Err, slice_get}
 use Rattle.std.specs.Option.{ok_or}
 use Rattle.decimal_text.specs.Expected.{◌>>=◌}
@@ -23,60 +23,64 @@ use Rattle.tide_fault.specs.declared.refusal.Refusal.{Refusal}
 use Rattle.tide_fault.specs.declared.refusal.Refusal.TheVariants.{NoStation, Hydraulic, BackwardSpan, EmptySpan, OutOfYears, SpanTooLong, MarkNotHere}
 use Rattle.tide_fault.specs.Faults.{refusal_of_curve, refusal_of_find}
 
--- a station of a book, and the offsets from it
+-- a station of a harmonics file, and the offsets from it
 pub record Site : Type 0 where
   pub basis : Basis
   pub station : Station
 
--- the most minutes of a span
+-- the greatest number of minutes of a span
 abbrev pub span_limit : ℤ
 span_limit = pos 5270400
 
 -- ---- each step
 
--- the basis of a name
+-- the offsets of a name
 abbrev pub basis_from : Result Basis FindFault → Result Basis Refusal
 basis_from (Ok basis) = Ok basis
 basis_from (Err fault) = Err (refusal_of_find fault)
 
--- a unit of levels, or of a current's speed; a hydraulic current has no level
+-- a unit of levels or of a current's speed; a hydraulic current has no level
 abbrev pub level_unit : Units → Result Units Refusal
 level_unit Feet = Ok Feet
 level_unit Meters = Ok Meters
 level_unit Knots = Ok Knots
 level_unit KnotsSquared = Err Hydraulic
 
--- the minutes of the reference that are looked at: for events all that offsets can move into the span, and for levels,
--- where all have one offset, the span itself moved by it
+-- the minutes of the reference for levels: if highs and lows have one offset, the span moved by it;
+-- otherwise as for events
 abbrev pub moved : Basis → ℤ → ℤ → Span
 moved basis begin end =
     if is_equal basis then record { begin = begin -ℤ basis.high.add; end = end -ℤ basis.high.add }
     else widened_of basis begin end
 
+-- the minutes of the reference that a request needs: for events all that the offsets can move into the
+-- span, or those for levels
 abbrev pub reached : Reach → Basis → ℤ → ℤ → Span
 reached Events basis begin end = widened_of basis begin end
 reached Levels basis begin end = moved basis begin end
 reached Highest basis begin end = moved basis begin end
 
--- no minute has a highest level
+-- a purpose for which the span needs a minute: an empty span has no highest water
 abbrev pub needs_minute : Reach → Bool
 needs_minute Events = false
 needs_minute Levels = false
 needs_minute Highest = true
 
+-- the span has no minute and needs one
 unfoldable pub lacks_minute : Reach → ℤ → ℤ → Bool
 lacks_minute reach begin end = needs_minute reach && int_le end begin
 
--- whether a minute is one of the file's years, or the one after the last
+-- a minute is one of the file's years, or the one after their last
 abbrev pub has_minute : Book → ℤ → Bool
 has_minute book minute =
     int_le (year_start_of book.first_year) minute
     && int_le minute (year_start_of (book.first_year +ℤ pos book.years))
 
+-- the first minute of a span and the one after its last are such minutes
 abbrev pub has_span : Book → Span → Bool
 has_span book span = has_minute book span.begin && has_minute book span.end
 
--- a span that isn't backward, of which the file has the minutes that are looked at
+-- the step of the span: it isn't backward, and the file has the minutes of the reference that are needed
 unfoldable pub span_in : Reach → Book → Basis → ℤ → ℤ → Result (Unit {0}) Refusal
 span_in reach book basis begin end =
     if int_lt end begin then Err BackwardSpan
@@ -84,23 +88,24 @@ span_in reach book basis begin end =
     else if has_span book (reached reach basis begin end) then Ok tt
     else Err (OutOfYears (year_start_of book.first_year) (year_start_of (book.first_year +ℤ pos book.years)))
 
--- a tide within the limits
+-- the step of the bounds: the tide of the station
 abbrev pub tide_from : Result Tide CurveFault → Result Tide Refusal
 tide_from (Ok tide) = Ok tide
 tide_from (Err fault) = Err (refusal_of_curve fault)
 
--- a span that isn't too long
+-- the step of the length: at most 5,270,400 minutes
 unfoldable pub length_in : ℤ → ℤ → Result (Unit {0}) Refusal
 length_in begin end =
     if int_lt span_limit (end -ℤ begin) then Err (SpanTooLong (end -ℤ begin)) else Ok tt
 
--- a mark is asked only where highs and lows have the same offsets
+-- the step of the mark: a mark needs a level at each minute
 abbrev pub mark_in : Basis → Option ℤ → Result (Unit {0}) Refusal
 mark_in basis None = Ok tt
 mark_in basis (Some mark) = if is_equal basis then Ok tt else Err MarkNotHere
 
 -- ---- all of them
 
+-- the steps from the unit on
 unfoldable pub site_at : Reach → Book → Site → Asked → Result Site Refusal
 site_at reach book site asked = do
   units ← level_unit site.station.units
@@ -110,14 +115,14 @@ site_at reach book site asked = do
   mark ← mark_in site.basis asked.mark
   Ok site
 
--- the station of a name, where what is asked of it has an answer
+-- all steps: the station of a name, if a request about it has an answer, or the first refusal
 unfoldable pub site_in : Reach → Book → List Offsets → List ℕ → Asked → Result Site Refusal
 site_in reach book table name asked = do
   basis ← basis_from (basis_of book table name)
   station ← ok_or (slice_get book.stations basis.station) NoStation
   site_at reach book (record { basis = basis; station = station }) asked
 
--- the station of a name, where its reference has a curve
+-- the station of a name, if its reference has a curve, or the first refusal
 unfoldable pub station_in : Book → List Offsets → List ℕ → Result Site Refusal
 station_in book table name = do
   basis ← basis_from (basis_of book table name)

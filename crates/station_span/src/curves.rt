@@ -1,4 +1,4 @@
-//! The curves of a station, with the rates of a version.
+//! The curves of a station, with the rates of a certificate's version.
 
 ghost use Rattle.std.specs.Prelude.{◌≡◌, option_map};
 ghost use Rattle.std.specs.Option.{ForSome};
@@ -13,7 +13,7 @@ use harmonics_text::Units;
 use rate_bound::{MarkCurve, TurnCurve, Version};
 use station_table::Basis;
 
-/// High and low waters, or the greatest and least streams.
+/// Returns the curve of high and low waters, or of maximum floods and ebbs.
 pub fn turn_curve<'a>(found: &'a Found, version: Version) -> TurnCurve<'a>
     ensures meaning { ⟦<TurnCurve<'a> as Curve>⟧.meaning result ≡ turn_meaning version found.now.curve }
     ensures fresh { ⟦<TurnCurve<'a> as Curve>⟧.count result ≡ 0 }
@@ -21,7 +21,7 @@ pub fn turn_curve<'a>(found: &'a Found, version: Version) -> TurnCurve<'a>
     TurnCurve::new(&found.curve, version)
 }
 
-/// Where a current turns, if that is asked.
+/// Returns the curve of a current's slacks, if they are listed.
 pub fn slack_curve<'a>(found: &'a Found, version: Version) -> Option<MarkCurve<'a>>
     ensures meaning { option_map ⟦<MarkCurve<'a> as Curve>⟧.meaning result ≡ tide_slack version (tide_of_found found.now) }
     ensures fresh { ForSome result (λ curve. ⟦<MarkCurve<'a> as Curve>⟧.count curve ≡ 0) }
@@ -35,7 +35,7 @@ pub fn slack_curve<'a>(found: &'a Found, version: Version) -> Option<MarkCurve<'
     Some(MarkCurve::new(&found.curve, version, times, plus, 0, true))
 }
 
-/// Where the level passes the mark, if there is one.
+/// Returns the curve of the crossings of the mark, if there is one.
 pub fn mark_curve<'a>(found: &'a Found, version: Version) -> Option<MarkCurve<'a>>
     ensures meaning { option_map ⟦<MarkCurve<'a> as Curve>⟧.meaning result ≡ tide_mark version (tide_of_found found.now) found.now.asked.mark }
     ensures fresh { ForSome result (λ curve. ⟦<MarkCurve<'a> as Curve>⟧.count curve ≡ 0) }
@@ -49,7 +49,8 @@ pub fn mark_curve<'a>(found: &'a Found, version: Version) -> Option<MarkCurve<'a
     }
 }
 
-// Whether slack water is asked of a station.
+// Returns true if slacks are listed: those of a current whose slacks have offsets of their own, or
+// whose highs and lows have the same offsets.
 fn asks_slack(units: Units, basis: &Basis) -> bool
     ensures { result ≡ asks_slack units basis.now }
 {
@@ -59,7 +60,7 @@ fn asks_slack(units: Units, basis: &Basis) -> bool
     }
 }
 
-// What a slack's level is of the reference's, in millionths.
+// Returns the factor from the reference's level to a slack's, in millionths.
 fn slack_times(basis: &Basis) -> i64
     ensures { result ≡ slack_times basis.now }
 {
@@ -70,7 +71,7 @@ fn slack_times(basis: &Basis) -> i64
     }
 }
 
-// What is added to it.
+// Returns the millionths of the unit that are added to the scaled level of a slack.
 fn slack_plus(basis: &Basis) -> i64
     ensures { result ≡ slack_plus basis.now }
 {

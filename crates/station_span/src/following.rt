@@ -28,8 +28,8 @@ use station_table::OffsetTable;
 use std::alloc::{AllocError, Global};
 use tide_fault::Refusal;
 
-/// The events of a station over a span, in its reference's unit, and how many cells its curves were cut
-/// into to find them.
+/// The events of a station over a span, the unit of their levels, which is the reference's, and the
+/// number of cells in which they were found.
 #[derive(Debug, Drop)]
 pub struct FoundEvents {
     pub units: Units,
@@ -37,7 +37,12 @@ pub struct FoundEvents {
     pub cells: u64,
 }
 
-/// The events of a station of that name over the span that is requested, or the first refusal.
+/// Returns the events of the station `name` over the span of `asked`. `book` holds the harmonic
+/// constants and `table` the subordinate stations. The minutes of `asked` are at most
+/// 20,000,000,000 in size.
+///
+/// # Errors
+/// The first [`Refusal`] in the order of [`find_station`](crate::find_station).
 pub fn list_station(
     alloc: Global,
     book: &SoundBook<'_>,
@@ -54,7 +59,14 @@ pub fn list_station(
     Ok(find_events(alloc, &found)?)
 }
 
-/// The station's events over the span that is requested.
+/// Returns the events of the station `found` over its span. The station was found for
+/// [`Reach::Events`].
+///
+/// # Examples
+/// ```
+/// let found = find_station(alloc, &book, &table, Reach::Events, &name, &asked)?;
+/// let listed = find_events(alloc, &found)?;
+/// ```
 pub fn find_events(alloc: Global, found: &Found) -> Result<FoundEvents, AllocError>
     requires { found.now.reach ≡ Reach.Events }
     ensures { IfOk result (λ listed. IsSiteList found.now.origin.book found.now.asked (site_of found.now) listed) }
@@ -69,7 +81,7 @@ pub fn find_events(alloc: Global, found: &Found) -> Result<FoundEvents, AllocErr
     })
 }
 
-// All events that are left of a merge.
+// Returns all events that `merge` has left.
 fn merged_events<'a>(
     alloc: Global,
     merge: &mut Merge<TurnCurve<'a>, MarkCurve<'a>>,
@@ -84,7 +96,7 @@ fn merged_events<'a>(
     Ok(Events::from_vec(events))
 }
 
-// The station's events of those of its reference.
+// Returns the station's events, from the events `merged` of its reference.
 fn shifted_events(alloc: Global, merged: Events, found: &Found) -> Result<Events, AllocError>
     requires reach { found.now.reach ≡ Reach.Events }
     requires merged { AreReferences found.now merged }
@@ -103,9 +115,10 @@ fn shifted_events(alloc: Global, merged: Events, found: &Found) -> Result<Events
     }
 }
 
-/// The reference's events over the minutes that are looked at, one at a time. It doesn't allocate.
+/// Returns a merge of the reference's events over its minutes, which yields one event at a time and
+/// doesn't allocate. The station was found for [`Reach::Events`].
 ///
-/// If the basis has no offsets, these are the station's events.
+/// If the station has no offsets, these are its own events.
 pub fn merge_of<'a>(found: &'a Found) -> Merge<TurnCurve<'a>, MarkCurve<'a>>
     requires { found.now.reach ≡ Reach.Events }
     ensures left { AreReferences found.now result.left }
@@ -116,7 +129,8 @@ pub fn merge_of<'a>(found: &'a Found) -> Merge<TurnCurve<'a>, MarkCurve<'a>>
     Merge::new(turn_search(found), slack_search(found), mark_search(found))
 }
 
-/// Where the reference's level turns. The curve is evaluated at most once a cell and once more.
+/// Returns the search for the reference's high and low waters, or maximum floods and ebbs. It
+/// evaluates the curve at most once a cell and once more.
 pub fn turn_search<'a>(found: &'a Found) -> Search<TurnCurve<'a>>
     requires { found.now.reach ≡ Reach.Events }
     ensures at { result.at ≡ found.now.span.begin }
@@ -130,7 +144,8 @@ pub fn turn_search<'a>(found: &'a Found) -> Search<TurnCurve<'a>>
     )
 }
 
-/// Where a current turns, if that is listed, with as few evaluations.
+/// Returns the search for a current's slacks, if they are listed. It evaluates the curve at most
+/// once a cell and once more.
 pub fn slack_search<'a>(found: &'a Found) -> Option<Search<MarkCurve<'a>>>
     requires { found.now.reach ≡ Reach.Events }
     ensures at { ForSome result (λ search. search.at ≡ found.now.span.begin) }
@@ -140,7 +155,8 @@ pub fn slack_search<'a>(found: &'a Found) -> Option<Search<MarkCurve<'a>>>
     search_if(slack_curve(found, Version::Second), &found.span)
 }
 
-/// Where the level passes the mark, if there is one, with as few evaluations.
+/// Returns the search for the crossings of the mark, if there is one. It evaluates the curve at
+/// most once a cell and once more.
 pub fn mark_search<'a>(found: &'a Found) -> Option<Search<MarkCurve<'a>>>
     requires { found.now.reach ≡ Reach.Events }
     ensures at { ForSome result (λ search. search.at ≡ found.now.span.begin) }
@@ -150,7 +166,7 @@ pub fn mark_search<'a>(found: &'a Found) -> Option<Search<MarkCurve<'a>>>
     search_if(mark_curve(found, Version::Second), &found.span)
 }
 
-// The search of a curve, if there is one.
+// Returns the search of `curve`, if there is one.
 fn search_if<C: Curve>(curve: Option<C>, span: &Span) -> Option<Search<C>>
     requires { ForSome curve (λ c. Tells span.now (C.meaning c) (C.count c)) }
     ensures at { ForSome result (λ search. search.at ≡ span.now.begin) }

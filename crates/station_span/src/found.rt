@@ -1,4 +1,4 @@
-//! A station that was found.
+//! A station that was found, with a span.
 
 ghost use Rattle.std.specs.Prelude.{◌≡◌};
 ghost use Rattle.station_curve.specs.Curves.{tide_over};
@@ -13,24 +13,24 @@ use harmonics_text::Units;
 use station_curve::StationCurve;
 use station_table::Basis;
 
-/// A station that was found, with a span of it that has an answer.
+/// A station that was found, with a span of it for which a request has an answer.
 ///
-/// Its curve predicts the reference over the minutes that are looked at, and is made for these alone.
+/// Its curve predicts the reference, over the minutes of `span` alone.
 #[derive(Debug, Drop)]
 pub struct Found {
-    /// The book and the reference, for contracts alone.
+    /// The harmonics file and the reference station, for contracts alone.
     pub origin: Origin,
     /// The offsets from the reference.
     pub basis: Basis,
-    /// The reference's.
+    /// The unit of the reference.
     pub units: Units,
-    /// The reference's.
+    /// The curve of the reference.
     pub curve: StationCurve,
-    /// Which minutes of the reference are looked at.
+    /// The purpose for which the reference's minutes were chosen.
     pub reach: Reach,
-    /// What is requested of the station.
+    /// The span and the mark of the request, by the station's own minutes.
     pub asked: Asked,
-    /// The minutes of the reference that are looked at.
+    /// The reference's minutes that are evaluated.
     pub span: Span,
     pub ghost unit: { units ≡ origin.station.units },
     pub ghost sound: { IsSound reach origin.book asked basis origin.station curve },

@@ -13,14 +13,17 @@ use station_table::OffsetTable;
 use std::alloc::Global;
 use tide_fault::Refusal;
 
-/// A reference station that has levels, with its curve for all minutes.
+/// A reference station that has levels, with its curve for all minutes of the harmonics file.
 #[derive(Debug, Drop)]
 pub struct Known<'a> {
     pub station: &'a Station,
     pub curve: StationCurve,
 }
 
-/// The reference of a station of this name, or the first refusal: the station, its unit, the limits.
+/// Returns the reference of the station `name`.
+///
+/// # Errors
+/// The first [`Refusal`] in this order: the station, its unit, the bounds on its constants.
 #[tactic(auto, unfolding(crate::specs::Sites::station_in))]
 pub fn find_known<'a>(
     alloc: Global,

@@ -15,7 +15,11 @@ use crate::station::earlier;
 use event_list::scaled;
 use tide_fault::Refusal;
 
-/// A station whose highs and lows have different offsets has no level between them.
+/// Returns `Ok` if the station has a level at each minute: its highs and lows have the same
+/// offsets.
+///
+/// # Errors
+/// [`Refusal::LevelNotHere`] if its highs and lows have different offsets.
 #[tactic(auto, unfolding(crate::specs::Levels::level_in))]
 pub fn check_level(found: &Found) -> Result<(), Refusal>
     ensures exact { result ≡ level_in found.now.basis }
@@ -31,8 +35,8 @@ pub fn check_level(found: &Found) -> Result<(), Refusal>
     }
 }
 
-/// The level at a minute in millionths of the station's unit: its reference's, scaled, at the minute
-/// that is moved there. It doesn't allocate.
+/// Returns the station's level at `minute`, in millionths of its unit: the reference's level at the
+/// minute that the offset moves to `minute`, scaled. Doesn't allocate.
 pub fn level_at(found: &Found, minute: i64) -> i64
     requires { IsLooked found.now minute }
     ensures { result ≡ level_at found.now.origin.book (site_of found.now) minute }
@@ -41,7 +45,7 @@ pub fn level_at(found: &Found, minute: i64) -> i64
     scaled(&found.basis.high, level)
 }
 
-/// Whether the level at a minute rises: not if its slope is 0. It doesn't allocate.
+/// Returns true if the station's level at `minute` rises: its slope is above 0. Doesn't allocate.
 pub fn is_rising(found: &Found, minute: i64) -> bool
     requires { IsLooked found.now minute }
     ensures { result ≡ is_rising_at found.now.origin.book (site_of found.now) minute }
@@ -49,7 +53,7 @@ pub fn is_rising(found: &Found, minute: i64) -> bool
     found.curve.slope(source(found, minute)) > 0
 }
 
-/// The reference's minute whose level is moved to a minute.
+/// Returns the reference's minute that the offset moves to the station's `minute`.
 pub fn source(found: &Found, minute: i64) -> i64
     requires { IsLooked found.now minute }
     ensures exact { result ≡ source_of (tide_of_found found.now) minute }
@@ -58,7 +62,7 @@ pub fn source(found: &Found, minute: i64) -> i64
     earlier(minute, found.basis.high.add)
 }
 
-/// Levels of stations twice as high, and of half the height.
+/// Levels of a station twice as high and of one half as high as its reference.
 #[tactic(auto, unfolding(crate::specs::Levels::level_in, decimal_text::specs::Rounding::rounded_of))]
 pub fn worked_levels()
     ensures twice { scaled (record { add = pos 30; times = pos 2000000; plus = pos 500000 }) (pos 1000000) ≡ pos 2500000 }

@@ -1,11 +1,12 @@
-//! A span of a station: which station a name means, and what is followed of it.
+//! A span of a station: the station that a name means, and its curves.
 //!
-//! [`find_station`] goes the way of every question about a span of a station: its name, its unit, the
-//! span, the limits and the mark, and stops at the first refusal; [`find_level`] asks for levels too,
-//! and [`find_known`] for no span. What is found has curves ([`turn_curve`], [`slack_curve`],
-//! [`mark_curve`]), events ([`find_events`], or one at a time by [`merge_of`]), levels ([`level_at`],
-//! [`is_rising`]) and a highest water ([`find_highest`], [`judge_highest`]). `specs/Sites.antt` has the
-//! order of the refusals, and `specs/Following.antt` which curves are followed.
+//! [`find_station`] goes the way of every request about a span of a station: its name, its unit,
+//! the span, the bounds on its constants and the mark, and returns the first refusal.
+//! [`find_level`] requires levels too, and [`find_known`] takes no span. A station that was found
+//! has curves ([`turn_curve`], [`slack_curve`], [`mark_curve`]), events ([`find_events`], or one at
+//! a time by [`merge_of`]), levels ([`level_at`], [`is_rising`]) and a highest water
+//! ([`find_highest`], [`judge_highest`]). `specs/Sites.antt` has the order of the refusals, and
+//! `specs/Following.antt` the curves that are followed.
 #![tactic(auto)]
 
 mod asked;

@@ -1,4 +1,4 @@
-//! What a station was found in, for contracts alone.
+//! The origin of a found station, for contracts alone.
 
 ghost use Rattle.std.specs.Prelude.{◌≡◌};
 ghost use Rattle.std.specs.Borrow.{ftrue};
@@ -8,7 +8,7 @@ ghost use Rattle.harmonics_text.specs.declared.book.Station.{Station};
 use harmonics_text::{Book, Station};
 use std::marker::Model;
 
-/// A book and a station of it. It allocates nothing, and nothing is copied for it.
+/// A harmonics file and a station of it, for contracts alone. It allocates and copies nothing.
 #[derive(Debug, Drop)]
 pub struct Origin {
     pub ghost book: { Book },
@@ -20,7 +20,7 @@ impl Model for Origin {
 }
 
 impl Origin {
-    /// A station of a book.
+    /// Returns the origin of a station of a harmonics file.
     pub(crate) fn of(_book: &Book, _station: &Station) -> Origin
         ensures { (result.book ≡ _book.now) × (result.station ≡ _station.now) }
     {

@@ -23,8 +23,12 @@ use station_table::OffsetTable;
 use std::alloc::{AllocError, Global};
 use tide_fault::Refusal;
 
-/// The station of a name with a span of it that has a highest water, or the first refusal: the
-/// station, its unit, the span, the limits, the mark, a level.
+/// Returns the station `name` with the span of `asked`, for its highest water. The minutes of
+/// `asked` are at most 20,000,000,000 in size.
+///
+/// # Errors
+/// The first [`Refusal`] in this order: the station, its unit, the span, the bounds on its
+/// constants, the mark, a level at each minute.
 #[tactic(auto, unfolding(crate::specs::Peaks::highest_site))]
 pub fn find_level(
     alloc: Global,
@@ -44,8 +48,8 @@ pub fn find_level(
     Ok(found)
 }
 
-/// The highest water of the reference's minutes that are moved into the span, with the cells that
-/// show it.
+/// Returns the highest water of the reference's minutes that the offset moves into the span, with
+/// the cells that show it.
 pub fn find_highest(alloc: Global, found: &Found) -> Result<Peak, AllocError>
     requires { HasPeak found.now }
     ensures exact { IfOk result (λ peak. peak ≡ highest_of found.now.origin.book (site_of found.now) found.now.asked) }
@@ -60,7 +64,7 @@ pub fn find_highest(alloc: Global, found: &Found) -> Result<Peak, AllocError>
     Ok(peak)
 }
 
-/// The minute of that highest water, which is found without its cells.
+/// Returns the reference's minute of the highest water, without making its cells.
 pub fn highest_minute(found: &Found) -> i64
     requires { HasPeak found.now }
     ensures exact { result ≡ (highest_of found.now.origin.book (site_of found.now) found.now.asked).at }
@@ -69,8 +73,9 @@ pub fn highest_minute(found: &Found) -> i64
     highest_point(&mut level_curve(found), found.span.begin, found.span.end).minute
 }
 
-/// What a check finds on a highest water that is written of the span. Its value is below 10^37 in
-/// size, and it has fewer than 2^32 cells. It doesn't allocate.
+/// Returns the verdict on `peak` as the highest water of the reference's minutes that the offset
+/// moves into the span. Its value is below 10^37 in size, and it has fewer than 2^32 cells. Doesn't
+/// allocate.
 pub fn judge_highest(found: &Found, peak: &Peak) -> PeakVerdict
     requires peak { HasPeak found.now }
     requires size { unsigned_abs peak.now.value < 10 ^ 37 }
@@ -86,7 +91,7 @@ pub fn judge_highest(found: &Found, peak: &Peak) -> PeakVerdict
     )
 }
 
-/// The station's minute to which a reference's is moved.
+/// Returns the station's minute to which the offset moves the reference's minute `at`.
 pub fn moved_minute(found: &Found, at: i64) -> i64
     requires peak { HasPeak found.now }
     requires inside { IsSourceIn (tide_of_found found.now) found.now.asked at }
@@ -96,6 +101,7 @@ pub fn moved_minute(found: &Found, at: i64) -> i64
     later(at, found.basis.high.add)
 }
 
+/// Returns `minute` plus `add` minutes.
 fn later(minute: i64, add: i32) -> i64
     requires minute { unsigned_abs minute ≤ 30000000000 }
     requires add { unsigned_abs add ≤ 1440 }
@@ -104,7 +110,7 @@ fn later(minute: i64, add: i32) -> i64
     minute + i64::from(add)
 }
 
-// The level of the reference, of which the highest water is the greatest value.
+// Returns the curve of the reference's level, whose greatest value is the highest water.
 fn level_curve<'a>(found: &'a Found) -> MarkCurve<'a>
     ensures meaning { ⟦<MarkCurve<'a> as Curve>⟧.meaning result ≡ tide_levels (tide_of_found found.now) }
     ensures fresh { ⟦<MarkCurve<'a> as Curve>⟧.count result ≡ 0 }

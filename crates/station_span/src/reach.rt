@@ -1,12 +1,12 @@
-//! Which minutes of a reference station an answer looks at.
+//! The minutes of a reference station that an answer needs.
 
-/// Which minutes of a reference station an answer looks at.
+/// The purpose of a request, which determines the minutes of the reference station that it needs.
 #[derive(Clone, Copy, Debug)]
 pub enum Reach {
-    /// Those whose events the offsets can move into the span.
+    /// Events: the minutes whose events the offsets can move into the span.
     Events,
-    /// Those whose levels are asked.
+    /// Levels: the minutes that the offset moves to the span's.
     Levels,
-    /// Those of which the highest level is asked: at least one.
+    /// The highest water: the minutes that the offset moves into the span, which has at least one.
     Highest,
 }

@@ -1,4 +1,4 @@
-//! The steps of a question about a station's span, in the order of refusals.
+//! The steps of a request about a station's span, in the order of refusals.
 
 ghost use Rattle.std.specs.Prelude.{◌≡◌, ℕ, ◌<◌, ◌≤◌, pos, ◌+ℤ◌, ◌-ℤ◌, ◌≤ℤ◌, [], length, unsigned_abs, int_lt, IsTrue, Some, IfOk, IfErr, OnOk, slice_get};
 ghost use Rattle.std.specs.Option.{ForSome};
@@ -30,11 +30,23 @@ use std::alloc::Global;
 use tide_fault::Refusal;
 use year_blend::year_start;
 
-/// The most minutes of a span.
+/// The greatest number of minutes of a span.
 const SPAN_LIMIT: i64 = 5_270_400;
 
-/// The station of a name with a span of it that has an answer, or the first refusal: the station, its
-/// unit, the span, the limits, the mark.
+/// Returns the station `name` with the span and the mark of `asked`, for the purpose `reach`.
+/// `book` holds the harmonic constants and `table` the subordinate stations. The minutes of `asked`
+/// are at most 20,000,000,000 in size.
+///
+/// # Errors
+/// The first [`Refusal`] in this order: the station, its unit, the span, the bounds on its
+/// constants, the mark. [`Refusal::NoMemory`] may be returned in place of any result from the curve
+/// on.
+///
+/// # Examples
+/// ```
+/// let found = find_station(alloc, &book, &table, Reach::Events, &name, &asked)?;
+/// let listed = find_events(alloc, &found)?;
+/// ```
 #[tactic(auto, unfolding(crate::specs::Sites::site_in))]
 pub fn find_station(
     alloc: Global,
@@ -54,6 +66,11 @@ pub fn find_station(
     find_at(alloc, book, reach, basis, station, asked)
 }
 
+/// Returns the station `name`: its reference in `book` and its offsets.
+///
+/// # Errors
+/// [`Refusal::NoStation`] if neither `book` nor `table` has the name, and [`Refusal::NoReference`]
+/// if `book` lacks the reference of its row.
 pub fn find_basis(book: &SoundBook<'_>, table: &OffsetTable, name: &Text) -> Result<Basis, Refusal>
     ensures exact { result ≡ basis_from (basis_of book.now table.now name.now) }
     ensures sound { IfOk result (IsBasis (length book.now.stations)) }
@@ -67,7 +84,8 @@ pub fn find_basis(book: &SoundBook<'_>, table: &OffsetTable, name: &Text) -> Res
     }
 }
 
-// The same for a station by its basis.
+// Returns the station with the offsets `basis` from the reference `station`, with the span of
+// `asked`.
 #[tactic(auto, unfolding(crate::specs::Sites::site_at))]
 fn find_at(
     alloc: Global,
@@ -99,7 +117,7 @@ fn find_at(
     })
 }
 
-/// A book's station by its place.
+/// Returns the station at index `place` of `book`.
 pub fn station_at(book: &Book, place: u32) -> &Station
     requires { place < length book.now.stations }
     ensures { slice_get book.now.stations place ≡ Some result.now }
@@ -107,7 +125,10 @@ pub fn station_at(book: &Book, place: u32) -> &Station
     &book.stations.as_slice()[place as usize]
 }
 
-/// The unit itself, if it is one of levels.
+/// Returns `units`, if they are units of levels.
+///
+/// # Errors
+/// [`Refusal::Hydraulic`] if they are knots squared.
 pub fn level_units(units: Units) -> Result<Units, Refusal>
     ensures exact { result ≡ level_unit units }
     ensures levels { OnOk result (HasLevels units) }
@@ -121,7 +142,7 @@ pub fn level_units(units: Units) -> Result<Units, Refusal>
     }
 }
 
-// The minutes of the reference that are looked at, if the book has them.
+// Returns the minutes of the reference that are evaluated, if the harmonics file has them.
 #[tactic(auto, unfolding(crate::specs::Sites::span_in))]
 fn span_looked_at(
     book: &SoundBook<'_>,
@@ -153,12 +174,14 @@ fn span_looked_at(
     }
 }
 
+/// Returns true if the span ends before it begins.
 fn is_backward(asked: &Asked) -> bool
     ensures { result ≡ int_lt asked.now.end asked.now.begin }
 {
     asked.end < asked.begin
 }
 
+/// Returns true if the span is empty and a highest water is requested.
 #[tactic(auto, unfolding(crate::specs::Sites::lacks_minute))]
 fn lacks_minute(reach: Reach, asked: &Asked) -> bool
     ensures { result ≡ lacks_minute reach asked.now.begin asked.now.end }
@@ -166,7 +189,7 @@ fn lacks_minute(reach: Reach, asked: &Asked) -> bool
     matches!(reach, Reach::Highest) && asked.end <= asked.begin
 }
 
-// The minutes of the reference that are looked at.
+// Returns the minutes of the reference that are evaluated.
 fn reached(reach: Reach, basis: &Basis, asked: &Asked) -> Span
     requires offsets { HasOffsets basis.now }
     requires near { IsNear asked.now }
@@ -182,6 +205,7 @@ fn reached(reach: Reach, basis: &Basis, asked: &Asked) -> Span
     }
 }
 
+/// Returns the minutes of the reference whose events the offsets can move into the span.
 fn moved(basis: &Basis, asked: &Asked) -> Span
     requires offsets { HasOffsets basis.now }
     requires near { IsNear asked.now }
@@ -198,6 +222,7 @@ fn moved(basis: &Basis, asked: &Asked) -> Span
     }
 }
 
+/// Returns the minutes of the reference that the offset of highs moves to the span's.
 fn level_span(basis: &Basis, asked: &Asked) -> Span
     requires offsets { HasOffsets basis.now }
     requires near { IsNear asked.now }
@@ -213,7 +238,7 @@ fn level_span(basis: &Basis, asked: &Asked) -> Span
     }
 }
 
-/// A minute less so many.
+/// Returns `minute` minus `add` minutes.
 pub fn earlier(minute: i64, add: i32) -> i64
     requires minute { unsigned_abs minute ≤ 20000000000 }
     requires add { unsigned_abs add ≤ 1440 }
@@ -222,18 +247,22 @@ pub fn earlier(minute: i64, add: i32) -> i64
     minute - i64::from(add)
 }
 
+/// Returns true if all minutes of `span`, and the one after it, are in the file's years or at their
+/// end.
 fn has_span(book: &SoundBook<'_>, span: &Span) -> bool
     ensures { result ≡ has_span book.now span.now }
 {
     has_minute(book, span.begin) && has_minute(book, span.end)
 }
 
+/// Returns true if `minute` is in the file's years or at their end.
 fn has_minute(book: &SoundBook<'_>, minute: i64) -> bool
     ensures { result ≡ has_minute book.now minute }
 {
     first_minute(book) <= minute && minute <= last_minute(book)
 }
 
+/// Returns the first minute of the file's years.
 fn first_minute(book: &SoundBook<'_>) -> i64
     ensures value { result ≡ year_start_of book.now.first_year }
     ensures moment { IsMoment result }
@@ -241,7 +270,7 @@ fn first_minute(book: &SoundBook<'_>) -> i64
     year_start(book.get().first_year)
 }
 
-// The begin of the year after the last.
+// Returns the minute after the last of the file's years.
 fn last_minute(book: &SoundBook<'_>) -> i64
     ensures value { result ≡ year_start_of (book.now.first_year +ℤ pos book.now.years) }
     ensures moment { IsMoment result }
@@ -250,7 +279,7 @@ fn last_minute(book: &SoundBook<'_>) -> i64
     year_start(book.first_year + book.years as i32)
 }
 
-// The curve of a station for the minutes of a span.
+// Returns the curve of `station`, which is at index `place` of `book`, for the minutes of `span`.
 fn curve_over(
     alloc: Global,
     book: &SoundBook<'_>,
@@ -275,7 +304,11 @@ fn curve_over(
     }
 }
 
-/// The curve of a station for all minutes.
+/// Returns the curve of `station`, which is at index `place` of `book`, for all minutes.
+///
+/// # Errors
+/// [`Refusal::TooLarge`] or [`Refusal::TooSteep`] if its constants exceed a bound, and
+/// [`Refusal::NoMemory`].
 pub fn whole_curve(
     alloc: Global,
     book: &SoundBook<'_>,
@@ -298,6 +331,7 @@ pub fn whole_curve(
     }
 }
 
+/// Returns `Ok` if the span has at most 5,270,400 minutes.
 #[tactic(auto, unfolding(crate::specs::Sites::length_in))]
 fn check_length(asked: &Asked) -> Result<(), Refusal>
     requires { IsNear asked.now }
@@ -312,6 +346,7 @@ fn check_length(asked: &Asked) -> Result<(), Refusal>
     Ok(())
 }
 
+/// Returns the number of minutes of the span.
 fn length(asked: &Asked) -> i64
     requires { IsNear asked.now }
     ensures { result ≡ asked.now.end -ℤ asked.now.begin }
@@ -319,6 +354,7 @@ fn length(asked: &Asked) -> i64
     asked.end - asked.begin
 }
 
+/// Returns `Ok` unless there is a mark and the station's highs and lows have different offsets.
 fn check_mark(basis: &Basis, asked: &Asked) -> Result<(), Refusal>
     ensures exact { result ≡ mark_in basis.now asked.now.mark }
     ensures here { OnOk result (ForSome asked.now.mark (λ level. IsTrue (is_equal basis.now))) }

@@ -32,7 +32,7 @@ cases_same x y = elim (cases_Bool (int_eq x y)) [
 append_equal : {X : Type 0} {xs ys us vs : List X} → xs ≡ ys → us ≡ vs → xs ++ us ≡ ys ++ vs
 append_equal left right = cc (left, right)
 
--- an event more, on its own date and on another
+-- one more event, on its own date and on another
 on-here : (zone : Zone) (event : Event) (events : List Event) (day : ℤ) → day_in zone event.minute ≡ day
     → events_on zone (event ∷ events) day ≡ event ∷ events_on zone events day
 on-here zone event events day here =
@@ -95,7 +95,7 @@ ascend-head : (zone : Zone) (event : Event) (events : List Event) → DatesAscen
     → All (λ other. day_in zone event.minute ≤ℤ day_in zone other.minute) events
 ascend-head zone event events ascend = λ k d within. ascend 0 (suc k) d (omega arith) (omega (arith, within))
 
--- on so many days the events keep their order
+-- on n days the events keep their order
 abbrev Keeps : Zone → ℕ → Type 0
 Keeps zone n = (first : ℤ) (events : List Event) → DatesAscend zone events → All (IsIn zone first n) events → placed zone events (days_from first n) ≡ events
 

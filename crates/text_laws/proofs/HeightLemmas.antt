@@ -10,13 +10,13 @@ use Rattle.std.proofs.lemmas.Nat.{mul-le}
 use Rattle.listing.specs.declared.row.Row.{Row}
 use Rattle.text_laws.specs.Heights.{minute_at, row_at, row_until, rows_over}
 
--- so many steps fit into a length
+-- a number of steps that fit into a length
 fits : (n s index : ℕ) → 1 ≤ s → index < n / s + 1 → s * index ≤ n
 fits n s index positive within =
     let most : index * s ≤ n / s * s = grind (arith, mul-le) in
     omega (arith, most, div-mul-le_self n s)
 
--- and one more doesn't
+-- one more step doesn't fit
 passes : (n s index : ℕ) → 1 ≤ s → n / s + 1 ≤ index → n < s * index
 passes n s index positive past =
     let least : (n / s + 1) * s ≤ index * s = grind (arith, mul-le) in

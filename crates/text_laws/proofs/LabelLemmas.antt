@@ -23,7 +23,7 @@ minute_of-local_in Utc minute = omega (arith, ints)
 minute_of-local_in (Fixed ahead) minute = omega (arith, ints)
 minute_of-local_in (File file) minute = omega (arith, ints)
 
--- what a line says after the local time
+-- the rest of a line after the local time
 abbrev level_rest : Units → ℤ → List ℕ
 level_rest units level = codes "  " ++ padded 9 (level_text level) ++ codes " " ++ text_of_unit units
 

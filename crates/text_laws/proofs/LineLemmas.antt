@@ -31,7 +31,7 @@ use Rattle.zone_time.specs.Zones.{local_in}
 abbrev Ends : ℕ → Type 0
 Ends byte = 32 ≤ byte
 
--- of bytes below 32 there are none
+-- bytes of which none is below 32
 abbrev Clean : List ℕ → Type 0
 Clean bytes = All Ends bytes
 
@@ -141,7 +141,7 @@ unfolding padded
 padded-clean places text ends =
     both (replicate (places - length text) 32) text (All-replicate Ends (places - length text) 32 (omega arith)) ends
 
--- a written text has no byte below 32 where a test finds none
+-- a written text has no byte below 32, if a test finds none
 and-left : (a b : Bool) → (a && b) ≡ true → a ≡ true
 and-left true b is = refl
 and-left false b is = is

@@ -17,7 +17,7 @@ use Rattle.zone_time.specs.declared.zone.Zone.{Zone}
 abbrev written : List (List (List ℕ)) → List ℕ
 written rows = flat_map record_of rows
 
--- each record has a byte at least
+-- each record has at least one byte
 ends : (body blank : List ℕ) → 1 ≤ length (body ++ (blank ++ 10 ∷ []))
 ends body blank = omega (arith, length-append body (blank ++ 10 ∷ []), length-append blank (10 ∷ []))
 

@@ -20,7 +20,7 @@ use Rattle.station_table.specs.Bases.{basis_in, basis_of, basis_over}
 use Rattle.text_laws.specs.Stations.{station_lines, FindsRow, FindsStation, SaysUnit}
 use Rattle.text_laws.proofs.ListLemmas.{flat_map-map}
 
--- the first element that passes, and its index
+-- the first element for which a test is true, and its index
 record Found {X : Type 0} (p : X → Bool) (xs : List X) : Type 0 where
   index : ℕ
   item : X
@@ -45,7 +45,7 @@ cases_first p xs =
       | inr past ↦ inr (record { placed = rw (le-ltb _ _ past.0) refl; found = find_at p xs ∙ past.1 })
     ]
 
--- where none is found none passes
+-- the test is true for no element, if none is found
 none-passes : {X : Type 0} (p : X → Bool) (xs : List X) (k : ℕ) (d : X) → k < length xs → find p xs ≡ None → p (get_or xs k d) ≡ true → ⊥
 none-passes p [] k d within none passes = omega (arith, within)
 none-passes p (x ∷ xs) zero d within none passes = none-some x (sym (rw passes at none))

@@ -3,10 +3,11 @@ use Rattle.std.specs.Prelude.{ℕ, ◌+◌, ◌/◌, ℤ, pos, ◌+ℤ◌, ◌-�
 use Rattle.std.specs.List.{range_with_len}
 use Rattle.listing.specs.declared.row.Row.{Row}
 
--- the minute of a row, which is `index` steps after the begin
+-- the minute of the row at `index`, which is `index` steps after the begin
 abbrev pub minute_at : ℤ → ℤ → ℕ → ℤ
 minute_at begin step index = begin +ℤ (step *ℤ pos index)
 
+-- the row at `index`
 abbrev pub row_at : (ℤ → ℤ) → ℤ → ℤ → ℕ → Row
 row_at level begin step index =
     record { minute = minute_at begin step index; level = level (minute_at begin step index) }

@@ -1,4 +1,4 @@
--- Local times and the minutes that they stand for (this project).
+-- Local times and the minutes that they mean (this project).
 use Rattle.std.specs.Prelude.{◌≡◌, ℕ, ℤ, pos, ◌-ℤ◌, List, ◌++◌}
 use Rattle.zone_time.specs.declared.local.Label.{Label}
 use Rattle.zone_time.specs.declared.local.Label.TheVariants.{Utc, Minutes}
@@ -16,7 +16,7 @@ ahead_of (Minutes ahead) = ahead
 abbrev pub minute_of : Local → ℤ
 minute_of local = local.minute -ℤ ahead_of local.label
 
--- two lines of one minute by the clocks of two zones, the same but for the local time that begins them
+-- two lines of one minute by the clocks of two zones, which differ only in the local time that begins them
 pub record DifferInLabel (zone other : Zone) (line line_there : List ℕ) : Type 0 where
   pub minute : ℤ
   pub rest : List ℕ

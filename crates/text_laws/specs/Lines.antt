@@ -12,11 +12,11 @@ pub record IsLine (line : List ℕ) : Type 0 where
 abbrev pub IsLevel : ℤ → Type 0
 IsLevel level = unsigned_abs level ≤ 2 ^ 63
 
--- a station's name on a line, and lines that end with their LF
+-- the text of a station's name on a line and of lines that end with their LF
 abbrev pub listing_of : List ℕ → List (List ℕ) → List ℕ
 listing_of name lines = name ++ codes "\n" ++ flat_map (λ line. line) lines
 
--- two listings of one station with the same number of lines, which are related pair by pair, in order
+-- two listings of one station with equally many lines, which are related pair by pair, in order
 pub record AreListings (name : List ℕ) (Related : List ℕ → List ℕ → Type 0) (text other : List ℕ) : Type 0 where
   pub lines : List (List ℕ)
   pub others : List (List ℕ)

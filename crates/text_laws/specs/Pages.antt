@@ -14,6 +14,7 @@ pub record Page : Type 0 where
   pub day : ℤ
   pub events : List Event
 
+-- the line of a date
 abbrev pub line_of : Zone → Units → Page → List ℕ
 line_of zone units page = date_text page.day ++ flat_map (entry_in zone units) page.events ++ codes "\n"
 
@@ -25,10 +26,12 @@ all_events pages = flat_map (λ page. page.events) pages
 abbrev pub dates_of : Zone → List Event → ℤ → ℤ → List ℤ
 dates_of zone events begin end = day_in zone begin ∷ day_in zone (end -ℤ pos 1) ∷ event_days zone events
 
+-- the least of some days
 pub record IsLeast (days : List ℤ) (day : ℤ) : Type 0 where
   pub among : Contains days day
   pub least : All (λ other. day ≤ℤ other) days
 
+-- the greatest of some days
 pub record IsGreatest (days : List ℤ) (day : ℤ) : Type 0 where
   pub among : Contains days day
   pub greatest : All (λ other. other ≤ℤ day) days
@@ -37,7 +40,7 @@ pub record IsGreatest (days : List ℤ) (day : ℤ) : Type 0 where
 abbrev pub day_until : ℤ → ℤ → ℕ → Option ℤ
 day_until first last index = if int_le (first +ℤ pos index) last then Some (first +ℤ pos index) else None
 
--- one day after the other, from the least of some dates to the greatest
+-- consecutive days, from the least of some dates to the greatest
 pub record RunThrough (dates days : List ℤ) : Type 0 where
   pub first : ℤ
   pub last : ℤ
@@ -45,12 +48,12 @@ pub record RunThrough (dates days : List ℤ) : Type 0 where
   pub greatest : IsGreatest dates last
   pub each : (index : ℕ) → slice_get days index ≡ day_until first last index
 
--- no event has an earlier local date than one before it
+-- events of which none has an earlier local date than one before it
 abbrev pub DatesAscend : Zone → List Event → Type 0
 DatesAscend zone events = AllPairs (λ event later. day_in zone event.minute ≤ℤ day_in zone later.minute) events
 
--- a calendar that has each event once, on the line of its local date: `dated` has the events of each line, in their order, and
--- `once` says that all lines together have exactly the events
+-- a calendar that has each event once, on the line of its local date: `dated` has the events of each line,
+-- in their order, and `once` says that all lines together have exactly the events
 pub record IsCalendar (name : List ℕ) (units : Units) (zone : Zone) (events : List Event) (begin end : ℤ) (text : List ℕ) : Type 0 where
   pub pages : List Page
   pub text_is : text ≡ listing_of name (map (line_of zone units) pages)

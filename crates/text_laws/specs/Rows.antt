@@ -1,4 +1,5 @@
--- Comma-separated values and the lines of the same events and levels (RFC 4180's records, as `csv` reads them; this project).
+-- Comma-separated values and the lines of the same events and levels (RFC 4180's records, as `csv` reads
+-- them; this project).
 use Rattle.std.specs.Prelude.{◌≡◌, ℕ, ℤ, List, ◌∷◌, ◌++◌, All, codes}
 use Rattle.std.specs.List.{AllZip}
 use Rattle.csv.specs.Reading.{records, default_config, strip_bom}
@@ -12,18 +13,19 @@ use Rattle.zone_time.specs.Locals.{label_text}
 use Rattle.zone_time.specs.Moments.{moment_text}
 use Rattle.zone_time.specs.Zones.{local_in}
 
--- the records of a text, without its byte order mark
+-- the records of a text without its byte order mark
 abbrev pub records_in : List ℕ → List (List (List ℕ))
 records_in text = records default_config (strip_bom text)
 
--- the line of a minute and a level, from the local time without a label and from the unit; the level is rounded to hundredths
+-- the line of a minute and a level, from its local time without a label and its unit; the level is rounded
+-- to hundredths
 abbrev pub line_by : Zone → ℤ → ℤ → List ℕ → List ℕ → List ℕ
 line_by zone minute level local unit =
     local ++ codes " " ++ label_text (local_in zone minute).label ++ codes "  "
     ++ padded 9 (write_of (rounded_of level 10000) 2) ++ codes " " ++ unit
 
--- a record and a line of one event: the record has the minute and the level in millionths, and the line has the record's local
--- time, unit and event
+-- a record and a line of one event: the record has the minute and the level in millionths, and the line has
+-- the record's local time, unit and event
 pub record ShowOneEvent (name : List ℕ) (zone : Zone) (row : List (List ℕ)) (line : List ℕ) : Type 0 where
   pub minute : ℤ
   pub level : ℤ
@@ -41,7 +43,8 @@ pub record ShowOneLevel (name : List ℕ) (zone : Zone) (row : List (List ℕ)) 
   pub millionths : field_of row 3 ≡ write_of level 6
   pub line_is : line ≡ line_by zone minute level (field_of row 2) (field_of row 4) ++ codes "\n"
 
--- as many records after the header of one text as lines after the name of the other, which are related pair by pair, in order
+-- equally many records after the header of one text and lines after the name of the other, related pair by
+-- pair, in order
 pub record AreOneList (header : List (List ℕ)) (name : List ℕ) (Related : List (List ℕ) → List ℕ → Type 0) (csv plain : List ℕ) : Type 0 where
   pub rows : List (List (List ℕ))
   pub lines : List (List ℕ)

@@ -1,4 +1,4 @@
--- The list of stations: its lines, and what the names in them find (this project).
+-- The list of stations: its lines, and the stations and rows that their names find (this project).
 use Rattle.std.specs.Prelude.{◌≡◌, ℕ, List, ◌++◌, codes, map, Some, Result, Ok, Err, slice_get}
 use Rattle.event_text.specs.Lines.{text_of_unit}
 use Rattle.harmonics_text.specs.declared.book.Book.{Book}
@@ -10,11 +10,11 @@ use Rattle.station_table.specs.declared.finding.FindFault.TheVariants.{NoReferen
 use Rattle.station_table.specs.declared.offsets.Offsets.{Offsets}
 use Rattle.station_table.specs.Bases.{basis_of, basis_over, reference_basis}
 
--- a line for each station of a book and then for each row of a table, in their order
+-- a line for each station of a harmonics file and then for each row of a table, in their order
 abbrev pub station_lines : Book → List Offsets → List (List ℕ)
 station_lines book table = map reference_line book.stations ++ map (subordinate_line book.stations) table
 
--- a name finds a station of the book
+-- a name that finds a station of the harmonics file
 pub record FindsStation (book : Book) (table : List Offsets) (name : List ℕ) : Type 0 where
   pub index : ℕ
   pub station : Station
@@ -22,7 +22,7 @@ pub record FindsStation (book : Book) (table : List Offsets) (name : List ℕ) :
   pub named : station.name ≡ name
   pub found : basis_of book table name ≡ Ok (reference_basis index)
 
--- a name finds a row of the table, and what its reference is there
+-- a name that finds a row of the table, with its reference or the lack of it
 pub record FindsRow (book : Book) (table : List Offsets) (name : List ℕ) : Type 0 where
   pub index : ℕ
   pub row : Offsets
@@ -30,18 +30,18 @@ pub record FindsRow (book : Book) (table : List Offsets) (name : List ℕ) : Typ
   pub named : row.name ≡ name
   pub found : basis_of book table name ≡ basis_over book index row
 
--- the unit that a row's line has
+-- the unit on a row's line
 abbrev pub unit_of_row : Book → Offsets → List ℕ
 unit_of_row book row = unit_or_dash (unit_in book.stations row.reference)
 
--- a row's line has the unit of the station that the row is over
+-- a row whose line has the unit of the station that the row is over
 pub record HasUnit (book : Book) (row : Offsets) (basis : Basis) : Type 0 where
   pub station : Station
   pub at : slice_get book.stations basis.station ≡ Some station
   pub named : station.name ≡ row.reference
   pub unit : unit_of_row book row ≡ text_of_unit station.units
 
--- the unit of a row's line, by what its reference is
+-- a row whose line has the unit of its reference, or `-` if the harmonics file lacks it
 abbrev pub SaysUnit : Book → ℕ → Offsets → Result Basis FindFault → Type 0
 SaysUnit book index row (Ok basis) = HasUnit book row basis
 SaysUnit book index row (Err fault) = (fault ≡ NoReference index) × (unit_of_row book row ≡ codes "-")

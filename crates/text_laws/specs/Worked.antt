@@ -5,13 +5,15 @@ use Rattle.jiff_tz.specs.TzifText.{TypeText}
 use Rattle.zone_time.specs.declared.zone.Zone.{Zone}
 use Rattle.zone_time.specs.declared.zone.Zone.TheVariants.{File}
 
+-- an hour ahead of universal time
 abbrev pub hour_ahead : TypeText
 hour_ahead = record { seconds = pos 3600; dst = No; name = codes "AHEAD" }
 
+-- universal time
 abbrev pub universal : TypeText
 universal = record { seconds = pos 0; dst = No; name = codes "UTC" }
 
--- at 1970-01-01T23:59Z its clock goes from 00:59 of the next date back to 23:59
+-- a zone whose clock goes back from 00:59 of a date to 23:59 of the date before, at 1970-01-01T23:59Z
 abbrev pub goes_back : Zone
 goes_back = File (record {
   version = 50;

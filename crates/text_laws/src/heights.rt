@@ -3,14 +3,15 @@
 ghost use Rattle.std.specs.Prelude.{◌≡◌, ℕ, ℤ, pos, neg_ℤ, ◌≤ℤ◌, [], ◌∷◌, slice_get};
 ghost use Rattle.text_laws.specs.Heights.{row_until, rows_over};
 
-/// The row at each index is the level at the begin and that many steps after it, up to the end and
-/// including it. There is no other row.
+/// The row at each index is the level that many steps after the begin, up to the end and including
+/// it. There is no other row.
 pub fn heights_are_levels()
     ensures { (level : ℤ → ℤ) (begin end step : ℤ) → begin ≤ℤ end → pos 1 ≤ℤ step → (index : ℕ) →
         slice_get (rows_over level begin end step) index ≡ row_until level begin end step index }
 {}
 
-/// Three rows ten minutes apart before an end that is no row, and two of which the last is at the end.
+/// Rows ten minutes apart: three before an end at which there is no row, and two of which the last
+/// is at the end.
 pub fn worked_heights()
     ensures passed { rows_over neg_ℤ (pos 5) (pos 34) (pos 10)
         ≡ record { minute = pos 5; level = neg_ℤ (pos 5) } ∷ record { minute = pos 15; level = neg_ℤ (pos 15) }

@@ -15,8 +15,8 @@ ghost use Rattle.zone_time.specs.Zones.{local_in};
 
 use zone_time::{Label, Local};
 
-/// By the clocks of two zones a list has the same minutes in the same order. Its lines differ only
-/// in their local times, and the label of each local time says which minute it means. A record
+/// The clocks of two zones list the same minutes in the same order. The lines differ only in their
+/// local times, and the label of each local time determines the minute that it means. A record
 /// differs only in its third field.
 pub fn zones_only_label()
     ensures minute { (zone : Zone) (minute : ℤ) → minute_of (local_in zone minute) ≡ minute }
@@ -30,7 +30,8 @@ pub fn zones_only_label()
         row_fields name units other row ≡ slice_set (row_fields name units zone row) 2 (time_in other row.minute) }
 {}
 
-/// The minute of universal time that a local time and its label mean.
+/// Returns the minute of universal time that a local time with its label means, since
+/// 1970-01-01T00:00Z.
 pub fn minute_of_local(local: Local) -> i64
     requires { IsLocal local }
     ensures { result ≡ minute_of local }

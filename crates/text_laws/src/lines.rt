@@ -10,8 +10,8 @@ ghost use Rattle.text_laws.specs.Lines.{IsLevel, IsLine};
 ghost use Rattle.text_laws.specs.Pages.{line_of, Page};
 ghost use Rattle.zone_time.specs.declared.zone.Zone.{Zone};
 
-/// The lines of events, of levels and of dates end with their only LF, and have no other byte below
-/// 32. So each is one line of its text.
+/// The line of an event, of a level and of a date ends with its only LF, and has no other byte
+/// below 32. So it is one line of its text.
 pub fn lines_end_once()
     ensures events { (zone : Zone) (units : Units) (event : Event) → IsLevel event.level → IsLine (event_line_in zone units event) }
     ensures heights { (zone : Zone) (units : Units) (row : Row) → IsLevel row.level → IsLine (row_line_in zone units row) }

@@ -23,21 +23,21 @@ pub fn calendar_shows_each_event_once()
         calendar_text_of name units events zone begin end ≡ listing_of name [] }
 {}
 
-/// If a clock goes back from one date to the date before, the calendar has the later event first.
+/// A calendar lists the later event first if the clock goes back from its date to the date before.
 pub fn dates_that_go_back_change_the_order()
     ensures { (zone : Zone) (early late : Event) (day : ℤ) →
         day_in zone early.minute ≡ day +ℤ pos 1 → day_in zone late.minute ≡ day →
         flat_map (events_on zone (early ∷ late ∷ [])) (days_through day (day +ℤ pos 1)) ≡ late ∷ early ∷ [] }
 {}
 
-/// In universal time, and by a clock with a fixed offset, events in the order of their minutes have
-/// ascending dates.
+/// Events in the order of their minutes have ascending dates in universal time and by a clock with
+/// a fixed offset.
 pub fn fixed_clocks_keep_the_order()
     ensures universal { (events : List Event) → AllPairs (λ event later. event.minute ≤ℤ later.minute) events → DatesAscend Zone.Utc events }
     ensures fixed { (ahead : ℤ) (events : List Event) → AllPairs (λ event later. event.minute ≤ℤ later.minute) events → DatesAscend (Zone.Fixed ahead) events }
 {}
 
-/// Two events of one date in universal time, and of two dates by a clock 14 hours ahead of it.
+/// Two events that have one date in universal time, and two dates by a clock 14 hours ahead of it.
 pub fn worked_dates()
     ensures universal { events_on Zone.Utc (low_tide ∷ high_tide ∷ []) (pos 10966) ≡ low_tide ∷ high_tide ∷ [] }
     ensures first { events_on (Zone.Fixed (pos 840)) (low_tide ∷ high_tide ∷ []) (pos 10966) ≡ low_tide ∷ [] }

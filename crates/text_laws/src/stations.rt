@@ -13,10 +13,11 @@ ghost use Rattle.station_table.specs.Bases.{basis_of, basis_over};
 ghost use Rattle.station_table.specs.Worked.{dock_rows};
 ghost use Rattle.text_laws.specs.Stations.{station_lines, FindsRow, FindsStation, SaysUnit};
 
-/// The list has one line for each station of the book and then one for each row of the table. The
-/// name of each line finds something: that of a station a station of this name, and that of a row a
-/// row of this name if the book has no such station. The unit of a row's line is that of the station
-/// that the row is over, and `-`, which is no unit, exactly if the book lacks its reference.
+/// The list has one line for each station of the harmonics file and then one for each row of the
+/// table. The name on each line can be requested: that of a station finds a station of this name,
+/// and that of a row finds a row of this name if the file has no such station. The unit of a row's
+/// line is that of the station that the row is over, and `-`, which is no unit, exactly if the file
+/// lacks its reference.
 pub fn stations_list_what_can_be_requested()
     ensures lines { (book : Book) (table : List Offsets) →
         stations_text_of book table ≡ flat_map (λ line. line) (station_lines book table) }
@@ -28,7 +29,8 @@ pub fn stations_list_what_can_be_requested()
     ensures dash { (units : Units) → text_of_unit units ≢ codes "-" }
 {}
 
-/// A row whose reference the book lacks: its name finds it, and its line has `-`.
+/// A row whose reference station the harmonics file lacks: a request by its name finds it, and its
+/// line has `-`.
 #[tactic(auto, unfolding(station_table::specs::Bases::basis_of, station_table::specs::Bases::basis_in, station_table::specs::Bases::basis_over))]
 pub fn worked_missing_reference()
     ensures { basis_of pier_book dock_rows (codes "Lost") ≡ Err (FindFault.NoReference 2) }

@@ -1,4 +1,4 @@
--- What holds of some sheets holds of equal ones, and four sheets that were pushed are these.
+-- A fact of some sheets holds of equal ones, and four sheets that were pushed are these.
 use Rattle.std.proofs.Common.{◌≡◌, ◌∙◌, ap, List, [], ◌∷◌, ◌++◌, map, refl, subst}
 use Rattle.report_sheets.specs.Sheets.{SheetMeaning}
 

@@ -1,4 +1,5 @@
--- The program's words, by the arguments that the system gave, and how the program ends without words (this project).
+-- The arguments of the program, from those of the system, and the end of the program without them (this
+-- project).
 use Rattle.std.specs.Prelude.{◌≡◌, ◌↔◌, ℕ, List, map, drop, codes, Result, Ok, Err, String, string_bytes}
 use Rattle.std.specs.IoError.{error_kind}
 use Rattle.std.specs.Vec.Iter.{into_iter_items}
@@ -10,24 +11,27 @@ use Rattle.tide_fault.specs.declared.status.Status.TheVariants as status
 use Rattle.tide.specs.declared.arguments.NoWords.{NoWords}
 use Rattle.tide.specs.declared.arguments.NoWords.TheVariants.{NotText, NoMemory}
 
--- what the system gave: the arguments, of which the first is the program's name, or a fault
+-- the result of the system: the arguments, of which the first is the program's name, or a fault
 abbrev pub Given : Type 0 → Type 0
 Given A = Result (IntoIter (String A) A) Error
 
--- the words are all arguments behind the program's name, in their order
+-- the words are all arguments after the program's name, in their order
 abbrev pub HasWords : {A : Type 0} → Given A → List (List ℕ) → Type 0
 HasWords (Ok arguments) words = words ≡ map string_bytes (drop 1 (into_iter_items arguments))
 HasWords (Err fault) words = ⊥
 
--- There are no words: for lack of memory, or because the system gave no arguments, of which one isn't UTF-8 then.
+-- There are no arguments: memory ran out, or the system returned a fault, in which case one of them isn't
+-- UTF-8.
 abbrev pub LacksWords : {A : Type 0} → Given A → NoWords → Type 0
 LacksWords (Ok arguments) why = why ≡ NoMemory
 LacksWords (Err fault) why = (why ≡ NoMemory) ↔ (error_kind fault ≡ OutOfMemory)
 
+-- the exit status of the reason
 abbrev pub status_of : NoWords → Status
 status_of NotText = status.Words
 status_of NoMemory = status.NoMemory
 
+-- the line of the reason
 abbrev pub line_of : NoWords → List ℕ
 line_of NotText = codes "words: refused\n"
 line_of NoMemory = codes "no memory\n"

@@ -1,4 +1,4 @@
--- What the program tells of itself (this project; the option words are those of the GNU coding standards).
+-- The pages about the program itself (this project; the options are those of the GNU coding standards).
 use Rattle.std.specs.Prelude.{◌≡◌, ℕ, Bool, true, false, ◌||◌, if◌then◌else◌, List, [], ◌∷◌, codes, Option, Some, None, Result, Ok}
 use Rattle.std.specs.List.{list_any}
 use Rattle.std.specs.Str.{bytes_eq}
@@ -8,46 +8,50 @@ use Rattle.tide.specs.declared.help.TheConstants.{HELP, VERSION}
 use Rattle.tide.specs.declared.help.Page.{Page}
 use Rattle.tide.specs.declared.help.Page.TheVariants.{Help, Version}
 
+-- the text of a page
 abbrev pub page_text : Page → List ℕ
 page_text Help = HELP.now
 page_text Version = VERSION.now
 
--- an option's two words
+-- an argument is an option, in its short or its long form
 abbrev pub is_option : List ℕ → List ℕ → List ℕ → Bool
 is_option short long word = bytes_eq word short || bytes_eq word long
 
+-- the option for help
 abbrev pub asks_for_help : List ℕ → Bool
 asks_for_help word = is_option (codes "-h") (codes "--help") word
 
+-- the option for the version
 abbrev pub asks_for_version : List ℕ → Bool
 asks_for_version word = is_option (codes "-V") (codes "--version") word
 
+-- the first argument is the option for the version
 abbrev pub first_asks_for_version : List (List ℕ) → Bool
 first_asks_for_version [] = false
 first_asks_for_version (word ∷ words) = asks_for_version word
 
--- the page that the words ask for: any of them can ask for help, and the first for the version
+-- the page that the arguments request: any of them can request help, and the first the version
 abbrev pub page_of : List (List ℕ) → Option Page
 page_of words =
     if list_any asks_for_help words then Some Help
     else if first_asks_for_version words then Some Version
     else None
 
--- whether the first word asks to serve
+-- the first argument is `serve`
 abbrev pub asks_to_serve : List (List ℕ) → Bool
 asks_to_serve [] = false
 asks_to_serve (word ∷ words) = bytes_eq word (codes "serve")
 
--- ---- What the words ask for
+-- ---- The three kinds of arguments
 
--- the page, as an answer
+-- the page as an answer
 abbrev pub page_answer : Page → Result Answer NoAnswer
 page_answer page = Ok (record { text = page_text page; rejected = false; cells = 0 })
 
--- no page, and not to serve
+-- the arguments request no page, and aren't `serve`
 abbrev pub AsksAnswer : List (List ℕ) → Type 0
 AsksAnswer words = (page_of words ≡ None) × (asks_to_serve words ≡ false)
 
--- no page, but to serve
+-- the arguments request no page, and are `serve`
 abbrev pub AsksService : List (List ℕ) → Type 0
 AsksService words = (page_of words ≡ None) × (asks_to_serve words ≡ true)

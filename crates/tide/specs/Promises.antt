@@ -1,4 +1,4 @@
--- What the program promises, whatever the objects are that it works on (this project).
+-- The promise of the program, over objects of any kind (this project).
 use Rattle.std.specs.Prelude.{◌≡◌, ◌⊎◌, ℕ, Bool, List, [], ◌∷◌, IsSome, IfSome}
 use Rattle.ical_sheet.specs.Calendars.{ical_sheet}
 use Rattle.report_sheets.specs.Listings.{first_sheet}
@@ -18,11 +18,11 @@ use Rattle.tide.specs.NoWords.{Given, HasWords, LacksWords, line_of, status_of}
 use Rattle.tide.specs.Pages.{AsksAnswer, AsksService, page_answer, page_of}
 use Rattle.tide.specs.declared.arguments.NoWords.{NoWords}
 
--- the sheets of a report, in their order, each with how many events it takes
+-- the sheets of a report, in their order, each with the greatest number of its events
 abbrev pub program_sheets : List SheetMeaning
 program_sheets = tally_sheet 1000000 ∷ range_sheet 1000000 ∷ first_sheet 10 ∷ ical_sheet 100000 ∷ []
 
--- all objects that the program works on
+-- the objects of the program
 pub record World (F D O E K : Type 0) : Type 0 where
   pub files : F
   pub door : D
@@ -30,6 +30,7 @@ pub record World (F D O E K : Type 0) : Type 0 where
   pub err : E
   pub clock : K
 
+-- such objects
 abbrev pub world : {F D O E K : Type 0} → F → D → O → E → K → World F D O E K
 world files door out err clock = record { files = files; door = door; out = out; err = err; clock = clock }
 
@@ -41,12 +42,13 @@ pub record WorldStates (F D O E K : Type 0) : Type 0 where
   pub err : E → SinkState
   pub clock : K → ClockState
 
+-- such states
 abbrev pub world_states : {F D O E K : Type 0} → (F → FilesState) → (D → DoorState) → (O → SinkState) → (E → SinkState) → (K → ClockState)
     → WorldStates F D O E K
 world_states files door out err clock = record { files = files; door = door; out = out; err = err; clock = clock }
 
--- The words ask for a page, for an answer, or to serve. A page is written without memory and touches nothing else, an answer leaves the
--- door as it is, and serving leaves `out`.
+-- The arguments request a page or an answer, or serve. A page is written without allocating and touches
+-- nothing else, an answer doesn't touch the port, and serving doesn't touch `out`.
 pub record RespondsAs {F D O E K : Type 0} (s : WorldStates F D O E K) (sheets : List SheetMeaning) (words : List (List ℕ)) (status : Status)
     (before after : World F D O E K) : Type 0 where
   pub page : IfSome (page_of words) (λ page. EndsAs (page_answer page) status
@@ -62,7 +64,7 @@ pub record RespondsAs {F D O E K : Type 0} (s : WorldStates F D O E K) (sheets :
 
 -- ---- The program's arguments
 
--- There are no words: one line on standard error and the status say why, and nothing else is touched.
+-- There are no arguments: one line on standard error and the status say why, and nothing else is touched.
 pub record RefusesAs {F D O E K : Type 0} (s : WorldStates F D O E K) (why : NoWords) (status : Status) (before after : World F D O E K)
     : Type 0 where
   pub says : status ≡ status_of why
@@ -73,7 +75,8 @@ pub record RefusesAs {F D O E K : Type 0} (s : WorldStates F D O E K) (why : NoW
   pub same_out : after.out ≡ before.out
   pub same_clock : after.clock ≡ before.clock
 
--- The program responds to the words of its arguments, with its own sheets for a report; or there are no words, or no memory for the sheets.
+-- The program responds to its arguments, with its own sheets for a report; or there are no arguments, or no
+-- memory for the sheets.
 abbrev pub AnswersArguments : {F D O E K A : Type 0} → WorldStates F D O E K → Given A → Status → World F D O E K → World F D O E K → Type 0
 AnswersArguments s arguments status before after =
     ((words : List (List ℕ)) × HasWords arguments words × RespondsAs s program_sheets words status before after)
@@ -81,7 +84,7 @@ AnswersArguments s arguments status before after =
 
 -- ---- The machine
 
--- nothing was done yet: no file opened, no byte accepted, the clock not read, and the door not asked to listen
+-- nothing was done yet: no file opened, no byte accepted, the clock not read, and the port not listened to
 pub record IsFresh {F D O E K : Type 0} (s : WorldStates F D O E K) (w : World F D O E K) : Type 0 where
   pub openings : (s.files w.files).openings ≡ no_openings
   pub reads : (s.files w.files).reads ≡ record { opens = 0; ends = 0; bytes = 0 }
@@ -96,8 +99,8 @@ pub record IsFresh {F D O E K : Type 0} (s : WorldStates F D O E K) (w : World F
   pub clock_read : (s.clock w.clock).asked ≡ 0
   pub clock_faults : (s.clock w.clock).faults ≡ 0
 
--- There are objects of these types, fresh before and as they were left after, over which the program answers its arguments. The two
--- that it writes to are over the streams that were passed.
+-- There are objects of these types, fresh before and as they are after, over which the program responds to
+-- its arguments. The two outputs are those over the streams that were passed.
 abbrev pub AnswersOver : {F D O E K A : Type 0} → WorldStates F D O E K → (O → Type 0) → (E → Type 0) → Given A → Status → Type 0
 AnswersOver {F} {D} {O} {E} {K} s is_out is_err arguments status =
     (before : World F D O E K) × (after : World F D O E K) × IsFresh s before × is_out before.out × is_err before.err

@@ -1,4 +1,4 @@
-//! The program's words.
+//! The arguments of the program.
 
 ghost use Rattle.std.specs.Prelude.{◌≡◌, ◌↔◌, Bool, IfOk, IfErr, map, drop, string_bytes};
 ghost use Rattle.std.specs.Vec.Iter.{into_iter_items};
@@ -13,15 +13,19 @@ use std::io::{self, ErrorKind};
 use tide_edge::Sink;
 use tide_fault::Status;
 
-/// Why the program has no words.
+/// A reason for which the program has no arguments.
 #[derive(Clone, Copy, Debug, PartialEq, Eq)]
 pub enum NoWords {
     /// One of them isn't UTF-8.
     NotText,
+    /// Memory ran out.
     NoMemory,
 }
 
-/// The words behind the program's name, by the arguments that the system gave, or why there are none.
+/// Returns the arguments after the program's name, from those of the system.
+///
+/// # Errors
+/// [`NoWords::NotText`] if one isn't UTF-8, and [`NoWords::NoMemory`] if memory runs out.
 pub fn words_from(alloc: Global, arguments: io::Result<Args>) -> Result<Words, NoWords>
     ensures words { IfOk result (HasWords arguments) }
     ensures refused { IfErr result (LacksWords arguments) }
@@ -32,7 +36,7 @@ pub fn words_from(alloc: Global, arguments: io::Result<Args>) -> Result<Words, N
     }
 }
 
-// Why the system gave no arguments.
+// Returns the reason for which the system has no arguments.
 fn why_of(kind: ErrorKind) -> NoWords
     ensures { (result ≡ NoWords.NoMemory) ↔ (kind ≡ ErrorKind.OutOfMemory) }
 {
@@ -42,7 +46,7 @@ fn why_of(kind: ErrorKind) -> NoWords
     }
 }
 
-/// The words behind the program's name, all of them and in their order.
+/// Returns the arguments after the program's name, all of them and in their order.
 pub fn words_of(alloc: Global, mut arguments: Args) -> Result<Words, AllocError>
     ensures { IfOk result (λ words. words ≡ map string_bytes (drop 1 (into_iter_items arguments))) }
 {
@@ -54,7 +58,7 @@ pub fn words_of(alloc: Global, mut arguments: Args) -> Result<Words, AllocError>
     Ok(Words::from_vec(words))
 }
 
-/// Writes why there are no words, and returns the status that goes with it.
+/// Writes the line of the reason `why`, and returns its exit status.
 pub fn tell_no_words<E: Sink>(why: NoWords, err: &mut E) -> Status
     ensures status { result ≡ status_of why }
     ensures line { (failed : Bool) × Wrote (E.state err.old) (E.state err.new) failed (line_of why) }

@@ -1,4 +1,4 @@
-//! What the program does with its arguments.
+//! The program over its arguments.
 
 ghost use Rattle.std.specs.Prelude.{◌≡◌, None};
 ghost use Rattle.tide.specs.Promises.{AnswersArguments, world, world_states};
@@ -11,8 +11,9 @@ use std::io;
 use tide_edge::{Clock, Door, Files, Sink};
 use tide_fault::Status;
 
-/// Responds to the words of the arguments, with the program's sheets for a report, over the objects that are passed and no
-/// others; or writes to `err` why there are no words.
+/// Responds to `arguments`, with the program's sheets for a report, over the objects that are
+/// passed and no others; or writes to `err` the reason for which there are no arguments. Returns
+/// the exit status, 0 to 8.
 pub fn respond_to<F: Files, D: Door, O: Sink, E: Sink, K: Clock>(
     alloc: Global,
     arguments: io::Result<Args>,

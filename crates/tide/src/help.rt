@@ -1,4 +1,4 @@
-//! What the program tells of itself.
+//! The pages of help and of the version.
 
 ghost use Rattle.std.specs.Prelude.{◌≡◌};
 ghost use Rattle.std.specs.List.{list_any};
@@ -6,6 +6,7 @@ ghost use Rattle.tide.specs.Pages.{asks_for_help, asks_for_version, asks_to_serv
 
 use decimal_text::{Text, Words};
 
+/// The page of help.
 const HELP: &str = "\
 Predicts tides and tidal currents at a station, from harmonic constants.
 
@@ -58,9 +59,10 @@ One line on standard error says why.
 NOT FOR NAVIGATION.
 ";
 
+/// The page of the version.
 const VERSION: &str = "tide 1.0.0\n";
 
-/// A page that the program tells of itself.
+/// A page about the program itself.
 #[derive(Clone, Copy, Debug, PartialEq, Eq)]
 pub enum Page {
     Help,
@@ -68,6 +70,7 @@ pub enum Page {
 }
 
 impl Page {
+    /// Returns the text of the page.
     pub fn text(self) -> &'static str
         ensures { result.now ≡ page_text self }
     {
@@ -78,8 +81,9 @@ impl Page {
     }
 }
 
-/// The page that the words ask for: that of help where any of them is `-h` or `--help`, else that of
-/// the version where the first is `-V` or `--version`. No other words ask for one.
+/// Returns the page that the arguments `words` request: help if any of them is `-h` or `--help`,
+/// and otherwise the version if the first is `-V` or `--version`. Returns `None` for all other
+/// arguments.
 pub fn page_asked(words: &Words) -> Option<Page>
     ensures { result ≡ page_of words.now }
 {
@@ -92,12 +96,14 @@ pub fn page_asked(words: &Words) -> Option<Page>
     }
 }
 
+/// Returns true if one of `words` is `-h` or `--help`.
 fn any_asks_for_help(words: &[Text]) -> bool
     ensures { result ≡ list_any asks_for_help words.now }
 {
     words.iter().any(|word| asks_for_help(word))
 }
 
+/// Returns true if the first of `words` is `-V` or `--version`.
 fn first_asks_for_version(words: &Words) -> bool
     ensures { result ≡ first_asks_for_version words.now }
 {
@@ -107,19 +113,21 @@ fn first_asks_for_version(words: &Words) -> bool
     }
 }
 
+/// Returns true if `word` is `-h` or `--help`.
 fn asks_for_help(word: &Text) -> bool
     ensures { result ≡ asks_for_help word.now }
 {
     matches!(word.as_str(), "-h" | "--help")
 }
 
+/// Returns true if `word` is `-V` or `--version`.
 fn asks_for_version(word: &Text) -> bool
     ensures { result ≡ asks_for_version word.now }
 {
     matches!(word.as_str(), "-V" | "--version")
 }
 
-/// Whether the first word asks to serve.
+/// Returns true if the first of `words` is `serve`.
 pub fn asks_to_serve(words: &Words) -> bool
     ensures { result ≡ asks_to_serve words.now }
 {

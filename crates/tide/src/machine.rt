@@ -1,4 +1,4 @@
-//! What the program does on the machine.
+//! The program over the objects of a machine.
 
 ghost use Rattle.std.specs.Prelude.{◌≡◌};
 ghost use Rattle.tide_edge.specs.Adapters.{writer_of};
@@ -12,7 +12,8 @@ use std::rt;
 use tide_edge::{Clock, Door, Files, HostClock, HostDoor, HostFiles, HostSink, Sink};
 use tide_fault::Status;
 
-/// Responds to the arguments over the files, the port and the clock of a machine, and over the streams `out` and `err`.
+/// Responds to `arguments` over the files, the port and the clock of `machine`, and over the
+/// streams `out` and `err`. Returns the exit status, 0 to 8.
 pub fn respond_here<R, W, V>(machine: R, arguments: io::Result<Args>, out: W, err: V) -> Status
 where
     R: rt::Files + rt::Clock + Net + AllocGlobal + Copy + Drop,

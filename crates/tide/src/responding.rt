@@ -1,4 +1,4 @@
-//! What the program does with its words.
+//! The program over its arguments as text.
 
 ghost use Rattle.std.specs.Prelude.{◌≡◌, None, map};
 ghost use Rattle.tide_desk.specs.Outcomes.{EndsAs, outputs};
@@ -16,9 +16,10 @@ use tide_edge::{Clock, Door, Files, Sink, write_all};
 use tide_fault::Status;
 use tide_server::serve;
 
-/// Writes the page that the words ask for, or serves where they ask for that, or else answers them, over
-/// the objects that are passed and no others. The sheets are those of a report. A page touches neither
-/// files nor door nor clock and allocates nothing; an answer leaves the door as it is, and serving leaves `out`.
+/// Writes the page that the arguments `words` request, or serves if their command is `serve`, or
+/// otherwise answers them, over the objects that are passed and no others; `sheets` are those of a
+/// report. Returns the exit status, 0 to 8. A page doesn't touch files, port or clock and doesn't
+/// allocate; an answer doesn't touch the port, and serving doesn't touch `out`.
 pub fn respond<F: Files, D: Door, O: Sink, E: Sink, K: Clock>(
     alloc: Global,
     words: &Words,
@@ -40,6 +41,7 @@ pub fn respond<F: Files, D: Door, O: Sink, E: Sink, K: Clock>(
     }
 }
 
+/// Writes `page` to `out`, and returns the exit status.
 fn write_page<O: Sink, E: Sink>(page: Page, out: &mut O, err: &mut E) -> Status
     ensures ends { EndsAs (page_answer page) result
         (outputs (O.state out.old) (E.state err.old)) (outputs (O.state out.new) (E.state err.new)) }

@@ -1,4 +1,4 @@
-//! The sheets of a report, and what the program does with its words and these.
+//! The program with its sheets of a report.
 
 ghost use Rattle.std.specs.Prelude.{◌≡◌, None, IfOk, OnErr};
 ghost use Rattle.tide.specs.Promises.{RespondsAs, program_sheets, world, world_states};
@@ -11,19 +11,20 @@ use std::alloc::{AllocError, Global};
 use tide_edge::{Clock, Door, Files, Sink};
 use tide_fault::Status;
 
-/// How many events the sheets `tally` and `range` take.
+/// The greatest number of events of the sheets `tally` and `range`.
 const MOST_COUNTED: u32 = 1_000_000;
 
-/// How many events the sheet `first` takes.
+/// The greatest number of events of the sheet `first`.
 const MOST_FIRST: u32 = 10;
 
-/// How many events the sheet `ical` takes.
+/// The greatest number of events of the sheet `ical`.
 const MOST_IN_CALENDAR: u32 = 100_000;
 
-/// Responds to the words as [`respond`] does, with the sheets `tally`, `range`, `first` and `ical`.
+/// Responds to the arguments `words` as [`respond`], with the sheets `tally`, `range`, `first` and
+/// `ical`.
 ///
 /// # Errors
-/// [`AllocError`] if the sheets couldn't be made; nothing was touched then.
+/// [`AllocError`] if memory for the sheets ran out: then nothing was touched.
 pub fn respond_with_sheets<F: Files, D: Door, O: Sink, E: Sink, K: Clock>(
     alloc: Global,
     words: &Words,

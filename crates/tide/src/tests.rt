@@ -1,4 +1,4 @@
-//! What the program does with words, over objects in memory.
+//! Tests of the program over objects in memory.
 
 ghost use Rattle.std.specs.Prelude.{IsTrue, IfOk};
 ghost use Rattle.std.specs.List.{list_all};
@@ -27,7 +27,7 @@ const REQUEST: &str = "GET /stations HTTP/1.1\r\nHost: a\r\n\r\n";
 const REPLY: &str =
     "HTTP/1.1 200 OK\r\nContent-Type: text/plain; charset=utf-8\r\nContent-Length: 14\r\nConnection: close\r\n\r\nRef feet Pier\n";
 
-/// What was left of the objects that the program was handed.
+/// The objects of the program after a run.
 #[derive(Drop)]
 struct Left {
     status: Status,
@@ -69,7 +69,7 @@ fn request_of(alloc: Global) -> Result<Vec<Vec<Bytes>>, AllocError>
     Ok(requests)
 }
 
-/// What the program does with the words of a line, parted by '|', at 2000-01-10T03:00Z.
+/// Responds to the arguments in `line`, which are separated by '|', at 2000-01-10T03:00Z.
 fn responded(alloc: Global, line: &str) -> Result<Left, AllocError> {
     let words = words_of(alloc, line)?;
     let mut files = files_of(alloc)?;
@@ -95,7 +95,7 @@ fn responded(alloc: Global, line: &str) -> Result<Left, AllocError> {
     })
 }
 
-/// Words that don't ask to serve, and how their answer begins.
+/// Command lines other than `serve`, and the prefixes of their answers.
 const ANSWERED: &[(&str, &str)] = &[
     (
         "predict|file=pier.txt|station=Pier|begin=2000-01-10T00:00Z|end=2000-01-11T00:00Z",

@@ -1,4 +1,4 @@
--- What the answer to a question comes to by its steps.
+-- The answer to a request, from its steps.
 use Rattle.std.proofs.Common.{◌≡◌, ℕ, ℤ, false, List, Some, Ok, ◌≤◌, unsigned_abs, refl, arith}
 use Rattle.std.proofs.lemmas.Int.{ints}
 use Rattle.calendar_sheet.specs.Calendars.{calendar_text_of}
@@ -38,13 +38,13 @@ unfolding listed
 listed_whole book table question name asked site found named spans expected list =
     rw (named, spans, expected, list.units, list.events) refl
 
--- ---- what is known of a station
+-- ---- the facts of a station
 
 pub known_whole : (book : Book) (table : List Offsets) (name : List ℕ) (found : Known) → (is : IsKnown book (station_in book table name) found) → agreement_of found.curve ≡ predicted_agreement book is.site.station → known book table name ≡ Ok (text_alone (about_text_of name found.station.now.name found.station.now.units (constituent_count found.station.now) (agreement_of found.curve)))
 unfolding known
 known_whole book table name found is agrees = rw (is.is, is.station, agrees) refl
 
--- ---- what a question asks is near
+-- ---- the span and the mark of a request are in range
 
 pub moment_near : (m : ℤ) → IsMoment m → unsigned_abs m ≤ 20000000000
 moment_near m is =

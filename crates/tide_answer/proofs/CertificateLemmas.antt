@@ -1,4 +1,4 @@
--- The certificate that is written of a station's tracks.
+-- The certificate of a station's tracks.
 use Rattle.std.proofs.Common.{◌≡◌, ℕ, ◌^◌, ◌<◌, ◌≤◌, ℤ, Bool, true, false, List, [], length, Option, Some, None, is_some, option_map, Ok, All, refl, inr, arith}
 use Rattle.std.specs.Prelude.{unsigned_abs, IfSome, unwrap_or}
 use Rattle.std.specs.Option.{ForSome}
@@ -39,12 +39,12 @@ use Rattle.station_cells.proofs.CellLemmas.{IsOf, accepted_track, few_track, usu
 use Rattle.station_span.proofs.FollowLemmas.{ready_known, few_cells}
 use Rattle.station_span.proofs.MovableLemmas.{millionths_small}
 
--- ---- how many cells
+-- ---- the number of cells
 
 pub tracks_few : (asked : Asked) (found : SiteTide) (tracks : Tracks) → IsReady asked found → tracks ≡ covers_of (followed_tide Second found asked.mark) (widened_of found.basis asked.begin asked.end) → cells_in tracks < 2 ^ 64
 tracks_few asked found tracks ready same = rw same (few_cells asked found ready)
 
--- ---- the parts lie within their ranges
+-- ---- the parts are within their ranges
 
 if_some : (P : ℤ → Type 0) (o : Option ℤ) → ForSome o P → IfSome o P
 if_some P (Some x) holds = holds x refl
@@ -79,7 +79,7 @@ followed_of version found mark gentle = record {
   mark = of_if_marked mark _ (λ level. of_notes Mark found.curve _ gentle refl refl refl refl refl);
 }
 
--- what an accepted track says, one that may be left out says where it is there
+-- a fact of an accepted track holds of one that may be absent
 track_if : (P : List Cell → Type 0) (track : TrackName) (s : Span) (curve : Option Meaning) (cells : Option (List Cell)) → ((c : Meaning) (cells : List Cell) → IsOf track c → IsSpan c s.begin (minutes_in s) → verdict c s.begin (minutes_in s) cells ≡ Accepted → P cells) → ForSome curve (IsOf track) → ForSome curve (IsKnown s) → IsAccepted s curve cells → IfSome cells P
 track_if P track s None None each of known accepted = tt
 track_if P track s None (Some cells) each of known accepted = absurd accepted
@@ -131,7 +131,7 @@ accepted_usual version asked found c ready accepted =
       crossings = track_usual Mark s f.mark c.tracks.mark of.mark known.mark accepted.mark;
     }
 
--- the longest span, and a day at both ends
+-- the number of minutes of the longest span with a day at both ends
 pub looked_few : (asked : Asked) (found : SiteTide) → IsReady asked found → minutes_in (widened_of found.basis asked.begin asked.end) ≤ 5273280
 looked_few asked found ready =
     let few = ready.few in

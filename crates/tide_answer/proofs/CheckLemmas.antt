@@ -1,4 +1,4 @@
--- What is found on a certificate that is read, and what follows where nothing is wrong.
+-- The check of a certificate that was read, and the consequences of no fault.
 use Rattle.std.proofs.Common.{◌≡◌, ℕ, ◌+◌, ◌^◌, ◌<◌, ◌≤◌, ℤ, pos, Bool, true, false, List, [], ◌∷◌, ◌++◌, map, length, length-append, Option, Some, None, is_some, option_map, Result, Ok, Err, All, refl, sym, subst, ap, ◌∙◌, arith}
 use Rattle.std.specs.Prelude.{unsigned_abs, IfOk, IfSome, flat_map, option_to_list}
 use Rattle.std.specs.Option.{ForSome}
@@ -92,9 +92,9 @@ few_read c bytes text few =
       mark = fewer c.tracks.mark MOST_BYTES (omega arith) (there_long Mark c.tracks.mark MOST_BYTES (omega arith));
     }
 
--- ---- nothing is wrong
+-- ---- no fault
 
--- what is wrong first by the tide that was found
+-- the first fault by the tide that was found
 abbrev pub tide_rejection : SiteTide → Certificate → Option Rejection
 tide_rejection found cert =
     rejection_of (followed_tide (version_of cert) found cert.mark) (widened_of found.basis cert.begin cert.end) cert.tracks
@@ -116,7 +116,7 @@ ready_short found cert ready sound none =
     tracks_short (followed_tide (version_of cert) found cert.mark) (widened_of found.basis cert.begin cert.end) cert.tracks
     (omega (arith, looked_few (asked_in cert) found ready)) (tide_accepted found cert sound none)
 
--- what a step gives is another name's
+-- the result of a step under another name
 pub ok_same : (A E : Type 0) (r : Result A E) (x y : A) → x ≡ y → IfOk r (λ v. v ≡ x) → IfOk r (λ v. v ≡ y)
 ok_same A E (Ok v) x y same is = is ∙ same
 ok_same A E (Err fault) x y same is = tt
@@ -158,7 +158,7 @@ accepted_events found cert ready sound none =
     (ready_known (version_of cert) (asked_in cert) found ready) (tide_accepted found cert sound none)
     ∙ one_list (version_of cert) found cert.mark cert.begin cert.end
 
--- ---- what is asked
+-- ---- the station, the span and the mark
 
 marks_near : (mark : Option ℤ) → IfSome mark IsMark → ForSome mark (λ level. unsigned_abs level ≤ 10000000000)
 marks_near (Some level) is x e = let same : level ≡ x = cc in rw (← same) is
@@ -185,7 +185,7 @@ pub judged_refused : (memory : Bool) (book : Book) (table : List Offsets) (cert 
 unfolding judged_in
 judged_refused memory book table cert zone refusal excused = excused_then memory _ _ refusal excused
 
--- where the bytes are no certificate's, and where they are one's
+-- the bytes are no certificate's, or they are one's
 pub read_refused : (book : Book) (table : List Offsets) (bytes : List ℕ) (zone : Zone) (fault : CertFault) → Excused (wants_memory fault) (certificate_of bytes) fault → Excused (wants_memory_of_refusal (refusal_of_cert fault)) (checked book table bytes zone) (refusal_of_cert fault)
 unfolding checked
 read_refused book table bytes zone NoMemory excused = tt
@@ -195,7 +195,7 @@ pub checked_by : (book : Book) (table : List Offsets) (bytes : List ℕ) (zone :
 unfolding checked judged_in
 checked_by book table bytes zone cert is = rw is refl
 
--- ---- of a station that was found
+-- ---- a station that was found
 
 found_in : (found : Found) (cert : Certificate) → found.reach ≡ Events → found.asked ≡ asked_in cert → IsFound Events found.origin.book (asked_in cert) (site_of found) (tide_of_found found)
 found_in found cert reach same = subst (λ a. IsFound Events found.origin.book a (site_of found) (tide_of_found found)) same (found_for found Events reach)
@@ -203,7 +203,7 @@ found_in found cert reach same = subst (λ a. IsFound Events found.origin.book a
 ready_in : (found : Found) (cert : Certificate) → found.reach ≡ Events → found.asked ≡ asked_in cert → IsReady (asked_in cert) (tide_of_found found)
 ready_in found cert reach same = ready_of_found found.origin.book (asked_in cert) (site_of found) (tide_of_found found) (found_in found cert reach same)
 
--- what is wrong by its tide is what is wrong
+-- the first fault by the tide is the first fault
 pub rejection_for : (found : Found) (cert : Certificate) → found.reach ≡ Events → found.asked ≡ asked_in cert → tide_rejection (tide_of_found found) cert ≡ rejection_in found.origin.book (site_of found) cert
 rejection_for found cert reach same = site_rejection found.origin.book cert (site_of found) (tide_of_found found) (found_in found cert reach same)
 

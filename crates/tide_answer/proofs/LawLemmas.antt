@@ -1,4 +1,5 @@
--- What certificates come to: what is accepted is true and short, and what is certified is accepted and short.
+-- The laws of certificates: what is accepted is true and short, and what is certified is accepted and
+-- short.
 use Rattle.std.proofs.Common.{◌≡◌, ◌<◌, ◌≤◌, ℕ, ℤ, pos, Bool, true, false, List, length, Option, Some, None, is_some, option_map, Result, Ok, Err, refl, sym, subst, ap, ◌∙◌}
 use Rattle.std.specs.Option.{ForSome}
 use Rattle.cert_text.specs.declared.certificate.Certificate.{Certificate}
@@ -47,7 +48,7 @@ use Rattle.station_span.proofs.FollowLemmas.{found_alike, ready_known, ready_of_
 use Rattle.station_span.proofs.NameLemmas.{site_name}
 use Rattle.station_span.proofs.SiteLemmas.{found_at, found_of_site, then_ok}
 
--- ---- tracks that are accepted tell the events
+-- ---- accepted tracks have exactly the events
 
 known_tells : (s : Span) (curve : Option Meaning) (cells : Option (List Cell)) → ForSome curve (IsKnown s) → IsAccepted s curve cells → TellsTrack s curve cells
 known_tells s None None known ok = tt

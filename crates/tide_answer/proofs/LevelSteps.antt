@@ -1,4 +1,4 @@
--- What the steps of a list of levels come to, and those of a station's clock.
+-- The results of the steps of a list of levels, and of those of a station's clock.
 use Rattle.std.proofs.Common.{◌≡◌, ℕ, ℤ, Bool, false, List, Ok, refl}
 use Rattle.decimal_text.specs.Expected.{Excused}
 use Rattle.harmonics_text.specs.declared.book.Book.{Book}
@@ -20,26 +20,26 @@ use Rattle.tide_answer.specs.Asking.{asked_from}
 
 -- ---- a list of levels
 
--- where the number of its rows is refused
+-- the number of rows is refused
 pub refused_rows : (memory : Bool) (book : Book) (table : List Offsets) (name : List ℕ) (asked : Asked) (step : ℤ) (layout : Layout) (zone : Zone) (site : Site) (refusal : Refusal) → site_in Levels book table name asked ≡ Ok site → level_in site.basis ≡ Ok tt → Excused memory (rows_in asked.begin asked.end step) refusal → Excused memory (heights book table name asked step layout zone) refusal
 unfolding heights
 refused_rows memory book table name asked step layout zone site refusal expected level excused =
     rw (expected, level) (excused_then memory (rows_in asked.begin asked.end step) _ refusal excused)
 
--- where nothing is
+-- nothing is refused
 pub whole_list : (book : Book) (table : List Offsets) (name : List ℕ) (asked : Asked) (step : ℤ) (layout : Layout) (zone : Zone) (site : Site) (rows : List Row) → site_in Levels book table name asked ≡ Ok site → level_in site.basis ≡ Ok tt → rows_in asked.begin asked.end step ≡ Ok tt → rows ≡ rows_of book site asked.begin asked.end step → heights book table name asked step layout zone ≡ Ok (text_alone (heights_text layout name site.station.units rows zone))
 unfolding heights
 whole_list book table name asked step layout zone site rows expected level few are = rw (expected, level, few, are) refl
 
 -- ---- a clock
 
--- where a level is refused
+-- a level is refused
 pub refused_level : (memory : Bool) (book : Book) (table : List Offsets) (name : List ℕ) (now : ℤ) (zone : Zone) (site : Site) (refusal : Refusal) → site_in Events book table name (asked_from now) ≡ Ok site → Excused memory (level_in site.basis) refusal → Excused memory (on_clock book table name now zone) refusal
 unfolding on_clock
 refused_level memory book table name now zone site refusal expected excused =
     rw expected (excused_then memory (level_in site.basis) _ refusal excused)
 
--- where nothing is
+-- nothing is refused
 pub whole_clock : (book : Book) (table : List Offsets) (name : List ℕ) (now : ℤ) (zone : Zone) (site : Site) (listed : FoundEvents) → site_in Events book table name (asked_from now) ≡ Ok site → level_in site.basis ≡ Ok tt → IsSiteList book (asked_from now) site listed → on_clock book table name now zone ≡ Ok (record { text = clock_text_of name site.station.units now (level_at book site now) (is_rising_at book site now) listed.events zone; rejected = false; cells = listed.cells })
 unfolding on_clock
 whole_clock book table name now zone site listed expected level list = rw (expected, level, list.events, list.cells) refl

@@ -1,4 +1,5 @@
--- What certificates of a highest water come to: what is accepted is true and short, and what is certified is accepted and short.
+-- The laws of certificates of a highest water: what is accepted is true and short, and what is certified is
+-- accepted and short.
 use Rattle.std.proofs.Common.{◌≡◌, ◌<◌, ◌≤◌, ℕ, ℤ, pos, ◌+ℤ◌, ◌-ℤ◌, ◌*ℤ◌, ◌≤ℤ◌, ◌<ℤ◌, false, List, length, None, Result, Ok, Err, refl, sym, subst, ap, ◌∙◌, arith}
 use Rattle.std.proofs.lemmas.Int.{ints}
 use Rattle.harmonics_text.specs.declared.book.Book.{Book}
@@ -38,7 +39,7 @@ use Rattle.tide_answer.proofs.PeakLemmas.{peak_near}
 
 -- ---- the highest water, by the reference's level
 
--- against no mark
+-- the level without a mark
 level_alone : (level : ℤ) → over_mark (pos 1000000) (pos 0) (pos 0) level ≡ pos 1000000 *ℤ level
 level_alone level = omega (arith, ints)
 
@@ -76,7 +77,7 @@ highest_water book site asked at value offset some peak =
           (rw here (greatest (minute -ℤ add) (record { from = omega (arith, ints); before = omega (arith, ints) })));
     }
 
--- ---- what a question is told
+-- ---- the answer of `highest`
 
 highest_offset : (book : Book) (table : List Offsets) (name : List ℕ) (asked : Asked) (site : Site) → IsTable table → highest_site book table name asked ≡ Ok site → IsOffset site.basis.high
 highest_offset book table name asked site rows is =

@@ -1,4 +1,4 @@
--- What the answers of a highest water come to: its text, the certificate that is written, and one that is read.
+-- The answers about a highest water: its listing, its certificate, and the check of one that was read.
 use Rattle.std.proofs.Common.{◌≡◌, ℕ, ◌+◌, ◌<◌, ◌≤◌, ◌^◌, List, [], ◌∷◌, map, length, length-append, Ok, refl, sym, ap, ◌∙◌, arith}
 use Rattle.std.proofs.lemmas.List.{length-map}
 use Rattle.cert_text.specs.Certificates.{IsStationName}
@@ -24,9 +24,9 @@ use Rattle.tide_answer.specs.Workings.Peaks.{peak_certificate_in, peak_judged_in
 use Rattle.tide_answer.proofs.AnswerLemmas.{moment_near}
 use Rattle.tide_answer.proofs.CheckLemmas.{lines_long}
 
--- ---- the certificate that is written
+-- ---- the certificate
 
--- the parts of one that is found lie within their ranges
+-- the parts of a highest water that is found are within their ranges
 pub certificate_sound : (name : List ℕ) (found : Found) (peak : Peak) → IsStationName name → AreMoments found.asked → HasPeak found → peak ≡ highest_of found.origin.book (site_of found) found.asked → IsPeakCertificate (peak_certificate_in name found.asked peak)
 certificate_sound name found peak named moments has same =
     let tide = tide_of_found found in
@@ -34,7 +34,7 @@ certificate_sound name found peak named moments has same =
     let found_peak : peak ≡ tide_peak tide found.asked = same ∙ sym (peak_for found has) in
     accepted_certificate name found.asked tide peak named moments found.sound.gentle highest (rw found_peak (tide_peak_accepted tide found.asked highest))
 
--- ---- a certificate that is read
+-- ---- a certificate that was read
 
 pub peak_near : (cert : PeakCertificate) → IsPeakCertificate cert → IsNear (asked_of_peak cert)
 peak_near cert sound = record {

@@ -1,4 +1,4 @@
--- What is ready for a question by its steps.
+-- The source of an answer, from the steps of its request.
 use Rattle.std.proofs.Common.{◌≡◌, ℕ, Bool, true, false, ◌&&◌, if◌then◌else◌, IsTrue, List, Option, Some, None, Ok, Err, refl}
 use Rattle.decimal_text.specs.Expected.{◌>>=◌, Excused}
 use Rattle.harmonics_text.specs.declared.book.Book.{Book}
@@ -22,7 +22,7 @@ use Rattle.tide_answer.specs.Streams.{can_stream, prepared, streams_by}
 use Rattle.tide_answer.specs.Workings.Streaming.{form_of, stream_answer}
 use Rattle.station_span.proofs.FoundLemmas.{excused_then}
 
--- where the name is missing
+-- the name is missing
 pub refused_station : (command : Command) (book : Book) (table : List Offsets) (question : Question) (given : Given) (refusal : Refusal) → question.command ≡ command → IsTrue (can_stream command) → named_by question.station ≡ Err refusal → prepared book table question given ≡ Err refusal
 unfolding prepared answered asks_span
 refused_station Predict book table question given refusal is can name = rw (is, name) refl
@@ -43,14 +43,14 @@ refused_site Certify memory book table question given text asked refusal is can 
     rw (is, name, span) (excused_then memory (site_in Events book table text asked >>= _) _ refusal (excused_then memory (site_in Events book table text asked) _ refusal excused))
 refused_site _ memory book table question given text asked refusal is can name span excused = absurd (let no = can in cc)
 
--- where it doesn't stream
+-- the answer isn't streamed
 pub ready_none : (command : Command) (book : Book) (table : List Offsets) (question : Question) (given : Given) (text : List ℕ) (asked : Asked) (site : Site) → question.command ≡ command → IsTrue (can_stream command) → named_by question.station ≡ Ok text → named_by (asked_by question) ≡ Ok asked → site_in Events book table text asked ≡ Ok site → streams_by site.basis question.layout given.zone ≡ false → prepared book table question given ≡ Ok (record { stream = None })
 unfolding prepared answered asks_span asked_by predicted certified
 ready_none Predict book table question given text asked site is can name span found streams = rw (is, name, span, found, streams) refl
 ready_none Certify book table question given text asked site is can name span found streams = rw (is, name, span, found, streams) refl
 ready_none _ book table question given text asked site is can name span found streams = absurd (let no = can in cc)
 
--- where it does
+-- the answer is streamed
 both : (a b : Bool) → (a && b) ≡ true → (a ≡ true) × (b ≡ true)
 both true true h = (refl, refl)
 both true false h = (refl, h)
@@ -64,7 +64,7 @@ ready_some Predict Csv book table question given text asked site is lay can name
 ready_some Certify layout book table question given text asked site is lay can name span at streams = rw (is, lay, name, span, at, streams) refl
 ready_some _ layout book table question given text asked site is lay can name span at streams = absurd (let no = can in cc)
 
--- the zone that an answer streams by
+-- the zone of a streamed answer
 pub zone_some : (streams : Bool) (zone given : Zone) → Some zone ≡ (if streams then Some given else None) → (streams ≡ true) × (zone ≡ given)
 zone_some true zone given is = (refl, cc)
 zone_some false zone given is = absurd cc

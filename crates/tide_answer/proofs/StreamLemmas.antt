@@ -1,4 +1,4 @@
--- How much there is to write of a station's tide, and that it can be written.
+-- The size of a station's listing and certificate, and that they can be written.
 use Rattle.std.proofs.Common.{◌≡◌, ℕ, ◌+◌, ◌*◌, ◌^◌, ◌<◌, ◌≤◌, ℤ, pos, ◌+ℤ◌, List, [], ◌∷◌, ◌++◌, length, Option, Some, None, All, refl, sym, ap, ◌∙◌, arith, append-nil, append_assoc}
 use Rattle.std.specs.Prelude.{codes, unsigned_abs, sum_by, flat_map, option_to_list, IfSome}
 use Rattle.std.specs.Option.{ForSome}

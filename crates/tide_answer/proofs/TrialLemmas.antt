@@ -1,4 +1,4 @@
--- What is counted of what was found at a station.
+-- The counts of a station that was found.
 use Rattle.std.proofs.Common.{◌≡◌, ℕ, ◌+◌, ◌*◌, ◌^◌, ◌<◌, ◌≤◌, Bool, List, [], length, get_or, drop, Option, Some, None, Ok, refl, arith}
 use Rattle.std.proofs.lemmas.Int.{ints}
 use Rattle.std.proofs.lemmas.List.{drop_more, drop_all}
@@ -32,7 +32,7 @@ pub station_whole : (book : Book) (name : List ℕ) (site : Site) (span : Span) 
 unfolding station_tally tally_at
 station_whole book name site span tracks events rejection expected looked covers list judged = rw (expected, looked, list, judged, covers) refl
 
--- ---- how many cells a station's tracks have
+-- ---- the number of cells of a station's tracks
 
 parts_few : (turn : List Cell) (slack mark : Option (List Cell)) → cells_in (record { turn = turn; slack = slack; mark = mark }) < 2 ^ 32 → HasFewCells (record { turn = turn; slack = slack; mark = mark })
 unfolding cells_in

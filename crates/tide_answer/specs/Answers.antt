@@ -1,4 +1,4 @@
--- The answer to a question over a book of harmonic constants and a table of offsets (this project).
+-- The answer to a request over harmonic constants and a table of offsets (this project).
 use Rattle.std.specs.Prelude.{ℕ, ◌+◌, ◌/◌, ℤ, pos, ◌+ℤ◌, ◌-ℤ◌, ◌*ℤ◌, nat_lt, unsigned_abs, true, false, not, ◌==◌, if◌then◌else◌, List, ◌++◌, count_by, map, codes, Option, Some, None, Result, Ok, Err}
 use Rattle.std.specs.List.{range_with_len}
 use Rattle.std.specs.Option.{ok_or}
@@ -56,33 +56,36 @@ use Rattle.station_span.specs.Peaks.{highest_of, highest_site, highest_verdict}
 use Rattle.station_span.specs.Sites.{Site, site_in, station_in}
 use Rattle.tide_answer.specs.Trials.{trial_of}
 
--- a text for which no cells are counted
+-- an answer without a count of cells
 abbrev pub text_alone : List ℕ → Answer
 text_alone text = record { text = text; rejected = false; cells = 0 }
 
--- a text of events, with the cells of the curves that they come from
+-- an answer that lists events, with the number of cells of their curves
 abbrev pub text_of_events : Book → Site → Asked → List ℕ → Answer
 text_of_events book site asked text = record { text = text; rejected = false; cells = cells_of book site asked }
 
--- the word that accepts a certificate, and what follows of it
+-- the answer that accepts a certificate: the line `Accepted`, and what follows it
 abbrev pub text_accepted : List ℕ → Answer
 text_accepted told = text_alone (codes "Accepted\n" ++ told)
 
--- the line of what is wrong with one
+-- the answer that rejects a certificate with the line of its first fault
 abbrev pub text_rejected : List ℕ → Answer
 text_rejected line = record { text = line; rejected = true; cells = 0 }
 
 -- ---- events
 
+-- the text of events in a layout
 abbrev pub events_text : Layout → List ℕ → Units → List Event → Zone → List ℕ
 events_text Plain name units events zone = plain_events_of name units events zone
 events_text Csv name units events zone = csv_events_of name units events zone
 
+-- the answer of `predict`
 unfoldable pub predicted : Book → List Offsets → List ℕ → Asked → Layout → Zone → Result Answer Refusal
 predicted book table name asked layout zone = do
   site ← site_in Events book table name asked
   Ok (text_of_events book site asked (events_text layout name site.station.units (events_of book site asked) zone))
 
+-- the answer of `calendar`
 unfoldable pub on_calendar : Book → List Offsets → List ℕ → Asked → Zone → Result Answer Refusal
 on_calendar book table name asked zone = do
   site ← site_in Events book table name asked
@@ -91,7 +94,7 @@ on_calendar book table name asked zone = do
 
 -- ---- certificates
 
--- the certificate of a station's events: the cells of the second version
+-- the certificate of a station's events: the cells of version 2
 abbrev pub certificate_by : Book → Site → List ℕ → Asked → Certificate
 certificate_by book site name asked = record {
   version = 2;
@@ -102,24 +105,28 @@ certificate_by book site name asked = record {
   tracks = tracks_of book site asked;
 }
 
+-- the answer of `certify`
 unfoldable pub certified : Book → List Offsets → List ℕ → Asked → Result Answer Refusal
 certified book table name asked = do
   site ← site_in Events book table name asked
   Ok (text_of_events book site asked (certificate_text (certificate_by book site name asked)))
 
+-- the certificate of a text, or the refusal
 abbrev pub certificate_from : Result Certificate CertFault → Result Certificate Refusal
 certificate_from (Ok cert) = Ok cert
 certificate_from (Err fault) = Err (refusal_of_cert fault)
 
+-- the version of the rates by which a certificate is checked
 abbrev pub version_of : Certificate → Version
 version_of cert = if cert.version == 1 then First else Second
 
--- a valid certificate is accepted, and the events follow that its own question has
+-- the answer to a certificate: if it is valid, `Accepted` and the events of its own station, span and mark
 abbrev pub judged : Book → Site → Certificate → Zone → Option Rejection → Answer
 judged book site cert zone None =
     text_accepted (plain_events_of cert.station site.station.units (events_of book site (asked_in cert)) zone)
 judged book site cert zone (Some rejection) = text_rejected (rejection_line rejection)
 
+-- the answer of `check`
 unfoldable pub checked : Book → List Offsets → List ℕ → Zone → Result Answer Refusal
 checked book table bytes zone = do
   cert ← certificate_from (certificate_of bytes)
@@ -128,29 +135,34 @@ checked book table bytes zone = do
 
 -- ---- levels
 
--- how many minutes there are from the begin to the end, the end included, by steps
+-- the number of rows of a span, one each step, the end included
 abbrev pub row_count : ℤ → ℤ → ℤ → ℕ
 row_count begin end step = unsigned_abs (end -ℤ begin) / unsigned_abs step + 1
 
--- the most heights of a list
+-- the greatest number of rows of a list
 abbrev pub row_limit : ℕ
 row_limit = 100000
 
+-- the step of the rows: there aren't too many
 unfoldable pub rows_in : ℤ → ℤ → ℤ → Result (Unit {0}) Refusal
 rows_in begin end step =
     if nat_lt row_limit (row_count begin end step) then Err (TooManyRows (pos (row_count begin end step))) else Ok tt
 
+-- the row at an index
 abbrev pub row_at : Book → Site → ℤ → ℤ → ℕ → Row
 row_at book site begin step place =
     let minute = begin +ℤ (step *ℤ pos place) in record { minute = minute; level = level_at book site minute }
 
+-- the rows of a span
 abbrev pub rows_of : Book → Site → ℤ → ℤ → ℤ → List Row
 rows_of book site begin end step = map (row_at book site begin step) (range_with_len 0 (row_count begin end step))
 
+-- the text of rows in a layout
 abbrev pub heights_text : Layout → List ℕ → Units → List Row → Zone → List ℕ
 heights_text Plain name units rows zone = plain_heights_of name units rows zone
 heights_text Csv name units rows zone = csv_heights_of name units rows zone
 
+-- the answer of `heights`
 unfoldable pub heights : Book → List Offsets → List ℕ → Asked → ℤ → Layout → Zone → Result Answer Refusal
 heights book table name asked step layout zone = do
   site ← site_in Levels book table name asked
@@ -158,7 +170,7 @@ heights book table name asked step layout zone = do
   few ← rows_in asked.begin asked.end step
   Ok (text_alone (heights_text layout name site.station.units (rows_of book site asked.begin asked.end step) zone))
 
--- the level and its direction at a minute, and the events of the day from there on
+-- the answer of `clock`: the level and its direction at a minute, and the events of the day from there on
 unfoldable pub on_clock : Book → List Offsets → List ℕ → ℤ → Zone → Result Answer Refusal
 on_clock book table name now zone = do
   site ← site_in Events book table name (asked_from now)
@@ -169,75 +181,84 @@ on_clock book table name now zone = do
 
 -- ---- the highest water
 
--- the minute and the level of the station, by its reference's minute
+-- the listing of a highest water, by the reference's minute
 abbrev pub highest_text_at : Book → Site → List ℕ → ℤ → Zone → List ℕ
 highest_text_at book site name at zone =
     let minute = at +ℤ site.basis.high.add in highest_text_of name site.station.units minute (level_at book site minute) zone
 
+-- the answer of `highest`
 unfoldable pub highest : Book → List Offsets → List ℕ → Asked → Zone → Result Answer Refusal
 highest book table name asked zone = do
   site ← highest_site book table name asked
   Ok (text_alone (highest_text_at book site name (highest_of book site asked).at zone))
 
--- its certificate
+-- the certificate of the highest water of a span
 abbrev pub peak_certificate_by : Book → Site → List ℕ → Asked → PeakCertificate
 peak_certificate_by book site name asked =
     record { station = name; begin = asked.begin; end = asked.end; peak = highest_of book site asked }
 
+-- the answer of `peak`
 unfoldable pub peak_certified : Book → List Offsets → List ℕ → Asked → Result Answer Refusal
 peak_certified book table name asked = do
   site ← highest_site book table name asked
   Ok (text_alone (peak_text (peak_certificate_by book site name asked)))
 
+-- the refusal of bytes that are no text of a certificate of a highest water
 abbrev pub refusal_of_peak : PeakFault → Refusal
 refusal_of_peak peak.NoMemory = NoMemory
 refusal_of_peak (peak.NotACertificate line) = NotACertificate line
 
+-- the certificate of a highest water of a text, or the refusal
 abbrev pub peak_from : Result PeakCertificate PeakFault → Result PeakCertificate Refusal
 peak_from (Ok cert) = Ok cert
 peak_from (Err fault) = Err (refusal_of_peak fault)
 
--- one that is accepted tells the highest water of its own question, in universal time
+-- the answer to a certificate of a highest water: if it is valid, `Accepted` and this highest water in
+-- universal time
 abbrev pub peak_judged : Book → Site → PeakCertificate → PeakVerdict → Answer
 peak_judged book site cert Accepted = text_accepted (highest_text_at book site cert.station cert.peak.at Utc)
 peak_judged book site cert verdict = text_rejected (verdict_line verdict)
 
+-- the answer of `peakcheck`
 unfoldable pub peak_checked : Book → List Offsets → List ℕ → Result Answer Refusal
 peak_checked book table bytes = do
   cert ← peak_from (peak_of bytes)
   site ← highest_site book table cert.station (asked_of_peak cert)
   Ok (peak_judged book site cert (highest_verdict book site (asked_of_peak cert) cert.peak))
 
--- ---- what is known of a station
+-- ---- the facts of a station
 
--- how many constituents its levels are made of
+-- the number of constituents of a station that have an amplitude
 abbrev pub constituent_count : Station → ℕ
 constituent_count station = count_by (λ amplitude. not (int_eq amplitude (pos 0))) station.amplitude
 
+-- the answer of `about`
 unfoldable pub known : Book → List Offsets → List ℕ → Result Answer Refusal
 known book table name = do
   site ← station_in book table name
   Ok (text_alone (about_text_of name site.station.name site.station.units (constituent_count site.station)
       (predicted_agreement book site.station)))
 
--- ---- all of them
+-- ---- every request
 
--- what a question names of a station, where it names it
+-- a part of a request that a command needs
 abbrev pub named_by : {A : Type 0} → Option A → Result A Refusal
 named_by said = ok_or said NoStation
 
+-- the answer of a command that needs a station and a span
 unfoldable pub asks_span : Question → (List ℕ → Asked → Result Answer Refusal) → Result Answer Refusal
 asks_span question next = do
   name ← named_by question.station
   asked ← named_by (asked_by question)
   next name asked
 
+-- the answer of a command that needs a station
 unfoldable pub asks_name : Question → (List ℕ → Result Answer Refusal) → Result Answer Refusal
 asks_name question next = do
   name ← named_by question.station
   next name
 
--- the events that a question asks, for whoever lays them out
+-- the events of a request, for a report
 unfoldable pub listed : Book → List Offsets → Question → Result Listed Refusal
 listed book table question = do
   name ← named_by question.station
@@ -245,17 +266,17 @@ listed book table question = do
   site ← site_in Events book table name asked
   Ok (record { name = name; units = site.station.units; events = events_of book site asked })
 
--- what a command that reads no file gives for a seed; the others are asked of a station
+-- the answer of a command that reads no file, by its seed; all others need a station
 abbrev pub text_from : Command → Option ℕ → Result Answer Refusal
 text_from Sample (Some seed) = Ok (text_alone (sample_of seed))
 text_from Trial (Some seed) = trial_of seed >>= λ text. Ok (text_alone text)
 text_from _ _ = Err NoStation
 
--- the answer to a question that names no file, or the first refusal
+-- the answer to a request that names no file, or the first refusal
 unfoldable pub answered_alone : Question → Result Answer Refusal
 answered_alone question = text_from question.command question.seed
 
--- what a command that is asked of a span gives; the others name none
+-- the answer of a command that needs a span; all others have none here
 abbrev pub text_over : Command → Book → List Offsets → Question → Zone → List ℕ → Asked → Result Answer Refusal
 text_over Predict book table question zone name asked = predicted book table name asked question.layout zone
 text_over Certify book table question zone name asked = certified book table name asked
@@ -265,6 +286,7 @@ text_over Highest book table question zone name asked = highest book table name 
 text_over Peak book table question zone name asked = peak_certified book table name asked
 text_over _ book table question zone name asked = Err NoStation
 
+-- the answer of a command
 abbrev pub text_by : Command → Book → List Offsets → Question → Given → Result Answer Refusal
 text_by Check book table question given = checked book table given.certificate given.zone
 text_by PeakCheck book table question given = peak_checked book table given.certificate
@@ -279,6 +301,6 @@ text_by Serve book table question given = Err NoStation
 text_by command book table question given =
     asks_span question (text_over command book table question given.zone)
 
--- the answer to a question over a book and a table that were read, or the first refusal
+-- the answer to a request over harmonic constants and a table that were read, or the first refusal
 unfoldable pub answered : Book → List Offsets → Question → Given → Result Answer Refusal
 answered book table question given = text_by question.command book table question given

@@ -1,10 +1,11 @@
--- What is given with a question: the ranges of its parts (this project).
+-- The ranges of an answer's inputs besides the request and the harmonics file (this project).
 use Rattle.std.specs.Prelude.{◌≤◌, negsuc, pos, ◌≤ℤ◌, length}
 use Rattle.tide_answer.specs.declared.given.Given.{Given}
 use Rattle.zone_time.specs.Zones.{IsZone}
 use Rattle.decimal_text.specs.declared.limits.TheConstants.{MOST_BYTES}
 
--- a zone that shows each minute, a text that can be a certificate's, and a minute that a clock can show
+-- a zone that has a local time at each minute, a text of at most 400,000,000 bytes, and a minute that a
+-- clock can show
 pub record IsGiven (given : Given) : Type 0 where
   pub zone : IsZone given.zone
   pub certificate : length given.certificate ≤ MOST_BYTES

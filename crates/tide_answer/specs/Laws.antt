@@ -1,5 +1,5 @@
--- What certificates come to: what is certified is accepted and short, and what is accepted is short and tells exactly the events of its own
--- question (this project).
+-- The laws of certificates: what is certified is accepted and short, and what is accepted is short and has
+-- exactly the events of its own station, span and mark (this project).
 use Rattle.std.specs.Prelude.{◌≡◌, ◌<◌, ℕ, false, List, ◌++◌, length, codes, Option, Some, None, Result, Ok}
 use Rattle.std.specs.Option.{ForSome}
 use Rattle.cert_text.specs.declared.certificate.Certificate.{Certificate}
@@ -28,41 +28,44 @@ use Rattle.tide_answer.specs.Asking.{asked_in}
 use Rattle.station_span.specs.Following.{followed}
 use Rattle.station_span.specs.Sites.{Site, site_in}
 
--- a question that words can ask: its moments are of the years from 1 to 9999, and its mark is at most 10,000 units
+-- a request that a command line can make: its moments are in the years 1 to 9999, and its mark is at most
+-- 10,000 units in size
 pub record IsAskable (asked : Asked) : Type 0 where
   pub begin : IsMoment asked.begin
   pub end : IsMoment asked.end
   pub mark : ForSome asked.mark IsMark
 
--- the word that accepts, and then the listing of the prediction
+-- the answer is the line `Accepted`, and then the listing of the prediction
 abbrev pub AcceptsListing : Result Answer Refusal → Answer → Type 0
 AcceptsListing prediction answer = (listing : Answer) × (prediction ≡ Ok listing) × (answer ≡ text_alone (codes "Accepted\n" ++ listing.text))
 
--- the text of a certificate that was made of a question is accepted, with the listing that the question's prediction has
+-- the certificate of a request is accepted, with the listing of the same request's prediction
 abbrev pub AcceptsWhatIsCertified : Type 0
 AcceptsWhatIsCertified = (book : Book) (table : List Offsets) (name : List ℕ) (asked : Asked) (zone : Zone) (certificate : Answer) →
     IsBook book → IsTable table → IsAskable asked → certified book table name asked ≡ Ok certificate →
     (answer : Answer) × (checked book table certificate.text zone ≡ Ok answer) × AcceptsListing (predicted book table name asked Plain zone) answer
 
--- the text that was made has fewer than 333,000,000 bytes
+-- the certificate of a request has fewer than 333,000,000 bytes
 abbrev pub CertifiesInShort : Type 0
 CertifiesInShort = (book : Book) (table : List Offsets) (name : List ℕ) (asked : Asked) (certificate : Answer) →
     IsBook book → IsTable table → IsAskable asked → certified book table name asked ≡ Ok certificate → length certificate.text < 333000000
 
--- the events in a track's cells are those of the plain list, which looks at every minute of the span; no track is there without its curve
+-- the events in a track's cells are those of the plain list, which evaluates every minute of the span; no
+-- track is present without its curve
 abbrev pub TellsTrack : Span → Option Meaning → Option (List Cell) → Type 0
 TellsTrack span (Some curve) (Some cells) = turns span.begin cells ≡ events_over span curve
 TellsTrack span None None = Unit {0}
 TellsTrack span (Some curve) None = ⊥
 TellsTrack span None (Some cells) = ⊥
 
+-- each track has exactly the events of its curve
 pub record TellsTracks (span : Span) (curves : Followed) (tracks : Tracks) : Type 0 where
   pub turn : TellsTrack span (Some curves.turn) (Some tracks.turn)
   pub slack : TellsTrack span curves.slack tracks.slack
   pub mark : TellsTrack span curves.mark tracks.mark
 
--- the bytes are a certificate's text; its tracks tell every event of the curves that its own question follows and no other,
--- and the answer lists what that question's prediction lists
+-- the bytes are a certificate's text; its tracks have every event of the curves of its own station, span
+-- and mark and no other, and the answer lists what the prediction for them lists
 pub record IsTrueCertificate (book : Book) (table : List Offsets) (bytes : List ℕ) (zone : Zone) (answer : Answer) : Type 0 where
   pub certificate : Certificate
   pub site : Site
@@ -71,12 +74,12 @@ pub record IsTrueCertificate (book : Book) (table : List Offsets) (bytes : List 
   pub tracks : TellsTracks (widened_of site.basis certificate.begin certificate.end) (followed book site (asked_in certificate)) certificate.tracks
   pub listing : AcceptsListing (predicted book table certificate.station (asked_in certificate) Plain zone) answer
 
--- whatever is accepted, whoever wrote it, is true
+-- every accepted certificate is true, whoever wrote it
 abbrev pub AcceptsOnlyWhatIsTrue : Type 0
 AcceptsOnlyWhatIsTrue = (book : Book) (table : List Offsets) (bytes : List ℕ) (zone : Zone) (answer : Answer) →
     IsBook book → IsTable table → checked book table bytes zone ≡ Ok answer → answer.rejected ≡ false → IsTrueCertificate book table bytes zone answer
 
--- whatever is accepted, whoever wrote it, has fewer than 333,000,000 bytes
+-- every accepted certificate has fewer than 333,000,000 bytes, whoever wrote it
 abbrev pub AcceptsOnlyInShort : Type 0
 AcceptsOnlyInShort = (book : Book) (table : List Offsets) (bytes : List ℕ) (zone : Zone) (answer : Answer) →
     IsBook book → IsTable table → checked book table bytes zone ≡ Ok answer → answer.rejected ≡ false → length bytes < 333000000

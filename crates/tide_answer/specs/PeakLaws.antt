@@ -1,4 +1,5 @@
--- What certificates of a highest water come to: what is certified is accepted and short, and what is accepted is the highest water of its own question (this project).
+-- The laws of certificates of a highest water: what is certified is accepted and short, and what is
+-- accepted is the highest water of its own station and span (this project).
 use Rattle.std.specs.Prelude.{◌≡◌, ◌<◌, ℕ, ℤ, pos, ◌+ℤ◌, ◌*ℤ◌, ◌≤ℤ◌, ◌<ℤ◌, false, List, length, Ok}
 use Rattle.harmonics_text.specs.declared.book.Book.{Book}
 use Rattle.harmonics_text.specs.Books.{IsBook}
@@ -20,20 +21,20 @@ use Rattle.tide_answer.specs.Laws.{IsAskable, AcceptsListing}
 
 -- ---- the highest water
 
--- a minute of the reference that is moved into the span
+-- a minute of the reference that the offset moves into the span
 pub record IsMovedInto (site : Site) (asked : Asked) (m : ℤ) : Type 0 where
   pub from : asked.begin ≤ℤ (m +ℤ site.basis.high.add)
   pub before : (m +ℤ site.basis.high.add) <ℤ asked.end
 
--- the first of these minutes that has their greatest level; and nowhere in the span is the station's own level higher than where
--- it is moved to
+-- the first of these minutes with their greatest level; and the station's own level is nowhere in the span
+-- higher than where this minute is moved to
 pub record IsHighestWater (book : Book) (site : Site) (asked : Asked) (at : ℤ) : Type 0 where
   pub inside : IsMovedInto site asked at
   pub greatest : (m : ℤ) → IsMovedInto site asked m → predicted_level book site.station m ≤ℤ predicted_level book site.station at
   pub first : (m : ℤ) → IsMovedInto site asked m → m <ℤ at → predicted_level book site.station m <ℤ predicted_level book site.station at
   pub level : (minute : ℤ) → asked.begin ≤ℤ minute → minute <ℤ asked.end → level_at book site minute ≤ℤ level_at book site (at +ℤ site.basis.high.add)
 
--- the answer tells the highest water of the station's span
+-- the answer prints the highest water of the station's span
 pub record IsToldHighest (book : Book) (table : List Offsets) (name : List ℕ) (asked : Asked) (zone : Zone) (answer : Answer) : Type 0 where
   pub site : Site
   pub at : ℤ
@@ -41,25 +42,28 @@ pub record IsToldHighest (book : Book) (table : List Offsets) (name : List ℕ) 
   pub water : IsHighestWater book site asked at
   pub told : answer ≡ text_alone (highest_text_at book site name at zone)
 
+-- every answer of `highest` prints the highest water
 abbrev pub TellsTheHighest : Type 0
 TellsTheHighest = (book : Book) (table : List Offsets) (name : List ℕ) (asked : Asked) (zone : Zone) (answer : Answer) →
     IsTable table → highest book table name asked zone ≡ Ok answer → IsToldHighest book table name asked zone answer
 
 -- ---- its certificates
 
--- the text of a certificate that was made of a question is accepted, with the highest water that the question is told in universal time
+-- the certificate of a request is accepted, with what `highest` prints for the same request in universal
+-- time
 abbrev pub AcceptsWhatPeakCertifies : Type 0
 AcceptsWhatPeakCertifies = (book : Book) (table : List Offsets) (name : List ℕ) (asked : Asked) (certificate : Answer) →
     IsBook book → IsTable table → IsAskable asked → peak_certified book table name asked ≡ Ok certificate →
     (answer : Answer) × (peak_checked book table certificate.text ≡ Ok answer) × AcceptsListing (highest book table name asked Utc) answer
 
--- the text that was made has fewer than 10,542,000 bytes
+-- the certificate of a request has fewer than 10,542,000 bytes
 abbrev pub PeakCertifiesInShort : Type 0
 PeakCertifiesInShort = (book : Book) (table : List Offsets) (name : List ℕ) (asked : Asked) (certificate : Answer) →
     IsBook book → IsTable table → IsAskable asked → peak_certified book table name asked ≡ Ok certificate → length certificate.text < 10542000
 
--- the bytes are the text of a certificate whose minute has the highest water of its own question, and whose value is a million
--- times the reference's level there; and the answer tells what that question is told
+-- the bytes are the text of a certificate whose minute has the highest water of its own station and span,
+-- and whose value is a million times the reference's level there; and the answer is what `highest` prints
+-- for them
 pub record IsTruePeak (book : Book) (table : List Offsets) (bytes : List ℕ) (answer : Answer) : Type 0 where
   pub certificate : PeakCertificate
   pub site : Site
@@ -69,12 +73,12 @@ pub record IsTruePeak (book : Book) (table : List Offsets) (bytes : List ℕ) (a
   pub value : certificate.peak.value ≡ pos 1000000 *ℤ predicted_level book site.station certificate.peak.at
   pub listing : AcceptsListing (highest book table certificate.station (asked_of_peak certificate) Utc) answer
 
--- whatever is accepted, whoever wrote it, is true
+-- every accepted certificate is true, whoever wrote it
 abbrev pub AcceptsOnlyTruePeaks : Type 0
 AcceptsOnlyTruePeaks = (book : Book) (table : List Offsets) (bytes : List ℕ) (answer : Answer) →
     IsBook book → IsTable table → peak_checked book table bytes ≡ Ok answer → answer.rejected ≡ false → IsTruePeak book table bytes answer
 
--- whatever is accepted, whoever wrote it, has fewer than 10,542,000 bytes
+-- every accepted certificate has fewer than 10,542,000 bytes, whoever wrote it
 abbrev pub AcceptsOnlyPeaksInShort : Type 0
 AcceptsOnlyPeaksInShort = (book : Book) (table : List Offsets) (bytes : List ℕ) (answer : Answer) →
     IsBook book → IsTable table → peak_checked book table bytes ≡ Ok answer → answer.rejected ≡ false → length bytes < 10542000

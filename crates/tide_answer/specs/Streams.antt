@@ -23,26 +23,28 @@ use Rattle.tide_answer.specs.Answers.{answered, named_by}
 use Rattle.tide_answer.specs.Asking.{asked_by}
 use Rattle.station_span.specs.Sites.{site_in}
 
--- the commands whose answers can be written so
+-- the commands whose answers can be written as they are found
 abbrev pub can_stream : Command → Bool
 can_stream Predict = true
 can_stream Certify = true
 can_stream _ = false
 
+-- the text layout
 abbrev pub is_plain_layout : Layout → Bool
 is_plain_layout Plain = true
 is_plain_layout Csv = false
 
+-- a zone that is a file
 abbrev pub is_zone_file : Zone → Bool
 is_zone_file (zones.File file) = true
 is_zone_file _ = false
 
--- a station has the events of its reference as they are, in lines for the eye, by a clock without a file
+-- an answer is streamed: its station has no offsets, its layout is text, and its zone isn't a file
 abbrev pub streams_by : Basis → Layout → Zone → Bool
 streams_by basis layout zone =
     is_plain basis && (is_plain_layout layout && (if is_zone_file zone then false else true))
 
--- the answer, where it streams, or the first refusal
+-- the answer if it is streamed, or the first refusal
 unfoldable pub prepared : Book → List Offsets → Question → Given → Result Ready Refusal
 prepared book table question given = do
   answer ← answered book table question given
@@ -51,7 +53,7 @@ prepared book table question given = do
   site ← site_in Events book table name asked
   Ok (record { stream = if streams_by site.basis question.layout given.zone then Some answer else None })
 
--- the text of an answer was written whole, or its first bytes, and nothing after a write that failed
+-- the text of an answer is written whole, or its first bytes, and nothing after a write that failed
 abbrev pub Streams : SinkState → SinkState → Answer → Result ℕ WriteFailed → Type 0
 Streams before after answer (Ok cells) = (cells ≡ answer.cells) × (after ≡ put answer.text before)
 Streams before after answer (Err fault) =

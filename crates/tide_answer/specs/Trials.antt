@@ -22,28 +22,29 @@ use Rattle.station_span.specs.Following.{followed, events_of, tracks_of}
 use Rattle.station_cells.specs.Rejections.{rejection_of}
 use Rattle.station_span.specs.Sites.{Site, site_in}
 
--- from 2000-12-01T00:00Z to 2001-02-01T00:00Z, without a mark
+-- the span of the trial: from 2000-12-01T00:00Z up to 2001-02-01T00:00Z, without a mark
 abbrev pub trial_span : Asked
 trial_span = record { begin = pos 16260480; end = pos 16349760; mark = None }
 
--- ---- what is counted of a station
+-- ---- the counts of a station
 
+-- 1 for a quiet cell, and 0 for any other
 abbrev pub quiet_one : Cell → ℕ
 quiet_one (Quiet minutes) = 1
 quiet_one Still = 0
 quiet_one (Turn kind level) = 0
 
--- the Quiet cells of a track
+-- the number of quiet cells of a track
 abbrev pub quiet_in : List Cell → ℕ
 quiet_in cells = sum_by quiet_one cells
 
--- a certificate of which nothing is wrong is accepted
+-- 1 for a certificate without a fault, and 0 for any other
 abbrev pub accepted_if : Option Rejection → ℕ
 accepted_if None = 1
 accepted_if (Some rejection) = 0
 
--- the tracks' lengths, each as long as the minutes that are looked at; the events; the cells, the Quiet ones among them;
--- and whether the certificate of the tracks is accepted
+-- the counts: the minutes of all tracks, each over the minutes that are evaluated; the events; the cells,
+-- and the quiet ones among them; and the certificates that are accepted
 unfoldable pub tally_by : Span → Tracks → List Event → Option Rejection → Tally
 tally_by span tracks events rejection = record {
   minutes = minutes_in span * length (tracks_in tracks);
@@ -53,13 +54,14 @@ tally_by span tracks events rejection = record {
   accepted = accepted_if rejection;
 }
 
+-- the counts of a station over a span
 unfoldable pub tally_at : Book → Site → Asked → Tally
 tally_at book site asked =
     let span = widened_of site.basis asked.begin asked.end in
     let tracks = tracks_of book site asked in
     tally_by span tracks (events_of book site asked) (rejection_of (followed book site asked) span tracks)
 
--- a station is predicted, certified and checked
+-- the counts of a station that is predicted, certified and checked
 unfoldable pub station_tally : Book → List ℕ → Result Tally Refusal
 station_tally book name = do
   site ← site_in Events book [] name trial_span
@@ -67,6 +69,7 @@ station_tally book name = do
 
 -- ---- the sums over stations
 
+-- the counts of some stations and of one more
 unfoldable pub plus : Tally → Tally → Tally
 plus sum one = record {
   minutes = sum.minutes + one.minutes;
@@ -76,10 +79,11 @@ plus sum one = record {
   accepted = sum.accepted + one.accepted;
 }
 
+-- the counts of no station
 abbrev pub nothing : Tally
 nothing = record { minutes = 0; events = 0; cells = 0; quiet = 0; accepted = 0 }
 
--- one station after the other on a sum; a refusal at any of them ends it
+-- the counts of one station after the other on a sum; a refusal at any of them ends it
 unfoldable pub tally_on : Book → Tally → List Station → Result Tally Refusal
 tally_on book sum [] = Ok sum
 tally_on book sum (station ∷ stations) = do
@@ -88,17 +92,20 @@ tally_on book sum (station ∷ stations) = do
 
 -- ---- the trial
 
+-- the number of stations that are tried
 abbrev pub station_count : ℕ
 station_count = 40
 
--- the file that was made has to be of the form
+-- the harmonic constants of the made file, or the refusal if it is not of its form
 abbrev pub book_from : Result Book At → Result Book Refusal
 book_from (Ok book) = Ok book
 book_from (Err fault) = Err (BadSample fault.line fault.why)
 
+-- the line of a count
 abbrev pub number_line : List ℕ → ℕ → List ℕ
 number_line what number = what ++ codes " " ++ decimal number ++ codes "\n"
 
+-- the lines of a trial
 unfoldable pub trial_text : ℕ → Tally → List ℕ
 trial_text seed sum =
     number_line (codes "seed") seed
@@ -109,7 +116,7 @@ trial_text seed sum =
     ++ number_line (codes "quiet") sum.quiet
     ++ number_line (codes "accepted") sum.accepted
 
--- the first stations of the file of a seed
+-- the answer of `trial`: the counts of the first stations of a seed's file
 unfoldable pub trial_of : ℕ → Result (List ℕ) Refusal
 trial_of seed = do
   book ← book_from (book_of (sample_of seed))

@@ -1,4 +1,4 @@
-//! What is known of a station.
+//! The answer of `about`: the facts of a station.
 
 ghost use Rattle.std.specs.Prelude.{◌≡◌, IfErr};
 ghost use Rattle.decimal_text.specs.Expected.{Gives};
@@ -15,8 +15,11 @@ use station_table::OffsetTable;
 use std::alloc::Global;
 use tide_fault::Refusal;
 
-/// A station's reference, its unit, how many constituents its levels are made of, and how far the
-/// slope is at most from the levels' steps; or the first refusal: the station, its unit, the limits.
+/// Returns the answer of `about` for the station `name`: its reference, its unit, the number of its
+/// constituents, and a bound of the difference between its slope and the steps of its levels.
+///
+/// # Errors
+/// The first [`Refusal`] in this order: the station, its unit, the bounds on its constants.
 #[tactic(auto, unfolding(crate::specs::Answers::known))]
 pub fn tell_about(
     alloc: Global,
@@ -36,6 +39,7 @@ pub fn tell_about(
     Ok(text_alone(text))
 }
 
+/// Returns the number of constituents of `station` that have an amplitude.
 fn constituent_count(station: &Station) -> u64
     ensures { result ≡ constituent_count station.now }
 {

@@ -1,4 +1,4 @@
-//! The answer to a question that names no file.
+//! The answer to a request that names no file.
 
 ghost use Rattle.std.specs.Prelude.{[], Some, IfErr};
 ghost use Rattle.decimal_text.specs.Expected.{Gives};
@@ -13,11 +13,11 @@ use question::{Command, SoundQuestion};
 use std::alloc::Global;
 use tide_fault::Refusal;
 
-/// The answer to a question whose command reads no file, or the first refusal in their order.
+/// Returns the answer to a request whose command reads no file.
 ///
 /// # Errors
-/// Each [`Refusal`] exactly where `specs/Answers.antt` has it; [`Refusal::NoMemory`] says nothing
-/// of the question.
+/// The first [`Refusal`] in the order of `specs/Answers.antt`. [`Refusal::NoMemory`] may be
+/// returned in place of any result.
 #[tactic(auto, unfolding(crate::specs::Answers::answered_alone))]
 pub fn answer_alone(alloc: Global, question: &SoundQuestion<'_>) -> Result<Answer, Refusal>
     ensures exact { Gives wants_memory_of_refusal (answered_alone question.now) result }
@@ -31,7 +31,7 @@ pub fn answer_alone(alloc: Global, question: &SoundQuestion<'_>) -> Result<Answe
     }
 }
 
-// The lines of a seed's trial.
+// Returns the lines of the trial of `seed`.
 fn give_trial(alloc: Global, seed: u64) -> Result<Answer, Refusal>
     ensures exact { Gives wants_memory_of_refusal (text_from Command.Trial (Some seed)) result }
     ensures told { IfErr result (IsToldRefusal []) }

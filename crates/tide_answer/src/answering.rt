@@ -1,4 +1,4 @@
-//! The answer to a question.
+//! The answer to a request.
 
 ghost use Rattle.std.specs.Prelude.{◌≡◌, IfErr, IfOk};
 ghost use Rattle.decimal_text.specs.Expected.{Gives};
@@ -30,14 +30,21 @@ use std::alloc::Global;
 use tide_fault::Refusal;
 use zone_time::ZoneClock;
 
-/// The answer to a question over a book and a table, or the first refusal in their order: a
-/// certificate's form, the station, its unit, the span, the limits, the mark, a level, the rows. A
-/// report is answered by [`station_events`](crate::station_events), and serving by no text: these are
-/// answered as a question without a station.
+/// Returns the answer to `question` over the harmonic constants `book` and the offsets `table`,
+/// with the zone, the certificate and the present minute of `given`. A request to report, whose
+/// events [`station_events`](crate::station_events) returns, or to serve is answered as one without
+/// a station.
 ///
 /// # Errors
-/// Each [`Refusal`] exactly where `specs/Answers.antt` has it; [`Refusal::NoMemory`] says nothing
-/// of the question.
+/// The first [`Refusal`] in this order, as `specs/Answers.antt` defines it: a certificate's form,
+/// the station, its unit, the span, the bounds on its constants, the mark, a level at each minute,
+/// the number of rows. [`Refusal::NoMemory`] may be returned in place of any result.
+///
+/// # Examples
+/// ```
+/// let given = Given { zone: Zone::Utc, certificate: Bytes::empty(alloc), now: 0 };
+/// let answered = answer(alloc, &book, &table, &question, &given)?;
+/// ```
 #[tactic(auto, unfolding(crate::specs::Answers::answered))]
 pub fn answer(
     alloc: Global,
@@ -57,6 +64,7 @@ pub fn answer(
     answer_command(alloc, &book, table, &question, given)
 }
 
+/// Returns the answer to a request by its command.
 fn answer_command(
     alloc: Global,
     book: &SoundBook<'_>,
@@ -86,7 +94,7 @@ fn answer_command(
     }
 }
 
-/// The answer to a command that is asked of a span.
+/// Returns the answer to a command about a station and a span.
 #[tactic(auto, unfolding(crate::specs::Answers::asks_span))]
 fn answer_span(
     alloc: Global,
@@ -112,6 +120,7 @@ fn answer_span(
     }
 }
 
+/// Returns the answer to `clock`.
 #[tactic(auto, unfolding(crate::specs::Answers::asks_name))]
 fn answer_clock(
     alloc: Global,
@@ -128,6 +137,7 @@ fn answer_clock(
     tell_now(alloc, book, table, name, given.now, &given.zone.clock())
 }
 
+/// Returns the answer to `stations`.
 fn answer_stations(alloc: Global, book: &Book, table: &OffsetTable) -> Result<Answer, Refusal>
     ensures exact { IfOk result (λ answer. answer ≡ text_alone (stations_text_of book.now table.now)) }
     ensures memory { IfErr result (λ refusal. refusal ≡ Refusal.NoMemory) }
@@ -135,6 +145,7 @@ fn answer_stations(alloc: Global, book: &Book, table: &OffsetTable) -> Result<An
     Ok(text_alone(stations_text(alloc, book, table)?))
 }
 
+/// Returns the answer to `about`.
 #[tactic(auto, unfolding(crate::specs::Answers::asks_name))]
 fn answer_about(
     alloc: Global,

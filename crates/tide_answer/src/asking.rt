@@ -1,4 +1,4 @@
-//! What a question, or a certificate, asks of a station.
+//! The station, the span and the mark of a request or of a certificate.
 
 ghost use Rattle.std.specs.Prelude.{◌≡◌, [], Ok, Err, IfErr, IfOk};
 ghost use Rattle.tide_answer.specs.Answers.{named_by};
@@ -13,7 +13,7 @@ use question::SoundQuestion;
 use station_span::Asked;
 use tide_fault::Refusal;
 
-/// The station's name. A question that needs one has it.
+/// Returns the station's name. A request that needs one has it.
 pub fn station_named<'a>(question: &SoundQuestion<'a>) -> Result<&'a Text, Refusal>
     ensures found { IfOk result (λ name. named_by question.now.station ≡ Ok name.now) }
     ensures missing { IfErr result (λ refusal. named_by question.now.station ≡ Err refusal) }
@@ -25,7 +25,7 @@ pub fn station_named<'a>(question: &SoundQuestion<'a>) -> Result<&'a Text, Refus
     }
 }
 
-/// The span and the mark. A question that needs them has them.
+/// Returns the span and the mark. A request that needs them has them.
 #[tactic(auto, unfolding(crate::specs::Asking::asked_by))]
 pub fn span_named(question: &SoundQuestion<'_>) -> Result<Asked, Refusal>
     ensures exact { result ≡ named_by (asked_by question.now) }
@@ -44,7 +44,7 @@ pub fn span_named(question: &SoundQuestion<'_>) -> Result<Asked, Refusal>
     }
 }
 
-/// What a certificate speaks of.
+/// Returns the span and the mark of a certificate.
 pub fn asked_in(cert: &Certificate) -> Asked
     ensures { result ≡ asked_in cert.now }
 {
@@ -55,7 +55,7 @@ pub fn asked_in(cert: &Certificate) -> Asked
     }
 }
 
-/// What a certificate of a highest water speaks of.
+/// Returns the span of a certificate of a highest water.
 pub fn asked_of_peak(cert: &PeakCertificate) -> Asked
     ensures { result ≡ asked_of_peak cert.now }
 {

@@ -1,4 +1,4 @@
-//! The events of a station day by day.
+//! The answer of `calendar`: the events of a station, date by date.
 
 ghost use Rattle.std.specs.Prelude.{IfErr};
 ghost use Rattle.decimal_text.specs.Expected.{Gives};
@@ -16,7 +16,11 @@ use std::alloc::Global;
 use tide_fault::Refusal;
 use zone_time::ZoneClock;
 
-/// The calendar of a station's events in a span, or the first refusal, as for a prediction.
+/// Returns the calendar of the events of the station `name` over the span of `asked`, by the clock
+/// of `zone`.
+///
+/// # Errors
+/// The first [`Refusal`] in the order of `predict`.
 #[tactic(auto, unfolding(crate::specs::Answers::on_calendar))]
 pub fn list_days(
     alloc: Global,

@@ -1,4 +1,4 @@
-//! The certificate of a station's events.
+//! The answer of `certify`: the certificate of a station's events.
 
 ghost use Rattle.std.specs.Prelude.{◌≡◌, IfErr};
 ghost use Rattle.decimal_text.specs.Expected.{Gives};
@@ -20,8 +20,12 @@ use station_table::OffsetTable;
 use std::alloc::Global;
 use tide_fault::Refusal;
 
-/// The certificate of a station's events in a span, with the rates of version 2, or the first refusal:
-/// the station, its unit, the span, the limits, the mark.
+/// Returns the certificate of the events of the station `name` over the span of `asked`, by the
+/// rules of version 2.
+///
+/// # Errors
+/// The first [`Refusal`] in this order: the station, its unit, the span, the bounds on its
+/// constants, the mark.
 #[tactic(auto, unfolding(crate::specs::Answers::certified))]
 pub fn certify(
     alloc: Global,
@@ -48,7 +52,7 @@ pub fn certify(
     })
 }
 
-// The certificate of the second version.
+// Returns the certificate of version 2 with the cells `tracks`.
 pub fn certificate_of(station: Text, asked: &Asked, tracks: Tracks) -> Certificate
     ensures { result ≡ certificate_in station asked.now tracks }
 {

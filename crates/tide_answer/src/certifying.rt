@@ -1,4 +1,4 @@
-//! A certificate that is written as its cells are found. It takes no memory.
+//! A certificate that is written as its cells are found. None of these functions allocates.
 
 ghost use Rattle.std.specs.Prelude.{◌≡◌, ◌<◌, ◌≤◌, ◌^◌, ◌++◌, length, IfOk, IfSome};
 ghost use Rattle.cert_text.specs.Certificates.{IsMark, IsStationName};
@@ -18,7 +18,10 @@ use station_cells::{Sent, send, send_if_followed, send_name, send_track};
 use station_span::{Asked, Found, mark_search, slack_search, turn_search};
 use tide_edge::{Sink, WriteFailed};
 
-/// Writes the certificate of a station's curves over the span that is requested, with the rates of version 2.
+/// Writes the certificate of the curves of `found` over its span, by the rules of version 2.
+///
+/// # Errors
+/// [`WriteFailed`] if the sink fails: then it holds a prefix of the text.
 pub fn send_certificate<S: Sink>(
     out: &mut S,
     found: &Found,
@@ -65,7 +68,7 @@ fn send_tracks<S: Sink>(out: &mut S, sent: Sent, found: &Found) -> Result<Sent, 
     send_if_followed(out, sent, TrackName::Mark, mark_search(found))
 }
 
-// The lines of the span and of the mark.
+// Returns the lines of the span and of the mark.
 fn span_lines(asked: &Asked) -> ArrayString<72>
     requires moments { AreMoments asked.now }
     requires mark { IfSome asked.now.mark IsMark }

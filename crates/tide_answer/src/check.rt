@@ -1,4 +1,4 @@
-//! The check of a certificate.
+//! The answer of `check`: the check of a certificate.
 
 ghost use Rattle.std.specs.Prelude.{◌≡◌, ◌≤◌, length, All, None, IfOk, IfErr};
 ghost use Rattle.cert_text.specs.Certificates.{IsCertificate};
@@ -30,9 +30,12 @@ use std::alloc::{AllocError, Global};
 use tide_fault::Refusal;
 use zone_time::ZoneClock;
 
-/// Whether a certificate is valid: `Accepted` and the events of its own question in the zone's local
-/// time, or the line of the first thing that is wrong with its tracks. Or the first refusal: the bytes,
-/// and then those of its question, as for a prediction.
+/// Checks the certificate whose text is `bytes`. The answer is `Accepted` and the events of the
+/// certificate's own span by the clock of `zone`, or the line of the first fault of its tracks.
+///
+/// # Errors
+/// The first [`Refusal`]: [`Refusal::NotACertificate`], and then those of the certificate's own
+/// station, span and mark, in the order of `predict`.
 #[tactic(auto, unfolding(crate::specs::Answers::checked))]
 pub fn check(
     alloc: Global,
@@ -50,6 +53,7 @@ pub fn check(
     judge(alloc, book, table, &cert, zone)
 }
 
+/// Checks the certificate `cert`.
 fn judge(
     alloc: Global,
     book: &SoundBook<'_>,
@@ -76,7 +80,7 @@ fn judge(
     }
 }
 
-// The events that the cells of a valid certificate have, which are those that its question has.
+// Returns the events of the cells of a valid certificate, which are all events of its span.
 fn accept(
     alloc: Global,
     found: &Found,
@@ -94,6 +98,7 @@ fn accept(
     accepted(alloc, &list)
 }
 
+/// Returns the events of a valid certificate's cells.
 fn events_of(alloc: Global, found: &Found, cert: &Certificate) -> Result<Events, AllocError>
     requires reach { found.now.reach ≡ Reach.Events }
     requires same { found.now.asked ≡ asked_in cert.now }

@@ -1,4 +1,4 @@
-//! The level of a station at the present minute, and the events of the day to come.
+//! The answer of `clock`: the level now, and the events of the next day.
 
 ghost use Rattle.std.specs.Prelude.{◌≡◌, pos, negsuc, ◌≤ℤ◌, IfErr};
 ghost use Rattle.decimal_text.specs.Expected.{Gives};
@@ -17,8 +17,13 @@ use std::alloc::Global;
 use tide_fault::Refusal;
 use zone_time::{MINUTES_OF_DAY, ZoneClock};
 
-/// What a station's clock shows at a minute: the level, whether it rises, and the events of the day
-/// from there on, or the first refusal. The minute is from -10,000,000,000 to 10,000,000,000.
+/// Returns the answer of `clock` at minute `now` for the station `name`: the level, whether it
+/// rises, and the events of the 1,440 minutes from `now` on. `now` is -9,999,999,999 or later,
+/// minutes since 1970-01-01T00:00Z, and at most 10,000,000,000.
+///
+/// # Errors
+/// The first [`Refusal`] in the order of `predict`, and then that of a
+/// station without a level at each minute.
 #[tactic(auto, unfolding(crate::specs::Answers::on_clock))]
 pub fn tell_now(
     alloc: Global,
@@ -56,7 +61,7 @@ pub fn tell_now(
     })
 }
 
-// The day from a minute on.
+// Returns the 1,440 minutes from `now` on.
 fn day_from(now: i64) -> Asked
     requires earliest { negsuc 9999999999 ≤ℤ now }
     requires latest { now ≤ℤ pos 10000000000 }

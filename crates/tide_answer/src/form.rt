@@ -1,6 +1,6 @@
-//! The forms of an answer that streams.
+//! The forms of an answer that is streamed.
 
-/// The form of an answer that streams.
+/// The form of an answer that is written as it is found.
 #[derive(Clone, Copy, Debug)]
 pub enum Form {
     /// The station's name and the line of each event.

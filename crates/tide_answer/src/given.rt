@@ -1,15 +1,15 @@
-//! What is given with a question.
+//! The inputs of an answer besides the request, the harmonic constants and the offsets.
 
 use decimal_text::Bytes;
 use zone_time::Zone;
 
-/// What a question is answered with besides the book.
+/// The inputs of an answer besides the request, the harmonic constants and the offsets.
 #[derive(Debug, Drop)]
 pub struct Given {
     /// The zone of the local times in the answer.
     pub zone: Zone,
-    /// A certificate's text, at most 400,000,000 bytes.
+    /// The text of a certificate, at most 400,000,000 bytes.
     pub certificate: Bytes,
-    /// The present minute, from -10,000,000,000 to 10,000,000,000.
+    /// The present minute since 1970-01-01T00:00Z, from -10,000,000,000 to 10,000,000,000.
     pub now: i64,
 }

@@ -1,4 +1,4 @@
-//! The levels of a station in a span, one each step.
+//! The answer of `heights`: the levels of a station in a span, one each step.
 
 ghost use Rattle.std.specs.Prelude.{◌≡◌, ◌≤◌, ◌+ℤ◌, ◌*ℤ◌, ◌-ℤ◌, pos, negsuc, [], All, unsigned_abs, Ok, Err, IfOk, IfErr, OnOk};
 ghost use Rattle.decimal_text.specs.Expected.{Gives};
@@ -20,11 +20,16 @@ use std::alloc::{AllocError, Global};
 use tide_fault::Refusal;
 use zone_time::ZoneClock;
 
-/// The most rows of a list.
+/// The greatest number of rows of a list.
 const ROW_LIMIT: u64 = 100_000;
 
-/// The levels of a station from the begin of the span up to its end, which is one of them where the
-/// steps lead there, or the first refusal. A step is of 1 to 44,640 minutes.
+/// Returns the levels of the station `name`, one each `step` minutes from the begin of the span up
+/// to its end, which has a row if the steps lead there. `step` is 1 to 44,640.
+///
+/// # Errors
+/// The first [`Refusal`] in the order of `predict`, then that of a
+/// station without a level at each minute, and then [`Refusal::TooManyRows`] for more than 100,000
+/// rows.
 #[tactic(auto, unfolding(crate::specs::Answers::heights))]
 pub fn list_heights(
     alloc: Global,
@@ -49,6 +54,7 @@ pub fn list_heights(
     Ok(text_alone(text))
 }
 
+/// Returns `Ok` if the list has at most 100,000 rows.
 #[tactic(auto, unfolding(crate::specs::Answers::rows_in))]
 fn check_rows(asked: &Asked, step: i64) -> Result<(), Refusal>
     requires near { IsNear asked.now }
@@ -64,6 +70,7 @@ fn check_rows(asked: &Asked, step: i64) -> Result<(), Refusal>
     Ok(())
 }
 
+/// Returns the number of rows.
 fn row_count(asked: &Asked, step: i64) -> u64
     requires near { IsNear asked.now }
     requires step { IsStep step }
@@ -73,6 +80,7 @@ fn row_count(asked: &Asked, step: i64) -> u64
     minutes_in(asked) / step.unsigned_abs() + 1
 }
 
+/// Returns the number of minutes of the span.
 fn minutes_in(asked: &Asked) -> u64
     requires { IsNear asked.now }
     ensures exact { result ≡ unsigned_abs (asked.now.end -ℤ asked.now.begin) }
@@ -81,6 +89,7 @@ fn minutes_in(asked: &Asked) -> u64
     (asked.end - asked.begin).unsigned_abs()
 }
 
+/// Returns the rows.
 fn rows_of(alloc: Global, found: &Found, step: i64) -> Result<Rows, AllocError>
     requires step { IsStep step }
     requires levels { AreLooked found.now }
@@ -95,6 +104,7 @@ fn rows_of(alloc: Global, found: &Found, step: i64) -> Result<Rows, AllocError>
     Ok(Rows::from_vec(rows))
 }
 
+/// Returns the row at index `place`.
 fn row_at(found: &Found, step: i64, place: u64) -> Row
     requires step { IsStep step }
     requires place { place ≤ row_limit }
@@ -108,6 +118,7 @@ fn row_at(found: &Found, step: i64, place: u64) -> Row
     }
 }
 
+/// Returns the minute of the row at index `place`.
 fn minute_at(begin: i64, step: i64, place: u64) -> i64
     requires begin { unsigned_abs begin ≤ 20000000000 }
     requires step { IsStep step }
@@ -117,6 +128,7 @@ fn minute_at(begin: i64, step: i64, place: u64) -> i64
     begin + minutes_to(step, place)
 }
 
+/// Returns the minutes from the begin to the row at index `place`.
 fn minutes_to(step: i64, place: u64) -> i64
     requires step { IsStep step }
     requires place { place ≤ row_limit }
@@ -126,6 +138,7 @@ fn minutes_to(step: i64, place: u64) -> i64
     step * place as i64
 }
 
+/// Returns the text of the rows in `layout`.
 fn heights_text(
     alloc: Global,
     layout: Layout,
@@ -143,7 +156,7 @@ fn heights_text(
     }
 }
 
-/// How many rows some spans have: the end has one where the steps lead there.
+/// The number of rows of some spans: the end has a row if the steps lead there.
 #[tactic(auto, unfolding(crate::specs::Answers::rows_in))]
 pub fn worked_rows()
     ensures empty_span { row_count (pos 0) (pos 0) (pos 60) ≡ 1 }

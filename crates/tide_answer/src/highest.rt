@@ -1,4 +1,5 @@
-//! The highest water of a station over a span, and its certificate.
+//! The answers of `highest` and `peak`: the highest water of a station over a span, and its
+//! certificate.
 
 ghost use Rattle.std.specs.Prelude.{◌≡◌, IfErr, IfOk};
 ghost use Rattle.decimal_text.specs.Expected.{Gives};
@@ -22,8 +23,12 @@ use std::alloc::{AllocError, Global};
 use tide_fault::Refusal;
 use zone_time::ZoneClock;
 
-/// The highest water of a station among the minutes of a span, or the first refusal: the station, its
-/// unit, the span, the limits, the mark, a level.
+/// Returns the highest water of the station `name` among the minutes of the span of `asked`, by the
+/// clock of `zone`.
+///
+/// # Errors
+/// The first [`Refusal`] in this order: the station, its unit, the span, the bounds on its
+/// constants, the mark, a level at each minute.
 #[tactic(auto, unfolding(crate::specs::Answers::highest))]
 pub fn tell_highest(
     alloc: Global,
@@ -43,7 +48,8 @@ pub fn tell_highest(
     Ok(text_alone(text))
 }
 
-/// The station's name, and the minute and the level to which a reference's minute is moved.
+/// Returns the listing of a highest water: the station's name, and the minute and the level to
+/// which the offset moves the reference's minute `at`.
 pub fn highest_text_at(
     alloc: Global,
     found: &Found,
@@ -60,8 +66,11 @@ pub fn highest_text_at(
     highest_text(alloc, name, found.units, minute, level, zone.zone())
 }
 
-/// The certificate of the highest water of a station among the minutes of a span, or the first
-/// refusal, as for the highest water.
+/// Returns the certificate of the highest water of the station `name` among the minutes of the span
+/// of `asked`.
+///
+/// # Errors
+/// The first [`Refusal`] in the order of `highest`.
 #[tactic(auto, unfolding(crate::specs::Answers::peak_certified))]
 pub fn certify_peak(
     alloc: Global,
@@ -82,6 +91,7 @@ pub fn certify_peak(
     Ok(text_alone(text))
 }
 
+/// Returns the certificate of the highest water `peak`.
 fn certificate_of(station: Text, asked: &Asked, peak: Peak) -> PeakCertificate
     ensures { result ≡ peak_certificate_in station asked.now peak }
 {

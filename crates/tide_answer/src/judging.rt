@@ -1,4 +1,4 @@
-//! What is wrong with a certificate.
+//! The check of a certificate's tracks.
 
 ghost use Rattle.std.specs.Prelude.{◌≡◌};
 ghost use Rattle.station_cells.specs.Rejections.{HasFewCells};
@@ -13,8 +13,9 @@ use rate_bound::Version;
 use station_cells::{Rejection, rejection_over};
 use station_span::{Found, mark_curve, slack_curve, turn_curve};
 
-/// The first thing that is wrong with the tracks of a certificate, by the rates of its version: whether
-/// slack water is listed, and then the tracks one after the other. It doesn't allocate.
+/// Returns the first fault of the tracks of `cert`, by the rules of its version, or `None` if they
+/// are right: first whether the slack track is present exactly if it is required, and then the
+/// cells of each track. Doesn't allocate.
 pub fn find_rejection(found: &Found, cert: &Certificate) -> Option<Rejection>
     requires reach { found.now.reach ≡ Reach.Events }
     requires same { found.now.asked ≡ asked_in cert.now }
@@ -28,7 +29,7 @@ pub fn find_rejection(found: &Found, cert: &Certificate) -> Option<Rejection>
     rejection_over(turn, slack, mark, &found.span, &cert.tracks)
 }
 
-/// The version of the rates by which a certificate is judged.
+/// Returns the version of the rates by which `cert` is checked.
 fn version_of(cert: &Certificate) -> Version
     ensures { result ≡ version_of cert.now }
 {

@@ -1,25 +1,26 @@
-//! What certificates come to.
+//! Laws of certificates.
 
 ghost use Rattle.tide_answer.specs.Laws.{AcceptsWhatIsCertified, AcceptsOnlyInShort, AcceptsOnlyWhatIsTrue, CertifiesInShort};
 
 use cert_text::{certificates_are_short, certificates_have_one_text, readings_go_by_the_grammar};
 
-/// What is certified is accepted, with the listing of its own question's prediction.
+/// `check` accepts what `certify` returned, with the listing of the same station, span and mark.
 pub fn certified_is_accepted()
     ensures { AcceptsWhatIsCertified }
 {
     readings_go_by_the_grammar();
 }
 
-/// What is certified has fewer than 333,000,000 bytes, so that it can be read again.
+/// A certificate that `certify` returns has fewer than 333,000,000 bytes, so it can be read again.
 pub fn certified_is_short()
     ensures { CertifiesInShort }
 {
     certificates_are_short();
 }
 
-/// What is accepted is true, whoever wrote it: its tracks tell every event of its own question's
-/// curves and no other, and the answer lists what that question's prediction lists.
+/// A certificate that `check` accepts is true, whoever wrote it: its tracks have every event of the
+/// curves of its station, span and mark and no other, and the answer lists what `predict` lists for
+/// them.
 pub fn accepted_is_true()
     ensures { AcceptsOnlyWhatIsTrue }
 {
@@ -27,7 +28,7 @@ pub fn accepted_is_true()
     readings_go_by_the_grammar();
 }
 
-/// What is accepted has fewer than 333,000,000 bytes, whoever wrote it.
+/// A certificate that `check` accepts has fewer than 333,000,000 bytes, whoever wrote it.
 pub fn accepted_is_short()
     ensures { AcceptsOnlyInShort }
 {

@@ -1,10 +1,10 @@
-//! One question, one answer.
+//! Requests and their answers.
 //!
-//! [`answer`] answers a [`Question`](question::Question) over a book of harmonic constants and a table
-//! of offsets: with a text, or with the first [`Refusal`] in a fixed order. [`answer_alone`] answers
-//! one that names no file, and [`station_events`] gives the events for whoever lays them out.
-//! [`prepare`] and [`answer_into`] write a listing or a certificate as it is found, without memory. The
-//! top call brings these their files and words, and carries the text away.
+//! [`answer`] answers a [`Question`](question::Question) over harmonic constants and a table of
+//! offsets: with a text, or with the first [`Refusal`] in a fixed order. [`answer_alone`] answers
+//! one that names no file, and [`station_events`] returns the events for a report. [`prepare`] and
+//! [`answer_into`] write a listing or a certificate as it is found, without allocating for it. The
+//! crates above read the files and the arguments and write the text.
 #![tactic(auto)]
 
 mod about;

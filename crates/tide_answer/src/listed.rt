@@ -1,4 +1,4 @@
-//! The events of a station, for whoever lays them out.
+//! The events of a station, for a report.
 
 ghost use Rattle.std.specs.Prelude.{◌≢◌, ◌≤◌, All, IfErr, IfOk};
 ghost use Rattle.decimal_text.specs.Expected.{Gives};
@@ -24,20 +24,19 @@ use tide_fault::Refusal;
 /// The events of a station over a span.
 #[derive(Debug, Drop)]
 pub struct Listed {
-    /// The name that was asked for.
+    /// The name in the request.
     pub name: Text,
     /// The unit of the levels.
     pub units: Units,
     pub events: Events,
 }
 
-/// The events that a question asks of a book and a table, or the first refusal, as `predict` has it.
-/// Each event has a word in the unit and a minute that any zone's clock shows, and the name has no
-/// control characters.
+/// Returns the events of the station, span and mark of `question`. Each event has a word in the
+/// unit and a minute that the clock of any zone can show, and the name has no control characters.
 ///
 /// # Errors
-/// Each [`Refusal`] exactly where `specs/Answers.antt` has it; [`Refusal::NoMemory`] says nothing
-/// of the question.
+/// The first [`Refusal`] in the order of `specs/Answers.antt`, which is that of `predict`.
+/// [`Refusal::NoMemory`] may be returned in place of any result.
 #[tactic(auto, unfolding(crate::specs::Answers::listed))]
 pub fn station_events(
     alloc: Global,

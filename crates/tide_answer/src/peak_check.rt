@@ -1,4 +1,4 @@
-//! The check of a certificate of a highest water.
+//! The answer of `peakcheck`: the check of a certificate of a highest water.
 
 ghost use Rattle.std.specs.Prelude.{◌≡◌, ◌<◌, ◌≤◌, ◌^◌, length, [], IfErr, IfOk};
 ghost use Rattle.decimal_text.specs.Expected.{Gives};
@@ -27,9 +27,13 @@ use std::alloc::{AllocError, Global};
 use tide_fault::Refusal;
 use zone_time::Zone;
 
-/// Whether a certificate of a highest water is right: `Accepted` and the highest water of its own
-/// question in universal time, or the line of the first thing that is wrong. Or the first refusal: the
-/// bytes, and then those of its question, as for a highest water.
+/// Checks the certificate of a highest water whose text is `bytes`. The answer is `Accepted` and
+/// the highest water of the certificate's own span in universal time, or the line of the first
+/// fault.
+///
+/// # Errors
+/// The first [`Refusal`]: [`Refusal::NotACertificate`], and then those of the certificate's own
+/// station and span, in the order of `highest`.
 #[tactic(auto, unfolding(crate::specs::Answers::peak_checked))]
 pub fn check_peak_text(
     alloc: Global,
@@ -45,6 +49,7 @@ pub fn check_peak_text(
     judge_peak(alloc, book, table, &cert)
 }
 
+/// Reads the certificate whose text is `bytes`.
 fn peak_in(alloc: Global, bytes: &[u8]) -> Result<PeakCertificate, Refusal>
     requires { length bytes.now ≤ MOST_BYTES }
     ensures exact { Gives wants_memory_of_refusal (peak_from (peak_of bytes.now)) result }
@@ -60,6 +65,7 @@ fn peak_in(alloc: Global, bytes: &[u8]) -> Result<PeakCertificate, Refusal>
     }
 }
 
+/// Checks the certificate `cert`.
 #[tactic(auto, unfolding(crate::specs::Workings::Peaks::peak_judged_in))]
 fn judge_peak(
     alloc: Global,
@@ -79,6 +85,7 @@ fn judge_peak(
     }
 }
 
+/// Returns the answer that accepts `cert`.
 fn accept_peak(alloc: Global, found: &Found, cert: &PeakCertificate) -> Result<Answer, AllocError>
     requires peak { HasPeak found.now }
     requires inside { IsSourceIn (tide_of_found found.now) found.now.asked cert.now.peak.at }

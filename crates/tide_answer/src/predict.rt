@@ -1,4 +1,4 @@
-//! The events of a station over a span.
+//! The answer of `predict`: the events of a station over a span.
 
 ghost use Rattle.std.specs.Prelude.{◌≡◌, All, IfErr, IfOk};
 ghost use Rattle.decimal_text.specs.Expected.{Gives};
@@ -18,8 +18,12 @@ use std::alloc::{AllocError, Global};
 use tide_fault::Refusal;
 use zone_time::ZoneClock;
 
-/// The listing of a station's events in a span, or the first refusal: the station, its unit, the
-/// span, the limits, the mark.
+/// Returns the listing of the events of the station `name` over the span of `asked`, in `layout`
+/// and by the clock of `zone`.
+///
+/// # Errors
+/// The first [`Refusal`] in this order: the station, its unit, the span, the bounds on its
+/// constants, the mark.
 #[tactic(auto, unfolding(crate::specs::Answers::predicted))]
 pub fn predict(
     alloc: Global,
@@ -43,6 +47,7 @@ pub fn predict(
     })
 }
 
+/// Returns the text of the events in `layout`.
 fn list_events(
     alloc: Global,
     layout: Layout,

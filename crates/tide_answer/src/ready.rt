@@ -1,4 +1,4 @@
-//! An answer that is ready to be written.
+//! Answers that are streamed.
 
 ghost use Rattle.std.specs.Prelude.{◌≡◌, if◌then◌else◌, Some, None, IsSome, IsTrue, IfErr, is_some};
 ghost use Rattle.std.specs.Option.{ForSome};
@@ -23,15 +23,15 @@ use tide_edge::{Sink, WriteFailed};
 use tide_fault::Refusal;
 use zone_time::Zone;
 
-/// What the answer to a question is written from, where it streams.
+/// The source of the answer to a request, if this answer can be written as it is found.
 #[derive(Drop)]
 pub struct Ready {
     stream: Option<Stream>,
 }
 
 impl Ready {
-    /// Whether the answer streams: the station has the events of its reference as they are, in plain
-    /// lines, and the zone isn't a file.
+    /// Returns true if the answer is streamed: the station has no offsets, the layout is text, and
+    /// the zone isn't a file.
     pub fn streams(&self) -> bool
         ensures { result ≡ is_some self.now.stream }
     {
@@ -39,8 +39,11 @@ impl Ready {
     }
 }
 
-/// Finds what the answer to a prediction or a certificate's question is written from, or the first
-/// refusal, as [`answer`](crate::answer) has it.
+/// Finds the source of the answer to a request to predict or to certify, from which
+/// [`answer_into`](crate::answer_into) writes it.
+///
+/// # Errors
+/// The first [`Refusal`] in the order of [`answer`](crate::answer).
 pub fn prepare(
     alloc: Global,
     book: &Book,
@@ -60,6 +63,7 @@ pub fn prepare(
     find_ready(alloc, &book, table, &question, given)
 }
 
+/// Finds the source of the answer to a request whose form is checked.
 #[tactic(auto, unfolding(crate::specs::Streams::prepared))]
 fn find_ready(
     alloc: Global,
@@ -89,11 +93,12 @@ fn find_ready(
     }
 }
 
-/// Writes the text of an answer that streams, and answers the number of its cells. It takes no memory.
+/// Writes the text of an answer that is streamed, and returns the number of its cells. Doesn't
+/// allocate.
 ///
 /// # Errors
-/// [`WriteFailed`] where a write failed: exactly the first `sent` bytes were taken, and nothing was
-/// written after that.
+/// [`WriteFailed`] if a write failed: exactly the first `sent` bytes were written, and nothing
+/// after that.
 pub fn answer_into<S: Sink>(ready: &Ready, out: &mut S) -> Result<u64, WriteFailed>
     requires { IsSome ready.now.stream }
     ensures { ForSome ready.now.stream (λ answer. Streams (S.state out.old) (S.state out.new) answer result) }
@@ -104,14 +109,15 @@ pub fn answer_into<S: Sink>(ready: &Ready, out: &mut S) -> Result<u64, WriteFail
     }
 }
 
-/// Whether the answers of a command can be written as they are found. Which of them are,
-/// [`Ready::streams`] says.
+/// Returns true if the answers of `command` can be written as they are found. [`Ready::streams`]
+/// says which of them are.
 pub fn can_stream(command: Command) -> bool
     ensures { result ≡ can_stream command }
 {
     matches!(command, Command::Predict | Command::Certify)
 }
 
+/// Returns the form of the answers of `command`, which can be streamed.
 fn form_of(command: Command) -> Form
     ensures { result ≡ form_of command }
 {
@@ -121,7 +127,7 @@ fn form_of(command: Command) -> Form
     }
 }
 
-// The zone, where an answer streams.
+// Returns the zone, if the answer is streamed.
 fn streamed_zone(basis: &Basis, layout: Layout, zone: &Zone) -> Option<Zone>
     ensures { result ≡ (if streams_by basis.now layout zone.now then Some zone.now else None) }
 {

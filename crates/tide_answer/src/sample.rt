@@ -1,4 +1,4 @@
-//! The file that is made from a seed.
+//! The answer of `sample`: a harmonics file made from a seed.
 
 ghost use Rattle.std.specs.Prelude.{◌≡◌, IfOk};
 ghost use Rattle.sample_tides.specs.File.{sample_of};
@@ -8,7 +8,7 @@ use crate::text::{Answer, text_alone};
 use sample_tides::sample;
 use std::alloc::{AllocError, Global};
 
-/// The harmonics file of made-up constants that is drawn from a seed.
+/// Returns the harmonics file of made-up constants that `seed` determines.
 pub fn give_sample(alloc: Global, seed: u64) -> Result<Answer, AllocError>
     ensures { IfOk result (λ answer. answer ≡ text_alone (sample_of seed)) }
 {

@@ -1,4 +1,4 @@
-//! A listing that is written as its events are found. It takes no memory.
+//! A listing that is written as its events are found. None of these functions allocates.
 
 ghost use Rattle.std.specs.Prelude.{◌≡◌, ◌+◌, ◌*◌, ◌<◌, ◌≤◌, ◌^◌, length, All, OnOk};
 ghost use Rattle.std.specs.List.{flat_map};
@@ -17,7 +17,10 @@ use station_cells::{Page, Sent, send_name};
 use tide_edge::{Sink, WriteFailed};
 use zone_time::ZoneClock;
 
-/// Writes the line of each event that a merge has left.
+/// Writes the line of each event that `merge` has left.
+///
+/// # Errors
+/// [`WriteFailed`] if the sink fails: then it holds a prefix of the lines.
 pub fn send_events<'a, S: Sink>(
     out: &mut S,
     sent: Sent,
@@ -39,6 +42,7 @@ pub fn send_events<'a, S: Sink>(
     page.end(out, so_far)
 }
 
+/// Returns the line of `event`.
 fn line_of(units: Units, event: &Event, zone: &ZoneClock<'_>) -> ArrayString<96>
     requires listed { IsListed units event.now }
     ensures { result.bytes ≡ event_line_in zone.now units event.now }
@@ -49,7 +53,10 @@ fn line_of(units: Units, event: &Event, zone: &ZoneClock<'_>) -> ArrayString<96>
     line
 }
 
-/// Writes a station's name, and the line of each event that a merge has left.
+/// Writes the station's `name`, and the line of each event that `merge` has left.
+///
+/// # Errors
+/// [`WriteFailed`] if the sink fails: then it holds a prefix of the listing.
 #[tactic(auto, unfolding(listing::specs::Listings::plain_events_of))]
 pub fn send_listing<'a, S: Sink>(
     out: &mut S,

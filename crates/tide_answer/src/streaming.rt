@@ -13,8 +13,8 @@ use std::marker::Model;
 use tide_edge::{Sink, WriteFailed};
 use zone_time::Zone;
 
-/// An answer that is written as it is found, by a station's curve that it owns. Contracts see the
-/// answer.
+/// An answer that is written as it is found, by the curve of a station that it owns. Contracts see
+/// it as the answer.
 #[derive(Drop)]
 pub struct Stream {
     form: Form,
@@ -35,7 +35,7 @@ impl Model for Stream {
 }
 
 impl Stream {
-    /// The answer of a form, of a station that was found.
+    /// Returns the answer of the form `form` for the station `found`.
     pub fn new(form: Form, found: Found, name: Text, zone: Zone) -> Stream
         requires { IsStream found name zone }
         ensures { result ≡ stream_of form found name zone }
@@ -48,7 +48,11 @@ impl Stream {
         }
     }
 
-    /// Writes the answer's text, and returns its number of cells. It doesn't allocate.
+    /// Writes the answer's text, and returns the number of its cells. Doesn't allocate.
+    ///
+    /// # Errors
+    /// [`WriteFailed`] if a write failed: exactly the first `sent` bytes were written, and nothing
+    /// after that.
     pub fn write<S: Sink>(&self, out: &mut S) -> Result<u64, WriteFailed>
         ensures { Streams (S.state out.old) (S.state out.new) self.now result }
     {
@@ -59,6 +63,7 @@ impl Stream {
     }
 }
 
+/// Writes a listing.
 fn write_listing<S: Sink>(
     out: &mut S,
     found: &Found,
@@ -73,6 +78,7 @@ fn write_listing<S: Sink>(
     Ok(merge.cells())
 }
 
+/// Writes a certificate.
 fn write_certificate<S: Sink>(
     out: &mut S,
     found: &Found,

@@ -1,4 +1,4 @@
-//! What a trial counts.
+//! The counts of a trial.
 
 ghost use Rattle.std.specs.Prelude.{◌≡◌, ◌*◌, ◌<◌, ◌≤◌, ◌^◌, ◌++◌, codes, decimal, length, sum_by, option_to_list, IfOk, OnOk, string_bytes};
 ghost use Rattle.event_list.specs.Events.{minutes_in, cells_in, tracks_of as tracks_in};
@@ -12,7 +12,7 @@ use event_list::Span;
 use station_cells::{Rejection, cell_count};
 use std::alloc::{AllocError, Global};
 
-/// What is counted at a station, or summed over stations.
+/// The counts of a trial at one station, or their sums over stations.
 #[derive(Clone, Copy, Debug)]
 pub struct Tally {
     /// The minutes of all tracks.
@@ -20,14 +20,14 @@ pub struct Tally {
     pub events: u128,
     /// The cells of all tracks.
     pub cells: u128,
-    /// Those of them in which nothing happens for minutes together.
+    /// The cells of several minutes without an event.
     pub quiet: u128,
     /// The certificates that the check accepts.
     pub accepted: u128,
 }
 
 impl Tally {
-    /// No station yet.
+    /// Returns the counts of no station.
     pub fn nothing() -> Tally
         ensures { result ≡ nothing }
     {
@@ -40,7 +40,7 @@ impl Tally {
         }
     }
 
-    /// With one station more.
+    /// Returns these counts plus those of `one` station.
     #[tactic(auto, unfolding(crate::specs::Trials::plus))]
     pub fn plus(self, one: Tally) -> Tally
         requires sum { IsUpTo (2 ^ 100) self }
@@ -56,7 +56,8 @@ impl Tally {
         }
     }
 
-    /// What is counted of tracks over a span, of their events, and of what is found on them.
+    /// Returns the counts of `tracks` over `span`, of their `events`, and of the `rejection` of the
+    /// check, if any.
     #[tactic(auto, unfolding(crate::specs::Trials::tally_by))]
     pub fn of(span: &Span, tracks: &Tracks, events: &Events, rejection: Option<Rejection>) -> Tally
         requires near { IsNearSpan span.now }
@@ -74,6 +75,7 @@ impl Tally {
     }
 }
 
+/// Returns the minutes of all tracks.
 fn minutes_of(span: &Span, tracks: &Tracks) -> u128
     requires { IsNearSpan span.now }
     ensures exact { result ≡ minutes_in span.now * length (tracks_in tracks.now) }
@@ -82,6 +84,7 @@ fn minutes_of(span: &Span, tracks: &Tracks) -> u128
     u128::from(span_minutes(span)) * u128::from(track_count(tracks))
 }
 
+/// Returns the number of minutes of `span`.
 fn span_minutes(span: &Span) -> u64
     requires { IsNearSpan span.now }
     ensures exact { result ≡ minutes_in span.now }
@@ -90,6 +93,7 @@ fn span_minutes(span: &Span) -> u64
     (span.end - span.begin).unsigned_abs()
 }
 
+/// Returns the number of tracks.
 fn track_count(tracks: &Tracks) -> u32
     ensures exact { result ≡ length (tracks_in tracks.now) }
     ensures few { result ≤ 3 }
@@ -97,6 +101,7 @@ fn track_count(tracks: &Tracks) -> u32
     1 + u32::from(tracks.slack.is_some()) + u32::from(tracks.mark.is_some())
 }
 
+/// Returns the number of quiet cells of all tracks.
 fn quiet_count(tracks: &Tracks) -> u128
     ensures exact { result ≡ sum_by quiet_in (tracks_in tracks.now) }
     ensures few { result ≤ 2 ^ 66 }
@@ -104,6 +109,7 @@ fn quiet_count(tracks: &Tracks) -> u128
     quiet_of(&tracks.turn) + quiet_if_followed(&tracks.slack) + quiet_if_followed(&tracks.mark)
 }
 
+/// Returns the number of quiet cells of a track that may be absent.
 fn quiet_if_followed(cells: &Option<Cells>) -> u128
     ensures exact { result ≡ sum_by quiet_in (option_to_list cells.now) }
     ensures few { result < 2 ^ 64 }
@@ -114,6 +120,7 @@ fn quiet_if_followed(cells: &Option<Cells>) -> u128
     }
 }
 
+/// Returns the number of quiet cells of a track.
 fn quiet_of(cells: &Cells) -> u128
     ensures exact { result ≡ quiet_in cells.now }
     ensures few { result < 2 ^ 64 }
@@ -125,6 +132,7 @@ fn quiet_of(cells: &Cells) -> u128
     u128::from(quiet)
 }
 
+/// Returns 1 if `cell` is quiet, and 0 otherwise.
 fn quiet_one(cell: Cell) -> u64
     ensures exact { result ≡ quiet_one cell }
     ensures few { result ≤ 1 }
@@ -135,7 +143,7 @@ fn quiet_one(cell: Cell) -> u64
     }
 }
 
-// A certificate of which nothing is wrong is accepted.
+// Returns 1 if there is no rejection, and 0 otherwise.
 fn accepted_count(rejection: Option<Rejection>) -> u128
     ensures exact { result ≡ accepted_if rejection }
     ensures few { result ≤ 1 }
@@ -146,7 +154,7 @@ fn accepted_count(rejection: Option<Rejection>) -> u128
     }
 }
 
-/// The lines of a trial.
+/// Returns the lines of the trial of `seed` with the counts `sum`.
 #[tactic(auto, unfolding(crate::specs::Trials::trial_text))]
 pub fn tally_text(alloc: Global, seed: u64, sum: Tally) -> Result<Bytes, AllocError>
     requires { IsUpTo (2 ^ 100) sum }
@@ -163,6 +171,7 @@ pub fn tally_text(alloc: Global, seed: u64, sum: Tally) -> Result<Bytes, AllocEr
     Ok(Bytes::from_vec(text.into_bytes()))
 }
 
+/// Appends the line of `what` and its `number`.
 fn push_line(alloc: Global, text: &mut String, what: &str, number: u128) -> Result<(), AllocError>
     ensures { OnOk result (string_bytes text.new ≡ string_bytes text.old ++ number_line what.now number) }
 {

@@ -1,4 +1,4 @@
-//! What a question is answered with.
+//! Answers.
 
 ghost use Rattle.std.specs.Prelude.{◌≡◌, IfOk};
 ghost use Rattle.tide_answer.specs.Answers.{text_accepted, text_alone, text_rejected};
@@ -6,18 +6,18 @@ ghost use Rattle.tide_answer.specs.Answers.{text_accepted, text_alone, text_reje
 use decimal_text::Bytes;
 use std::alloc::{AllocError, Global};
 
-/// What a question is answered with.
+/// The answer to a request.
 #[derive(Debug, Drop)]
 pub struct Answer {
     pub text: Bytes,
-    /// A certificate was judged and isn't valid: the text says why.
+    /// True if a certificate was checked and isn't valid. The text has the fault.
     pub rejected: bool,
-    /// How many cells the asked tracks are cut into, where the answer lists events: each track over
-    /// the whole span of the reference.
+    /// The number of cells of the requested tracks, each over the reference's whole span, if the
+    /// answer lists events, and 0 otherwise.
     pub cells: u64,
 }
 
-/// A text for which no cells are counted.
+/// Returns an answer without a count of cells.
 pub fn text_alone(text: Bytes) -> Answer
     ensures { result ≡ text_alone text }
 {
@@ -28,7 +28,7 @@ pub fn text_alone(text: Bytes) -> Answer
     }
 }
 
-/// The word that accepts a certificate, and what follows of it.
+/// Returns the answer that accepts a certificate: the line `Accepted`, and then `told`.
 pub fn accepted(alloc: Global, told: &Bytes) -> Result<Answer, AllocError>
     ensures { IfOk result (λ answer. answer ≡ text_accepted told.now) }
 {
@@ -38,7 +38,7 @@ pub fn accepted(alloc: Global, told: &Bytes) -> Result<Answer, AllocError>
     Ok(text_alone(Bytes::from_vec(text)))
 }
 
-/// The line of what is wrong with a certificate.
+/// Returns the answer that rejects a certificate with `line`, which reports its first fault.
 pub fn rejected(line: Bytes) -> Answer
     ensures { result ≡ text_rejected line }
 {

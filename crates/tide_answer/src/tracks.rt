@@ -11,7 +11,8 @@ use station_cells::tracks_over;
 use station_span::{Found, mark_curve, slack_curve, turn_curve};
 use std::alloc::{AllocError, Global};
 
-/// The cells of each curve that is followed, over the minutes of the reference that are looked at.
+/// Returns the cells of each curve that is followed, over the reference's minutes that are
+/// evaluated.
 pub fn find_tracks(alloc: Global, found: &Found) -> Result<Tracks, AllocError>
     requires { found.now.reach ≡ Reach.Events }
     ensures { IfOk result (λ tracks. tracks ≡ tracks_of found.now.origin.book (site_of found.now) found.now.asked) }

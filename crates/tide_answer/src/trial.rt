@@ -1,4 +1,4 @@
-//! A trial of the predictor over a sample file.
+//! The answer of `trial`: a trial of the predictor over a file made from a seed.
 
 ghost use Rattle.std.specs.Prelude.{◌≡◌, ◌<◌, ◌≤◌, ◌^◌, [], length, take, IfErr, IfOk};
 ghost use Rattle.decimal_text.specs.Expected.{Gives};
@@ -21,18 +21,21 @@ use station_table::OffsetTable;
 use std::alloc::Global;
 use tide_fault::Refusal;
 
-/// How many stations of the file are tried.
+/// The number of stations that are tried.
 const STATIONS: usize = 40;
 
-/// The span over which they are: from 2000-12-01T00:00Z to 2001-02-01T00:00Z.
+/// The span of the trial: from 2000-12-01T00:00Z up to 2001-02-01T00:00Z.
 const SPAN: Asked = Asked {
     begin: 16_260_480,
     end: 16_349_760,
     mark: None,
 };
 
-/// What comes of predicting, certifying and checking the first forty stations of a seed's file, or the
-/// first refusal.
+/// Predicts, certifies and checks at the first forty stations of the file that `seed` determines,
+/// and returns the lines of the counts.
+///
+/// # Errors
+/// [`Refusal::BadSample`] if the file isn't of its form, and the first [`Refusal`] of a station.
 #[tactic(auto, unfolding(crate::specs::Trials::trial_of))]
 pub fn try_sample(alloc: Global, seed: u64) -> Result<Bytes, Refusal>
     ensures exact { Gives wants_memory_of_refusal (trial_of seed) result }
@@ -44,6 +47,7 @@ pub fn try_sample(alloc: Global, seed: u64) -> Result<Bytes, Refusal>
     Ok(tally_text(alloc, seed, sum)?)
 }
 
+/// Reads the harmonics file `text`.
 fn book_in(alloc: Global, text: &[u8]) -> Result<Book, Refusal>
     requires { length text.now ≤ MOST_BYTES }
     ensures exact { Gives wants_memory_of_refusal (book_from (book_of text.now)) result }
@@ -57,6 +61,7 @@ fn book_in(alloc: Global, text: &[u8]) -> Result<Book, Refusal>
     }
 }
 
+/// Returns the first forty stations of `book`, or all if there are fewer.
 fn first_stations(book: &Book) -> &[Station]
     ensures exact { result.now ≡ take station_count book.now.stations }
     ensures few { length result.now ≤ 40 }
@@ -69,7 +74,8 @@ fn first_stations(book: &Book) -> &[Station]
     }
 }
 
-// The sums over stations, of which nothing else is held from one to the next.
+// Returns the sums of the counts over `stations`. Nothing else is kept from one station to the
+// next.
 fn tally_stations(
     alloc: Global,
     book: &SoundBook<'_>,
@@ -89,7 +95,7 @@ fn tally_stations(
     Ok(sum)
 }
 
-// A station is predicted, certified and checked.
+// Predicts, certifies and checks at the station `name`, and returns the counts.
 #[tactic(auto, unfolding(crate::specs::Trials::station_tally))]
 fn tally_station(
     alloc: Global,

@@ -1,4 +1,4 @@
--- How an answer over files follows from its steps.
+-- The answer over files, from its steps.
 use Rattle.std.proofs.Common.{◌≡◌, ◌∙◌, ap, ℕ, ℤ, Bool, true, false, if◌then◌else◌, List, [], ◌∷◌, ◌++◌, map, append-nil, Option, Some, None, Result, Ok, Err, refl, sym, subst, le_refl}
 use Rattle.std.specs.Bool.{IsTrue}
 use Rattle.std.specs.Prelude.{IsOk, IsSome, count_by, pos}
@@ -30,7 +30,7 @@ use Rattle.tide_desk.specs.Answers.{AsksClock, HasFiles, NamesFile, allowed_by, 
 use Rattle.tide_desk.specs.Outcomes.{Sources, WentOn, sources}
 use Rattle.tide_desk.specs.Shown.{answer_shown, folders_by, minute_read, names_by, names_wanted, shown_by, shown_over}
 
--- ---- What was read, and what was asked of the clock
+-- ---- The bytes that were read, and the readings of the clock
 
 one_failed : (failed : Bool) → count_by (λ f. f) (failed ∷ false ∷ []) ≡ (if failed then 1 else 0)
 one_failed true = refl
@@ -40,7 +40,7 @@ other_failed : (failed : Bool) → count_by (λ f. f) (false ∷ failed ∷ []) 
 other_failed true = refl
 other_failed false = refl
 
--- the files were read, and the clock wasn't asked
+-- the files were read, and the clock wasn't
 pub went_reading : (asks : Type 0) (allowed : Allowance) (failed : Bool) (before after : FilesState) (clock : ClockState)
     → ReadWithin allowed failed before after → WentOn failed asks allowed (sources before clock) (sources after clock)
 went_reading asks allowed failed before after clock read = record {
@@ -61,7 +61,7 @@ pub went_nowhere : (asks : Type 0) (allowed : Allowance) (files : FilesState) (c
     → WentOn false asks allowed (sources files clock) (sources files clock)
 went_nowhere asks allowed files clock = went_reading asks allowed false files files clock (read_none allowed files)
 
--- the files were read, and then the clock was asked, where it is to be
+-- the files were read, and then the clock, if it is needed
 pub went_asking : (asks failed : Bool) (minute : ℤ) (allowed : Allowance) (before after : FilesState) (clock later : ClockState)
     → (IsTrue failed → IsTrue asks) → ReadWithin allowed false before after
     → later ≡ (if asks then clock_after (answer failed minute) clock else clock)
@@ -79,13 +79,13 @@ went_asking asks failed minute allowed before after clock later asked read time 
   last = λ is. let untrue : false ≡ true = is in cc;
 }
 
--- a clock that was asked and failed shows it
+-- a clock that was read and failed has one more fault
 pub clock_rose : (asks : Bool) (failed : Failed) (clock later : ClockState) → IsTrue asks → later ≡ (if asks then clock_after (Err failed) clock else clock)
     → Rose clock.faults later.faults
 clock_rose true failed clock later asked time = rw time (le_refl (counted clock.faults))
 clock_rose false failed clock later asked time = let untrue : false ≡ true = asked in cc
 
--- what a question asks, the words that ask it do
+-- a command line needs what its request needs
 pub went_by_words : (failed : Bool) (asked : Result Question Fault) (question : Question) (name : List ℕ) (before after : Sources)
     → asked ≡ Ok question → question.file ≡ Some name → WentOn failed (IsTrue (asks_clock question.command)) (files_allowed question) before after
     → WentOn failed (AsksClock asked) (allowed_by asked) before after
@@ -93,7 +93,7 @@ went_by_words failed asked question name before after is named went =
     let P : Option (List ℕ) → Type 0 = λ file. WentOn failed (IsTrue (asks_clock question.command)) (option_map_or (λ name. files_allowed question) file no_file) before after in
     rw is (subst P (sym named) went)
 
--- ---- By what was opened
+-- ---- By the openings
 
 pub failing_at : {A : Type 0} (result : Result A NoAnswer) (none : NoAnswer) → IsErrAnd result (λ e. e ≡ none) → failing_file result ≡ file_of none
 failing_at (Ok value) none is = absurd is
@@ -125,7 +125,7 @@ shown_unread sheets given question name before after none result is read = recor
   answer = meets_at (Unit {0}) (files_in (folders_shown question read.openings) question name) _ result none is read.answer;
 }
 
--- they were, and the rest gave the result
+-- the files were read, and the result is that of the other steps
 pub shown_read : (sheets : List SheetMeaning) (given : Option ℤ) (question : Question) (name : List ℕ) (before after : Openings) (read : Materials)
     (result : Result Answer NoAnswer) → failing_file result ≡ None
     → Meets source_of (Unit {0}) (minute_read question.command given >>= λ now.
@@ -141,7 +141,7 @@ shown_read sheets given question name before after read result of_none meets ope
   answer = rw opened.answer meets;
 }
 
--- what a question is answered, the words that ask it are
+-- a command line has the answer of its request
 pub shown_named : (sheets : List SheetMeaning) (given : Option ℤ) (words : List (List ℕ)) (question : Question) (name : List ℕ) (before after : Openings)
     (result : Result Answer NoAnswer) → asked_of sheets words ≡ Ok question → question.file ≡ Some name
     → IsResultOf (names_to name question) (λ openings. shown_over sheets (folders_shown question openings) given question name) before after result
@@ -158,7 +158,7 @@ shown_named sheets given words question name before after result is named shown 
       answer = rw is (subst M (sym named) shown.answer);
     }
 
--- words that ask nothing
+-- a command line that is no request
 pub shown_unasked : (sheets : List SheetMeaning) (given : Option ℤ) (words : List (List ℕ)) (fault : Fault) (result : Result Answer NoAnswer)
     (openings : List Opening) → IsErrAnd result (λ none. none ≡ Told fault) → Excused (fault_wants_memory fault) (asked_of sheets words) fault
     → Meets source_of (Unit {0}) (answer_shown sheets (folders_by (asked_of sheets words) openings) given words) result
@@ -166,7 +166,7 @@ unfolding answer_shown
 shown_unasked sheets given words fault result openings is excused =
     meets_at (Unit {0}) (told (asked_of sheets words)) _ result (Told fault) is (told_excuses (Unit {0}) (asked_of sheets words) fault excused)
 
--- words that name no file
+-- a command line that names no file
 pub shown_alone : (sheets : List SheetMeaning) (given : Option ℤ) (words : List (List ℕ)) (question : Question) (result : Result Answer NoAnswer)
     (openings : List Opening) → asked_of sheets words ≡ Ok question → question.file ≡ None
     → Gives wants_memory (told (refused_from (answered_alone question))) result
@@ -176,7 +176,7 @@ shown_alone sheets given words question result openings is none gives =
     let M : Option (List ℕ) → Type 0 = λ file. Meets source_of (Unit {0}) (shown_by sheets (folders_shown question openings) given question file) result in
     rw is (subst M (sym none) (meets_inside (Unit {0}) (told (refused_from (answered_alone question))) result gives))
 
--- ---- Words that ask nothing, that name a file, or that name none
+-- ---- Command lines that are no request, that name a file, or that name none
 
 pub meets_unasked : (firm : Type 0) (sheets : List SheetMeaning) (folders : Folders) (minute : ℤ) (words : List (List ℕ)) (fault : Fault) (result : Result Answer NoAnswer)
     → IsErrAnd result (λ none. none ≡ Told fault) → Excused (fault_wants_memory fault) (asked_of sheets words) fault → Meets source_of firm (answer_from sheets folders minute words) result

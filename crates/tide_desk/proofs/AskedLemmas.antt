@@ -1,4 +1,4 @@
--- What is known of a question that words ask.
+-- The request of a command line.
 use Rattle.std.proofs.Common.{◌≡◌, ℕ, ◌+◌, ℤ, ◌≤◌, Bool, true, false, cond, not, ◌&&◌, List, [], ◌∷◌, Option, Some, None, is_some, Result, Ok, Err, refl, subst, sym, ap, ◌∙◌}
 use Rattle.std.specs.Prelude.{option_and_then, unsigned_abs, unwrap_or}
 use Rattle.std.specs.List.{find}
@@ -34,9 +34,9 @@ use Rattle.tide_answer.specs.Laws.{IsAskable}
 use Rattle.station_span.proofs.SiteLemmas.{then_ok}
 use Rattle.tide_desk.specs.Answers.{asked_of, ask_from, asks_to_serve, known_in, question_in, wanted_by}
 
--- ---- the question of pairs
+-- ---- the request of pairs
 
--- the question is what the items say of a command
+-- the request is what the items say of a command
 record WasAsked (pairs : Pairs) (question : Question) : Type 0 where
   pub command : Command
   pub said : Said
@@ -69,7 +69,7 @@ words_ask sheets words question ok =
     (unserved (asks_to_serve (pairs_of words)) (question_of (pairs_of words)) question
     (ask_ok (question_in (pairs_of words)) question (asked.1 ∙ ap (λ (q : Question). Ok q) same)))
 
--- ---- the values of its keys lie in their ranges
+-- ---- the values of its keys are in their ranges
 
 pub record IsInRange (question : Question) : Type 0 where
   pub begin : ForSome question.begin IsMoment
@@ -89,7 +89,7 @@ asked_in_range sheets words question ok =
       mark = value_in_range (λ millionths. unsigned_abs millionths ≤ 10000000000) mark_of (was.said key.Mark) mark_of-range;
     })
 
--- ---- words name no key that their command hasn't
+-- ---- a command line has no key that its command lacks
 
 found_passes : {X : Type 0} (test : X → Bool) (xs : List X) (x : X) → find test xs ≡ Some x → test x ≡ true
 found_passes test [] x is = absurd cc
@@ -151,9 +151,9 @@ names_no_zone sheets words question command lacks ok is =
     let was = words_unsaid sheets words question command key.Zone ok is lacks in
     ap (λ (q : Question). q.zone) (sym was.2) ∙ ap (λ (text : Option (List ℕ)). unwrap_or (option_and_then (zone_of Line) text) Utc) was.1
 
--- ---- what it names of a span
+-- ---- its span
 
--- a station and a span that a question names
+-- a station and a span that a request names
 pub record NamesSpan (question : Question) (name : List ℕ) (asked : Asked) : Type 0 where
   pub station : question.station ≡ Some name
   pub begin : question.begin ≡ Some asked.begin

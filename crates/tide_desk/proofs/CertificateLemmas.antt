@@ -1,4 +1,4 @@
--- What certificates come to over files and words.
+-- The laws of certificates over files and command lines.
 use Rattle.std.proofs.Common.{◌≡◌, ℕ, ℤ, List, [], Some, None, Ok, refl, ap, ◌∙◌, arith}
 use Rattle.cert_text.specs.Spelling.{Spells}
 use Rattle.question.specs.declared.command.Command.{Command}
@@ -21,7 +21,7 @@ use Rattle.tide_desk.proofs.AskedLemmas.{NamesSpan, asked_in_range, askable, goe
 use Rattle.tide_desk.proofs.CheckingLemmas.{IsSubject, accepts_with, checked_files, checks, has_book, named_read, names_subject, shown_over, subject_named, text_at, text_some, was_made}
 use Rattle.tide_desk.proofs.FileLemmas.{ReadsFiles, WasRead, certificate_held, named_book, named_table, was_answered}
 
--- ---- what the commands are
+-- ---- the commands
 
 certify_reads : (question : Question) → question.command ≡ Certify → ReadsFiles question
 certify_reads question is = record { alone = λ seed. rw is refl; plain = ap is_report is }
@@ -51,7 +51,7 @@ with_listing sheets folder check subject file name asked read answer named was a
     (λ minute question asks none. listed sheets folder check question subject file name asked read accepts.0 minute named was about accepts.1 asks none)
     accepts.2
 
--- ---- what certify answers is accepted
+-- ---- the answer of `certify` is accepted
 
 pub certified_accepted : books.AcceptsWhatIsCertified → books.CertifiesInShort → AcceptsWhatCertifyAnswers
 certified_accepted accepts shortens sheets before after minute later words more certify check certificate zone asks ok asks_check holds shown =
@@ -69,7 +69,7 @@ certified_accepted accepts shortens sheets before after minute later words more 
       with_listing sheets after check (subject_of certify) has.name was.name was.asked read accepted.0 has.named files (subject_named certify was.name was.asked was.names) accepted.2,
     )
 
--- ---- what check accepts is true
+-- ---- an accepted certificate is true
 
 pub accepted_true : books.AcceptsOnlyWhatIsTrue → AcceptsOnlyTrueCertificates
 accepted_true tells sheets folder minute words check answer asks ok accepted =

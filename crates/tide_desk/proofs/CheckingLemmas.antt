@@ -1,4 +1,5 @@
--- What certificates of any kind come to over files and words: how one is made, how one is held, and what a check of one answers.
+-- Certificates of any kind over files and command lines: how one is made, how one is held, and the answer
+-- of a check.
 use Rattle.std.proofs.Common.{◌≡◌, ℕ, ℤ, ◌≤◌, false, List, [], ◌∷◌, ◌++◌, codes, length, length-append, Option, Some, None, Result, Ok, refl, subst, sym, ap, ◌∙◌, arith}
 use Rattle.std.specs.Prelude.{IsSomeAnd}
 use Rattle.cert_text.specs.Texts.{ended, joined, IsTextBy}
@@ -30,7 +31,7 @@ text_at command other read question given answer same ok =
 
 -- ---- a subject
 
--- the station, the span and the mark are those
+-- a subject is the station, the span and the mark
 pub record IsSubject (subject : Subject) (name : List ℕ) (asked : Asked) : Type 0 where
   pub station : subject.station ≡ Some name
   pub begin : subject.begin ≡ Some asked.begin
@@ -48,9 +49,9 @@ names_subject question subject name asked same is = record {
 pub subject_named : (question : Question) (name : List ℕ) (asked : Asked) → NamesSpan question name asked → IsSubject (subject_of question) name asked
 subject_named question name asked names = record { station = names.station; begin = names.begin; end = names.end; mark = names.mark }
 
--- ---- a question over the files of a check
+-- ---- a request over the files of a check
 
--- of no certificate, and in a zone that was read
+-- such a request without a certificate, in a zone that was read
 pub shown_over : (sheets : List SheetMeaning) (folder : Folder) (check question : Question) (file : List ℕ) (read : Materials) (zone : Zone) (shown : Answer) (minute : ℤ) → check.file ≡ Some file → WasRead folder check file read → is_report question.command ≡ false → NameSameFiles question check → zone_named folder question.zone ≡ Ok zone → question.certificate ≡ None → text_by question.command read.book read.table question (given_with (record read { zone = zone; certificate = [] }) (minute_for question.command minute)) ≡ Ok shown → answered_by sheets (λ slot. folder) minute question question.file ≡ Ok shown
 unfolding certificate_named
 shown_over sheets folder check question file read zone shown minute named was plain files place none text =
@@ -72,11 +73,11 @@ shown_over sheets folder check question file read zone shown minute named was pl
 abbrev pub Makes : Type 0
 Makes = Book → List Offsets → List ℕ → Asked → Result Answer Refusal
 
--- the command makes it of a station's span
+-- the command makes a certificate of a station's span
 abbrev pub GoesOver : Command → Makes → Type 0
 GoesOver command made = (book : Book) (table : List Offsets) (question : Question) (given : Given) → text_by command book table question given ≡ asks_span question (λ name asked. made book table name asked)
 
--- what an answer of the command is of
+-- the station and the span of an answer of the command
 pub record IsMade (made : Makes) (folder : Folder) (question : Question) (certificate : Answer) : Type 0 where
   pub file : List ℕ
   pub named : question.file ≡ Some file
@@ -106,7 +107,7 @@ was_made made sheets folder minute words command question certificate reads goes
 
 -- ---- a certificate that is held
 
--- what is there, and what is known of it
+-- an option with a value, and a fact of this value
 there_and : {A : Type 0} (named : Option A) (P : A → Type 0) → IsSomeAnd named P → (name : A) × (named ≡ Some name) × P name
 there_and (Some name) P is = (name, refl, is)
 there_and None P is = absurd is
@@ -114,7 +115,7 @@ there_and None P is = absurd is
 one_name : (named : Option (List ℕ)) (name other : List ℕ) → named ≡ Some name → named ≡ Some other → name ≡ other
 one_name named name other is also = cc
 
--- the book of the check, under its own name
+-- the harmonic constants of the check, under its own name
 pub record HasBook (folder : Folder) (check : Question) (book : Book) : Type 0 where
   pub name : List ℕ
   pub named : check.file ≡ Some name
@@ -136,7 +137,7 @@ checked_files made before after question check certificate zone was has few hold
   certificate = certificate_there after check.certificate certificate.text holds.certificate few;
 }
 
--- ---- what a check answers
+-- ---- the answer of a check
 
 pub checks : (sheets : List SheetMeaning) (folder : Folder) (minute : ℤ) (words : List (List ℕ)) (command : Command) (check : Question) (file : List ℕ) (read : Materials) (answer : Answer) → is_report command ≡ false → Asks sheets words command check → check.file ≡ Some file → WasRead folder check file read → text_by command read.book read.table check (given_with read (minute_for check.command minute)) ≡ Ok answer → answer_of sheets folder minute words ≡ Ok answer
 checks sheets folder minute words command check file read answer plain asks named was ok =
@@ -150,7 +151,7 @@ checks sheets folder minute words command check file read answer plain asks name
       text = text_at command check.command read check (given_with read (minute_for check.command minute)) answer (sym asks.is) ok;
     })
 
--- words that ask for what is shown name no certificate
+-- a request for what is shown names no certificate
 pub accepts_with : (sheets : List SheetMeaning) (folder : Folder) (asks : Question → Type 0) (shown answer : Answer) → ((words : List (List ℕ)) (question : Question) → asked_of sheets words ≡ Ok question → asks question → question.certificate ≡ None) → ((minute : ℤ) (question : Question) → asks question → question.certificate ≡ None → answered_by sheets (λ slot. folder) minute question question.file ≡ Ok shown) → answer ≡ text_alone (codes "Accepted\n" ++ shown.text) → AcceptsWith sheets folder asks answer
 accepts_with sheets folder asks shown answer none shows text = record {
   shown = shown;
@@ -160,7 +161,7 @@ accepts_with sheets folder asks shown answer none shows text = record {
   to_question = shows;
 }
 
--- ---- a text has a byte
+-- ---- a text has at least one byte
 
 lines_some : {C : Type 0} (spells : C → List (List ℕ) → Type 0) (said : C) (lines : List (List ℕ)) → (spells said [] → ⊥) → spells said lines → joined lines ≡ [] → ⊥
 lines_some spells said [] never spelled none = never spelled

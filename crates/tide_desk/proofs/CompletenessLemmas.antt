@@ -1,4 +1,4 @@
--- A run over an outside that doesn't fail ends by its answer, or out of memory.
+-- A run over objects that don't fail ends by its answer, or out of memory.
 use Rattle.std.proofs.Common.{◌≡◌, ◌⊎◌, ◌∙◌, ℕ, ℤ, ◌≤◌, Bool, true, false, List, [], codes, length, pos, Option, Some, None, Result, Ok, Err, inl, inr, refl, sym, ap, arith, le_refl}
 use Rattle.std.proofs.lemmas.Bool.{leb-true}
 use Rattle.std.specs.Prelude.{if◌then◌else◌}
@@ -57,9 +57,9 @@ use Rattle.tide_desk.proofs.FileLemmas.{WasRead, bytes_whole, read_whole, words_
 use Rattle.tide_desk.proofs.PeakCertificateLemmas.{utc_named}
 use Rattle.tide_desk.proofs.SettledLemmas.{never}
 
--- ---- How a run ends
+-- ---- The end of a run
 
--- a write that failed shows it
+-- a write that failed raises the count of faults
 wrote_risen : (before after : SinkState) (text : List ℕ) → Wrote before after true text → Rose before.faults after.faults
 wrote_risen before after text wrote = rw wrote.2 (le_refl (counted before.faults))
 
@@ -97,7 +97,7 @@ whole_by (Err none) ReadFault before after ends unrisen = inl (record { ends = s
 ran_out : {F O E K : Type 0} (status : Status) (before after : Objects F O E K) → IsUntouched status before.out after.out → status ≡ NoMemory → RanOut status before after
 ran_out status before after untouched is = record { ends = is; unwritten = rw is at untouched }
 
--- of the whole objects
+-- the end of a run by its whole objects
 ends_by : {F O E K : Type 0} (s : States F O E K) (sheets : List SheetMeaning) (words : List (List ℕ)) (status : Status) (before after : Objects F O E K) (expected : Result Answer NoAnswer)
     → AnswersAs s sheets words status before after → EndsAs expected status (outputs_of s before) (outputs_of s after)
     → ¬ (Rose (s.out before.out).faults (s.out after.out).faults) → EndsWhole s expected status before after ⊎ RanOut status before after
@@ -116,7 +116,7 @@ pub ends_by_what_came : {F O E K : Type 0} (s : States F O E K) → EndsByWhatCa
 ends_by_what_came s sheets words status before after answers unrisen =
     ends_by s sheets words status before after (answer_by sheets words answers.shown.openings (s.clock before.clock) (s.clock after.clock)) answers answers.shown.ends unrisen
 
--- ---- A question that nothing refuses
+-- ---- A request that nothing refuses
 
 over_files : (sheets : List SheetMeaning) (folder : Folder) (minute : ℤ) (words : List (List ℕ)) (answer : Answer) (has : HasAnswer sheets folder minute words answer)
     → answered_over sheets (λ slot. folder) minute has.question has.name ≡ Ok answer
@@ -130,13 +130,13 @@ has_answer sheets folder minute words answer has =
     ∙ ap (answered_by sheets (λ slot. folder) minute has.question) has.file
     ∙ over_files sheets folder minute words answer has
 
--- nothing is said beside a text that was written whole
+-- no line is written with a text that was written whole
 silent : {E : Type 0} (rejected : Bool) (status : Status) (before after : E) → status ≡ (if rejected then Rejected else Done)
     → IsSilent status before after → after ≡ before
 silent true status before after is quiet = rw is at quiet
 silent false status before after is quiet = rw is at quiet
 
--- of an answer that is there
+-- the end of a run that has an answer
 answered_whole : {F O E K : Type 0} (s : States F O E K) (expected : Result Answer NoAnswer) (answer : Answer) (status : Status) (before after : Objects F O E K)
     → expected ≡ Ok answer → IsSilent status before.err after.err → EndsWhole s expected status before after → WroteAll s answer status before after
 answered_whole s expected answer status before after is quiet whole =
@@ -160,7 +160,7 @@ is_complete s sheets words status before after answer answers nothing has =
 
 -- ---- Certificates
 
--- of an answer that rejects nothing
+-- the end of a run whose answer rejects nothing
 pub accepting_by : {F O E K : Type 0} (s : States F O E K) (accepts : Answer → Type 0) (sheets : List SheetMeaning) (words : List (List ℕ)) (status : Status) (before after : Objects F O E K) (expected : Result Answer NoAnswer) (answer : Answer)
     → AnswersAs s sheets words status before after → expected ≡ Ok answer → answer.rejected ≡ false → accepts answer
     → EndsWhole s expected status before after ⊎ RanOut status before after → EndsAccepting s accepts status before after
@@ -185,7 +185,7 @@ files_held : (folder : Folder) (question : Question) (book : Book) (table : List
 files_held folder question book table text zone holds shown =
     record { book = holds.constants; table = holds.offsets; zone = shown; certificate = holds.certificate }
 
--- an answer that a check came to
+-- the answer of a check
 abbrev judging : Answer → Result Answer Refusal
 judging answer = Ok answer
 
@@ -200,7 +200,7 @@ unfolding peak_checked
 valid_peak_checked book table text valid =
     (peak_judged book valid.site valid.certificate Accepted, rw (valid.written, valid.unrefused, valid.accepted) refl, refl)
 
--- and what is accepted is valid
+-- an accepted certificate is valid
 certificate_ok : (read : Result Certificate CertFault) (certificate : Certificate) → certificate_from read ≡ Ok certificate → read ≡ Ok certificate
 certificate_ok (Ok found) certificate ok = cc
 certificate_ok (Err fault) certificate ok = absurd cc
@@ -275,7 +275,7 @@ accepts_valid_peaks s tells sheets words check book table text status before aft
     accepting s (IsTruePeakAnswer sheets folder check) sheets words status before after made.0 answers nothing is made.2
     (tells sheets folder minute words check made.0 asks is made.2)
 
--- ---- A run that is worked out
+-- ---- A run worked out by hand
 
 book_there : (folder : Folder) (name bytes : List ℕ) (book : Book) → folder name ≡ Some bytes → length bytes ≤ limit_of slots.File → book_of bytes ≡ Ok book → book_named folder name ≡ Ok book
 unfolding book_named

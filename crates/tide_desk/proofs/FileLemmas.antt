@@ -1,4 +1,4 @@
--- What is known of the files of a question that were read, and of an answer over them.
+-- The files of a request that were read, and an answer over them.
 use Rattle.std.proofs.Common.{◌≡◌, ℕ, ℤ, ◌≤◌, Bool, true, false, cond, List, [], length, nat_le, Option, Some, None, Result, Ok, Err, refl, subst, sym, ap, ◌∙◌, arith}
 use Rattle.std.proofs.lemmas.Bool.{leb-true, le-leb}
 use Rattle.std.proofs.lemmas.List.Elements.{All-nil}
@@ -44,7 +44,7 @@ bytes_held slot (Some held) bytes ok =
 pub bytes_whole : (slot : Slot) (file : Option (List ℕ)) (bytes : List ℕ) → file ≡ Some bytes → length bytes ≤ limit_of slot → bytes_of slot file ≡ Ok bytes
 bytes_whole slot file bytes held few = rw (held, le-leb (length bytes) (limit_of slot) few) refl
 
--- ---- the book and the table
+-- ---- the harmonic constants and the table
 
 book_ok : (read : Result TheBook At) (book : TheBook) → book_from read ≡ Ok book → read ≡ Ok book
 book_ok (Ok found) book ok = cc
@@ -78,13 +78,13 @@ unfolding certificate_named
 certificate_there folder None text held few = absurd held
 certificate_there folder (Some name) text held few = bytes_whole slots.Certificate (folder name) text held few
 
--- it is held under a name, or has no byte
+-- the text of a certificate is that of a named file, or has no byte
 pub certificate_held : (folder : Folder) (named : Option (List ℕ)) (text : List ℕ) → certificate_named folder named ≡ Ok text → (text ≡ [] → ⊥) → Holds folder named text
 unfolding certificate_named
 certificate_held folder None text ok some = absurd (some cc)
 certificate_held folder (Some name) text ok some = (bytes_held slots.Certificate (folder name) text ok).0
 
--- ---- all files of a question
+-- ---- all files of a request
 
 pub record WasRead (folder : Folder) (question : Question) (name : List ℕ) (read : Materials) : Type 0 where
   pub book : book_named folder name ≡ Ok read.book
@@ -120,7 +120,7 @@ pub unrefused : (table : List Row) (result : Result Answer Refusal) (answer : An
 unrefused table (Ok found) answer ok = cc
 unrefused table (Err refusal) answer ok = absurd cc
 
--- a command that reads files, and makes no report of them, has no answer without them
+-- a command that reads files, and isn't a report, has no answer without them
 pub record ReadsFiles (question : Question) : Type 0 where
   pub alone : (seed : Option ℕ) → text_from question.command seed ≡ Err NoStation
   pub plain : is_report question.command ≡ false
@@ -144,7 +144,7 @@ unfolding answered_alone
 by_file sheets folder minute question (Some name) answer file reads ok = over_file sheets folder minute question name answer file reads ok
 by_file sheets folder minute question None answer file reads ok = absurd (let none = rw (reads.alone question.seed) at ok in cc)
 
--- words that ask a question are answered as it is
+-- a command line has the answer of its request
 pub words_answer : (sheets : List SheetMeaning) (folder : Folder) (minute : ℤ) (words : List (List ℕ)) (question : Question) → asked_of sheets words ≡ Ok question → answer_of sheets folder minute words ≡ answered_by sheets (λ slot. folder) minute question question.file
 unfolding answer_from
 words_answer sheets folder minute words question asked = rw asked refl
@@ -153,7 +153,7 @@ pub was_answered : (sheets : List SheetMeaning) (folder : Folder) (minute : ℤ)
 was_answered sheets folder minute words question answer asked reads ok =
     by_file sheets folder minute question question.file answer refl reads (sym (words_answer sheets folder minute words question asked) ∙ ok)
 
--- and what the files and the question come to is the answer
+-- the answer is that of the request over the contents of the files
 is_over_file : (sheets : List SheetMeaning) (folder : Folder) (minute : ℤ) (question : Question) (answer : Answer) (was : WasAnswered folder minute question answer) → is_report question.command ≡ false → answered_over sheets (λ slot. folder) minute question was.name ≡ Ok answer
 unfolding answered_over answered
 is_over_file sheets folder minute question answer was plain =

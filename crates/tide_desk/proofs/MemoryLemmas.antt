@@ -1,4 +1,4 @@
--- What a run leaves of objects in memory.
+-- The objects in memory after a run.
 use Rattle.std.proofs.Common.{◌≡◌, ◌⊎◌, ◌∙◌, ℕ, List, [], ◌++◌, Result, ap, inl, inr, refl}
 use Rattle.tide_answer.specs.declared.text.Answer.{Answer}
 use Rattle.tide_edge.specs.Memory.{HeldSink, sink_state}

@@ -1,4 +1,4 @@
--- How a run ends where a fault is told.
+-- The end of a run that reports a fault.
 use Rattle.std.proofs.Common.{◌≡◌, ◌⊎◌, Bool, true, false, cond, if◌then◌else◌, [], Result, Ok, inl, inr, refl, sym, ◌∙◌}
 use Rattle.decimal_text.specs.Expected.{Excused}
 use Rattle.question.specs.declared.fault.AskFault.TheVariants as ask
@@ -19,7 +19,7 @@ use Rattle.named_files.specs.NoAnswers.{status_of, line_of, source_of, wants_mem
 use Rattle.tide_desk.specs.Outcomes.{Says, EndsAs, Outputs, is_write_fault, output_with, line_with}
 use Rattle.named_files.specs.Telling.{Tells}
 
--- the status of a fault says the expected answer, its line goes with it, and nothing is to be written
+-- the status of a fault fits the expected answer, its line belongs to it, and nothing is written
 record Fits (expected : Result Answer NoAnswer) (none : NoAnswer) : Type 0 where
   says : Says expected (status_of none)
   line : line_with expected (status_of none) ≡ line_of none
@@ -43,7 +43,7 @@ fits expected (Told (Refused _)) gives = rw gives (record { says = refl; line = 
 fits expected (none_of.Refused refusals.NoMemory rows) gives = record { says = tt; line = refl; output = refl; unfailed = refl }
 fits expected (none_of.Refused _ rows) gives = rw gives (record { says = refl; line = refl; output = refl; unfailed = refl })
 
--- where a fault is told and nothing was written
+-- a fault was reported and nothing was written
 ends_itself : (expected : Result Answer NoAnswer) (none : NoAnswer) (before after : Outputs) (failed : Bool) → Excused (wants_memory none) expected none → Wrote before.out after.out false [] → Wrote before.err after.err failed (line_of none) → EndsAs expected (status_of none) before after
 ends_itself expected none before after failed gives quiet told =
     let f = fits expected none gives in
@@ -56,7 +56,8 @@ ends_told expected none status before after gives quiet told =
       | inr t ↦ rw t.0 (record { says = tt; output = quiet; failed = t.2.0; line = t.2.1 })
     ]
 
--- what a fault says over an outside that tells, unless reading failed where that didn't stand firm
+-- a fault over observable objects is the expected one, unless reading failed and the files or the clock
+-- weren't steady
 excused_inside : (firm : Type 0) (memory_wanted : Bool) (expected : Result Answer NoAnswer) (none : NoAnswer) → Excuses (cond memory_wanted memory given) firm expected none → Excused memory_wanted expected none
 excused_inside firm true expected none excuses = tt
 excused_inside firm false expected none excuses = excuses
@@ -75,7 +76,7 @@ ends_own firm expected none status before after excuses either quiet told =
       | inr t ↦ rw t.0 (record { says = tt; output = quiet; failed = t.2.0; line = t.2.1 })
     ]
 
--- where the text was written whole, and nothing beside it
+-- the text was written whole, and nothing else
 pub ends_whole : (expected : Result Answer NoAnswer) (answer : Answer) (rejected : Bool) (status : Status) (before after : Outputs)
     → expected ≡ Ok answer → rejected ≡ answer.rejected → status ≡ (if rejected then Rejected else Done)
     → Wrote before.out after.out false answer.text → after.err ≡ put [] before.err → EndsAs expected status before after

@@ -1,4 +1,4 @@
--- What one run has written is accepted by the next one.
+-- The next run accepts what one run has written.
 use Rattle.std.proofs.Common.{◌≡◌, ◌∙◌, ℕ, ℤ, ◌++◌, false, List, [], Option, Some, Result, Ok, Err, inr, refl, subst, sym, ap, pos}
 use Rattle.std.specs.Result.{IsOkAnd}
 use Rattle.named_files.specs.declared.materials.Materials.{Materials}
@@ -33,7 +33,7 @@ use Rattle.tide_desk.proofs.CompletenessLemmas.{accepting, accepting_by, ends_by
 use Rattle.tide_desk.proofs.FileLemmas.{named_book, named_table, unrefused}
 use Rattle.tide_desk.proofs.SettledLemmas.{never}
 
--- ---- By what the files hold
+-- ---- By the contents of the files
 
 unasked : (sheets : List SheetMeaning) (words : List (List ℕ)) (command : Command) (question : Question) → asks_clock command ≡ false
     → Asks sheets words command question → ¬ (AsksClock (asked_of sheets words))
@@ -43,7 +43,7 @@ ok_answer : (expected : Result Answer NoAnswer) → IsOkAnd expected (λ answer.
 ok_answer (Ok answer) is = (answer, refl)
 ok_answer (Err none) is = absurd is
 
--- an empty output has taken the text of the answer
+-- an empty output holds the text of the answer afterwards
 taken_whole : (before after : SinkState) (text : List ℕ) → before.taken ≡ [] → after ≡ put text before → after.taken ≡ text
 taken_whole before after text empty is = ap (λ (s : SinkState). s.taken) is ∙ ap (λ (taken : List ℕ). taken ++ text) empty
 
@@ -73,9 +73,9 @@ checks_peak s t accepts sheets words more peak check before after status first l
     accepting t (AcceptsWithHighest sheets (folder_held t first) check (subject_of peak)) sheets more status first last is.0 answers nothing is.1
     (ap (λ (a : Answer). a.rejected) is.2.text) is.2
 
--- ---- By what came
+-- ---- By the bytes that were read
 
--- the answer to a command that neither reads the clock nor makes a report
+-- the answer to a command that neither reads the clock nor writes a report
 shown_text : (sheets : List SheetMeaning) (folders : Folders) (given : Option ℤ) (words : List (List ℕ)) (command : Command) (question : Question) (name : List ℕ) (read : Materials)
     → Asks sheets words command question → asks_clock command ≡ false → is_report command ≡ false → question.file ≡ Some name → files_in folders question name ≡ Ok read
     → answer_shown sheets folders given words ≡ refused_over read.table (text_by command read.book read.table question (given_with read (pos 0)))
@@ -83,7 +83,7 @@ unfolding answer_shown shown_over answered files_in
 shown_text sheets folders given words command question name read asks unread plain file files =
     rw (asks.asked, file, files, asks.is, unread, plain) refl
 
--- the book and the table that came
+-- the harmonic constants and the table that were read
 record PartsCame (folders : Folders) (question : Question) (name : List ℕ) (read : Materials) : Type 0 where
   book : book_named (folders slots.File) name ≡ Ok read.book
   table : table_named (folders slots.Offsets) question.offsets ≡ Ok read.table
@@ -98,7 +98,7 @@ parts_came folders question name read ok =
     let same : record { book = book.0; table = table.0; zone = zone.0; certificate = certificate.0 } ≡ read = (let last = certificate.2 in cc) in
     subst (PartsCame folders question name) same (record { book = book.1; table = table.1 })
 
--- what an answer of a command that certifies is of
+-- the station and the span of an answer of a command that certifies
 record IsMadeOf (made : Makes) (question : Question) (read : Materials) (certificate : Answer) : Type 0 where
   name : List ℕ
   asked : Asked
@@ -115,7 +115,7 @@ was_made_of made sheets folders given words command question name read certifica
     let over = went_over_span question (λ name asked. made read.book read.table name asked) certificate (sym (goes read.book read.table question given_now) ∙ text) in
     record { name = over.0; asked = over.1; names = over.2; text = over.3 }
 
--- what a check of it answers
+-- the answer of a check of a certificate
 record IsAccepted (certify : Question) (one two : Materials) (answer : Answer) : Type 0 where
   checks : checked two.book two.table two.certificate two.zone ≡ Ok answer
   about : AcceptsSubject one.book one.table two.zone (subject_of certify) answer
@@ -159,7 +159,7 @@ checks_came s t accepts sheets words more certify check before after status firs
     (unrejecting one two.zone (subject_of certify) accepted.0 accepted.1.about) accepted.1.about
     (ends_by_what_came t sheets more status first last checks unrisen)
 
--- ---- A highest water, by what came
+-- ---- A highest water, by the bytes that were read
 
 record IsAcceptedPeak (peak : Question) (one two : Materials) (answer : Answer) : Type 0 where
   checks : peak_checked two.book two.table two.certificate ≡ Ok answer

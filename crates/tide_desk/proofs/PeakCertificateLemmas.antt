@@ -1,4 +1,4 @@
--- What certificates of a highest water come to over files and words.
+-- The laws of certificates of a highest water over files and command lines.
 use Rattle.std.proofs.Common.{◌≡◌, ℕ, ℤ, List, [], Some, None, Ok, refl, ap, ◌∙◌, arith}
 use Rattle.highest_water.specs.PeakSpelling.{SpellsPeak}
 use Rattle.question.specs.declared.command.Command.{Command}
@@ -24,7 +24,7 @@ use Rattle.tide_desk.proofs.AskedLemmas.{NamesSpan, asked_in_range, askable, goe
 use Rattle.tide_desk.proofs.CheckingLemmas.{IsSubject, accepts_with, checked_files, checks, has_book, named_read, names_subject, shown_over, subject_named, text_at, text_some, was_made}
 use Rattle.tide_desk.proofs.FileLemmas.{ReadsFiles, WasRead, certificate_held, named_book, named_table, was_answered}
 
--- ---- what the commands are
+-- ---- the commands
 
 peak_reads : (question : Question) → question.command ≡ Peak → ReadsFiles question
 peak_reads question is = record { alone = λ seed. rw is refl; plain = ap is_report is }
@@ -57,7 +57,7 @@ with_highest sheets folder check subject file name asked read answer named was a
     (λ minute question asks none. told sheets folder check question subject file name asked read accepts.0 minute named was about accepts.1 asks none)
     accepts.2
 
--- ---- what peak answers is accepted
+-- ---- the answer of `peak` is accepted
 
 pub peak_accepted : books.AcceptsWhatPeakCertifies → books.PeakCertifiesInShort → AcceptsWhatPeakAnswers
 peak_accepted accepts shortens sheets before after minute later words more peak check certificate asks ok asks_check holds =
@@ -76,7 +76,7 @@ peak_accepted accepts shortens sheets before after minute later words more peak 
       with_highest sheets after check (subject_of peak) has.name was.name was.asked read accepted.0 has.named files (subject_named peak was.name was.asked was.names) accepted.2,
     )
 
--- ---- what peakcheck accepts is true
+-- ---- an accepted certificate is true
 
 pub peak_true : books.AcceptsOnlyTruePeaks → AcceptsOnlyTruePeaks
 peak_true tells sheets folder minute words check answer asks ok accepted =

@@ -1,4 +1,4 @@
--- How a reply stands for its answer.
+-- The answer that a reply writes.
 use Rattle.std.proofs.Common.{◌≡◌, ℕ, Bool, true, false, if◌then◌else◌, IsTrue, List, [], Option, Some, None, Result, Ok, Err, refl}
 use Rattle.std.specs.Prelude.{◌&&◌, is_some}
 use Rattle.std.specs.Option.{IsSomeAnd, option_map_or}
@@ -20,9 +20,9 @@ use Rattle.station_span.specs.Following.{events_of}
 use Rattle.station_span.specs.Sites.{site_in}
 use Rattle.tide_answer.specs.Streams.{can_stream, prepared, streams_by}
 
--- ---- What is ready says of the answer
+-- ---- The prepared source and the answer
 
--- a refusal is the answer's, and what streams is the answer, which rejects nothing
+-- a refusal is the answer's, and a streamed answer is the answer, which rejects nothing
 abbrev pub Says : Result Answer Refusal → Result Ready Refusal → Type 0
 Says answer (Ok ready) = (text : Answer) → ready.stream ≡ Some text → (answer ≡ Ok text) × (text.rejected ≡ false)
 Says answer (Err refusal) = answer ≡ Err refusal
@@ -58,7 +58,7 @@ pub prepared_says : (book : Book) (table : List Offsets) (question : Question) (
 unfolding prepared answered
 prepared_says book table question given can = by_command question.command book table question given can
 
--- ---- What a reply is made of
+-- ---- The source of a reply
 
 -- the first of two that both hold
 pub first_holds : (first second : Bool) → (first && second) ≡ true → IsTrue first
@@ -74,7 +74,7 @@ pub streams_answer : (answer : Result Answer Refusal) (stream : Option Answer) �
 streams_answer answer (Some text) some says = (says text refl).0
 streams_answer answer None some says = absurd (cc)
 
--- ---- What is written
+-- ---- The bytes that are written
 
 pub there : (stream : Option Answer) → IsSomeAnd stream (λ text. text.rejected ≡ false) → stream ≡ Some (option_map_or (λ text. text) stream (text_alone []))
 there (Some text) quiet = refl

@@ -1,4 +1,4 @@
--- What is told where reading has failed or memory is wanting, and what isn't.
+-- Reasons that are reported if reading has failed or memory ran out, and those that aren't.
 use Rattle.std.proofs.Common.{◌≡◌, Bool, true, false, cond, Option, List, ℕ, None, Result, Ok, Err, inl, inr, refl, subst}
 use Rattle.std.specs.Bool.{IsTrue}
 use Rattle.std.specs.Prelude.{IsOk}
@@ -27,7 +27,7 @@ use Rattle.tide_desk.specs.Workings.Settled.{IsSettled}
 pub never : {G : Type 0} → false ≡ true → G
 never is = cc
 
--- it is given by what was read or asked
+-- such a reason follows from the request and the bytes that were read
 settled_given : (none : NoAnswer) → IsSettled none → source_of none ≡ given
 settled_given Unread settled = never settled
 settled_given (Told (Ask ask.NoMemory)) settled = never settled
@@ -44,7 +44,7 @@ settled_given (Told (Refused _)) settled = refl
 settled_given (none_of.Refused refusals.NoMemory rows) settled = never settled
 settled_given (none_of.Refused _ rows) settled = refl
 
--- and so it is the expected fault
+-- such a reason is the expected one
 settled_expected : {A : Type 0} (firm : Type 0) (expected : Result A NoAnswer) (none : NoAnswer) → Excuses (source_of none) firm expected none → IsSettled none → expected ≡ Err none
 settled_expected firm expected none excuses settled =
     subst (λ source. Excuses source firm expected none) (settled_given none settled) excuses
@@ -53,12 +53,12 @@ no_value : {A E : Type 0} (expected : Result A E) (fault : E) → expected ≡ E
 no_value (Ok value) fault is ok = cc
 no_value (Err other) fault is ok = never ok
 
--- where a file can be read it isn't told
+-- the reason isn't that a file couldn't be read, if it can be
 pub unread_unsettled : {A : Type 0} (firm : Type 0) (expected : Result A NoAnswer) (none : NoAnswer) → Excuses (source_of none) firm expected none → IsOk expected → IsSettled none → ⊥
 unread_unsettled firm expected none excuses ok settled =
     no_value expected none (settled_expected firm expected none excuses settled) ok
 
--- where words ask for the clock it isn't told of them
+-- the reason isn't that memory ran out, if it has another source
 memory_of : (b : Bool) → cond b memory given ≡ given → b ≡ false
 memory_of true is = cc
 memory_of false is = refl
@@ -69,13 +69,13 @@ unasked_unsettled (Ok question) fault excused asks settled =
     let is : Ok question ≡ Err fault = rw given_one at excused in cc
 unasked_unsettled (Err other) fault excused asks settled = asks
 
--- a question that names no file has none that can be read
+-- a request that names no file has no files that can be read
 pub nameless_unread : (folders : Folders) (asked : Result Question Fault) (question : Question) → asked ≡ Ok question → question.file ≡ None → HasFiles folders asked → ⊥
 nameless_unread folders asked question is none has =
     let P : Option (List ℕ) → Type 0 = λ file. IsSomeAnd file (λ name. IsOk (files_in folders question name)) in
     subst P none (rw is at has)
 
--- what is told goes with its status
+-- the line that is written belongs to the status
 pub settled_told : (none : NoAnswer) (status : Status) (before after : SinkState) → Tells none status before after → IsTrue (is_settled status) → IsSettled none
 settled_told none status before after told settled =
     elim told [

@@ -1,4 +1,4 @@
--- The place of a wanted word that no sheet has.
+-- The index of a requested word that no sheet has.
 use Rattle.std.proofs.Common.{◌≡◌, ℕ, ◌<◌, Bool, true, false, cond, List, length, nat_lt, Some, None, refl, subst}
 use Rattle.std.specs.Prelude.{not}
 use Rattle.std.specs.List.{position_or_len}
@@ -10,7 +10,7 @@ some_place : (within : Bool) (other place : ℕ) → cond within (Some other) No
 some_place true other place is = (refl, cc)
 some_place false other place is = absurd cc
 
--- it is one of the wanted words
+-- the index is one of the requested words
 pub missing_within : (sheets : List SheetMeaning) (wanted : List (List ℕ)) (place : ℕ) → missing_of sheets wanted ≡ Some place → place < length wanted
 unfolding missing_of
 missing_within sheets wanted place is =

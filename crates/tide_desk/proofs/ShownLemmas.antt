@@ -1,4 +1,4 @@
--- How a run ends by what it opened.
+-- The end of a run by what it opened.
 use Rattle.std.proofs.Common.{◌≡◌, ◌∙◌, ap, ℕ, false, List, [], ◌++◌, map, append-nil, append_assoc, Option, Some, None, Result, Ok, Err, inl, refl, sym}
 use Rattle.decimal_text.specs.Expected.{Excused}
 use Rattle.named_files.specs.declared.no_answer.NoAnswer.{NoAnswer}
@@ -32,7 +32,7 @@ wider : (asked : Result Question Fault) (why : Option Slot) → (more : List (Li
 wider (Ok question) why = wider_by question question.file why
 wider (Err fault) why = ([], refl)
 
--- ---- How it ends
+-- ---- The end
 
 pub shown_answered : (sheets : List SheetMeaning) (words : List (List ℕ)) (before after : Sources) (answer : Answer) (status : Status)
     (unwritten written : Outputs)

@@ -1,4 +1,4 @@
--- A table that was read meets what every table meets.
+-- A table that was read is a valid table.
 use Rattle.std.proofs.Common.{◌≡◌, ℕ, zero, suc, ◌+◌, ◌≤◌, ◌==◌, ℤ, pos, negsuc, Bool, true, false, cond, ◌&&◌, ◌||◌, List, [], ◌∷◌, length, Option, Some, None, Result, Ok, Err, All, nat_le, refl, subst, arith}
 use Rattle.std.specs.Prelude.{int_lt, get_or}
 use Rattle.std.specs.List.{list_all}
@@ -32,7 +32,7 @@ use Rattle.station_span.proofs.SiteLemmas.{then_ok}
 use Rattle.decimal_text.specs.Names.{is_name_byte}
 use Rattle.decimal_text.specs.declared.limits.TheConstants.{MOST_BYTES}
 
--- ---- a test went well
+-- ---- a test that was true
 
 passed : {A E : Type 0} (b : Bool) (x y : A) (e : E) → cond b (Ok x) (Err e) ≡ Ok y → (b ≡ true) × (x ≡ y)
 passed true x y e ok = (refl, cc)
@@ -196,7 +196,7 @@ in_sound (names ∷ rows) table ok =
     let header = then_ok (header_of names) _ table ok in
     (rows_sound header.0 2 rows table header.2, omega (arith, rows_count header.0 2 rows table header.2))
 
--- no more records than are looked for
+-- at most as many records as are read
 next_few : (more : State → List ℕ → List (List (List ℕ))) (n : ℕ) (read : Option Read) → ((s : State) (xs : List ℕ) → length (more s xs) ≤ n) → length (records_next more read) ≤ suc n
 next_few more n None few = omega arith
 next_few more n (Some p) few = omega (arith, few p.1 p.2)

@@ -1,4 +1,4 @@
--- The answer to the words over files and a clock, with the sheets of a report (this project).
+-- The answer to a command line over files and a clock, with the sheets of a report (this project).
 use Rattle.std.specs.Prelude.{ℕ, ℤ, pos, Bool, true, false, IsTrue, if◌then◌else◌, List, [], codes, Option, Some, None, Result, Ok, Err, IsOk, IsSome, slice_get, unwrap_or}
 use Rattle.std.specs.Option.{option_map_or, IsSomeAnd}
 use Rattle.std.specs.Result.{IsOkAnd}
@@ -31,83 +31,88 @@ use Rattle.named_files.specs.Readings.{Folders, files_allowed, files_in}
 use Rattle.tide_edge.specs.FileStates.{Folder}
 use Rattle.tide_edge.specs.Whole.{Allowance, no_file}
 
--- ---- The words
+-- ---- The arguments
 
--- a fault of the crates below, as the run's
+-- a result with a fault of the arguments as one with a fault of the run
 abbrev pub ask_from : {A : Type 0} → Result A AskFault → Result A Fault
 ask_from (Ok value) = Ok value
 ask_from (Err fault) = Err (Ask fault)
 
+-- a result with a refusal as one with a fault of the run
 abbrev pub refused_from : {A : Type 0} → Result A Refusal → Result A Fault
 refused_from (Ok value) = Ok value
 refused_from (Err refusal) = Err (Refused refusal)
 
--- a run answers one question: it doesn't serve
+-- the command is `serve`, which no run answers
 abbrev pub asks_to_serve : Pairs → Bool
 asks_to_serve pairs = option_map_or (λ word. bytes_eq word (codes "serve")) pairs.command false
 
+-- the request of a command line
 abbrev pub question_in : Pairs → Result Question AskFault
 question_in pairs = if asks_to_serve pairs then Err UnknownCommand else question_of pairs
 
--- the sheets that a question wants: none, if it asks for no report
+-- the words of the sheets that a request names; none if it isn't for a report
 abbrev pub wanted_by : Question → List (List ℕ)
 wanted_by question = unwrap_or question.sheets []
 
--- the wanted word at a place
+-- the requested word at an index
 abbrev pub word_at : List (List ℕ) → ℕ → List ℕ
 word_at wanted place = unwrap_or (slice_get wanted place) []
 
--- each wanted word is a sheet's, or the first that isn't is told
+-- the step of the sheets: each requested word is a sheet's, or the first that isn't is the fault
 abbrev pub known_in : List (List ℕ) → Option ℕ → Result (Unit {0}) Fault
 known_in wanted None = Ok tt
 known_in wanted (Some place) = Err (NoSheet (word_at wanted place))
 
--- what the words ask, where a report can have these sheets
+-- the request of a command line, if a report can have these sheets
 unfoldable pub asked_of : List SheetMeaning → List (List ℕ) → Result Question Fault
 asked_of sheets words = do
   question ← ask_from (question_in (pairs_of words))
   known ← known_in (wanted_by question) (missing_of sheets (wanted_by question))
   Ok question
 
--- the words ask a question that names a file
+-- the request names a file
 abbrev pub NamesFile : Result Question Fault → Type 0
 NamesFile asked = IsOkAnd asked (λ question. IsSome question.file)
 
--- one whose files can all be read
+-- the request names files that can all be read
 abbrev pub HasFiles : Folders → Result Question Fault → Type 0
 HasFiles folders asked = IsOkAnd asked (λ question. IsSomeAnd question.file (λ name. IsOk (files_in folders question name)))
 
--- ---- The clock, which is asked after all files
+-- ---- The clock, which is read after all files
 
--- whether a command asks for the present minute
+-- the commands that read the clock
 abbrev pub asks_clock : Command → Bool
 asks_clock Clock = true
 asks_clock Report = true
 asks_clock _ = false
 
+-- the minute for a command: the present one if it reads the clock, and 0 otherwise
 abbrev pub minute_for : Command → ℤ → ℤ
 minute_for command minute = if asks_clock command then minute else pos 0
 
+-- the inputs of an answer besides the request, the harmonic constants and the offsets
 abbrev pub given_with : Materials → ℤ → Given
 given_with read now = record { zone = read.zone; certificate = read.certificate; now = now }
 
--- words that ask a question which asks for the present minute
+-- the request is for a command that reads the clock
 abbrev pub AsksClock : Result Question Fault → Type 0
 AsksClock asked = IsOkAnd asked (λ question. IsTrue (asks_clock question.command))
 
--- ---- How much of the files may be read
+-- ---- The bytes that may be read
 
+-- the bytes that may be read for a request
 abbrev pub question_allowed : Question → Allowance
 question_allowed question = option_map_or (λ name. files_allowed question) question.file no_file
 
--- of words that ask nothing, nothing
+-- the bytes that may be read for a command line; none if it is no request
 abbrev pub allowed_by : Result Question Fault → Allowance
 allowed_by (Ok question) = question_allowed question
 allowed_by (Err fault) = no_file
 
--- ---- The answer, or the first fault on the way to it
+-- ---- The answer, or the first reason for which there is none
 
--- whether a command asks for sheets
+-- the command that writes sheets
 abbrev pub is_report : Command → Bool
 is_report Report = true
 is_report _ = false
@@ -116,34 +121,35 @@ is_report _ = false
 abbrev pub head_of : Listed → ℤ → Head
 head_of listed now = record { name = listed.name; units = listed.units; now = now }
 
--- a report: the pages of the wanted sheets, of the station's events
+-- a report: the pages of the requested sheets, of the station's events
 unfoldable pub reported : List SheetMeaning → Book → List Offsets → Question → ℤ → Result Answer Refusal
 reported sheets book table question now = do
   events ← listed book table question
   Ok (text_alone (pages_of sheets (wanted_by question) (head_of events now) events.events))
 
--- the answer over a book and a table: a report, or one without sheets
+-- the answer over harmonic constants and a table: a report, or one without sheets
 abbrev pub answered_with : Bool → List SheetMeaning → Book → List Offsets → Question → Given → Result Answer Refusal
 answered_with true sheets book table question given = reported sheets book table question given.now
 answered_with false sheets book table question given = answered book table question given
 
--- over the files, of which the first has this name
+-- the answer over the files; the harmonics file has the name
 unfoldable pub answered_over : List SheetMeaning → Folders → ℤ → Question → List ℕ → Result Answer NoAnswer
 answered_over sheets folders minute question name = do
   read ← files_in folders question name
   refused_over read.table
       (answered_with (is_report question.command) sheets read.book read.table question (given_with read (minute_for question.command minute)))
 
--- a question that names no file is answered alone
+-- the answer to a request, which may name no file
 abbrev pub answered_by : List SheetMeaning → Folders → ℤ → Question → Option (List ℕ) → Result Answer NoAnswer
 answered_by sheets folders minute question None = told (refused_from (answered_alone question))
 answered_by sheets folders minute question (Some name) = answered_over sheets folders minute question name
 
+-- the answer to a command line, for which each file is read from a folder of its own
 unfoldable pub answer_from : List SheetMeaning → Folders → ℤ → List (List ℕ) → Result Answer NoAnswer
 answer_from sheets folders minute words = do
   question ← told (asked_of sheets words)
   answered_by sheets folders minute question question.file
 
--- the answer to the words over a folder of files and the present minute
+-- the answer to a command line over a folder of files and the present minute
 abbrev pub answer_of : List SheetMeaning → Folder → ℤ → List (List ℕ) → Result Answer NoAnswer
 answer_of sheets folder = answer_from sheets (λ slot. folder)

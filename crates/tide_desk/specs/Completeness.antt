@@ -1,4 +1,5 @@
--- Over an outside that doesn't fail a run ends by its answer, with the whole text, or out of memory (this project).
+-- Over files, a clock and outputs that don't fail a run ends by its answer, with the whole text, or out of
+-- memory (this project).
 use Rattle.std.specs.Prelude.{◌≡◌, ◌⊎◌, ℕ, ℤ, Bool, false, IsTrue, if◌then◌else◌, List, Some, None, Result, Ok, Err}
 use Rattle.cert_text.specs.declared.certificate.Certificate.{Certificate}
 use Rattle.cert_text.specs.Readings.{certificate_of}
@@ -37,18 +38,20 @@ use Rattle.tide_desk.specs.PeakLaws.{IsTruePeakAnswer}
 use Rattle.tide_desk.specs.Promises.{AnswersAs, Objects, States, sources_of}
 use Rattle.tide_desk.specs.Shown.{answer_by}
 
--- ---- An outside that doesn't fail
+-- ---- Objects that don't fail
 
+-- the folder of the files
 abbrev pub folder_held : {F O E K : Type 0} → States F O E K → Objects F O E K → Folder
 folder_held s o = (s.files o.files).store.folder
 
--- The answer to the words over what the objects hold.
+-- the answer to a command line over the contents of the objects
 abbrev pub answer_held : {F O E K : Type 0} → States F O E K → List SheetMeaning → List (List ℕ) → Objects F O E K
     → Result Answer NoAnswer
 answer_held s sheets words o = answer_of sheets (folder_held s o) (next_minute (s.clock o.clock)) words
 
--- What the files hold is observable, and so is the clock if the words read it. The files are steady, the clock hasn't failed if it was
--- to be read, and no write of the answer has failed. (A count of faults that was at its last value counts as one that rose.)
+-- The files are observable and steady; the clock is observable and has not failed, if the command line
+-- reads it; and no write of the answer has failed. (A count of faults that is saturated counts as one that
+-- rose.)
 pub record NothingFailed {F O E K : Type 0} (s : States F O E K) (sheets : List SheetMeaning) (words : List (List ℕ))
     (before after : Objects F O E K) : Type 0 where
   pub observable : IsTrue (s.files before.files).store.is_observable
@@ -56,44 +59,48 @@ pub record NothingFailed {F O E K : Type 0} (s : States F O E K) (sheets : List 
   pub firm : IsFirm (AsksClock (asked_of sheets words)) (sources_of s before) (sources_of s after)
   pub written : ¬ (Rose (s.out before.out).faults (s.out after.out).faults)
 
--- ---- How a run ends then
+-- ---- The end of such a run
 
+-- the status of an answer, or of the reason for which there is none
 abbrev pub status_with : Result Answer NoAnswer → Status
 status_with (Ok answer) = if answer.rejected then Rejected else Done
 status_with (Err none) = status_of none
 
--- Its status is that of the answer, its output the whole text, and none if there is no answer; then the line says why.
+-- the status is that of the answer, and the output the whole text; or there is no answer, and the line says
+-- why
 pub record EndsWhole {F O E K : Type 0} (s : States F O E K) (expected : Result Answer NoAnswer) (status : Status)
     (before after : Objects F O E K) : Type 0 where
   pub ends : status ≡ status_with expected
   pub text : s.out after.out ≡ put (text_with expected) (s.out before.out)
   pub line : (failed : Bool) × Wrote (s.err before.err) (s.err after.err) failed (refusal_line expected)
 
--- out of memory, and nothing was written
+-- memory ran out, and nothing was written
 pub record RanOut {F O E K : Type 0} (status : Status) (before after : Objects F O E K) : Type 0 where
   pub ends : status ≡ NoMemory
   pub unwritten : after.out ≡ before.out
 
--- Over an outside that doesn't fail a run ends by the answer to its words, or out of memory: with a fault of reading only if a file is
--- missing that the words name, and with one of writing never.
+-- A run over objects that don't fail ends by the answer to its command line, or out of memory: with a fault
+-- of reading only if a file that the command line names is missing, and never with a fault of writing.
 abbrev pub EndsByItsAnswer : {F O E K : Type 0} → States F O E K → Type 0
 EndsByItsAnswer {F} {O} {E} {K} s = (sheets : List SheetMeaning) (words : List (List ℕ)) (status : Status)
     (before after : Objects F O E K) →
     AnswersAs s sheets words status before after → NothingFailed s sheets words before after →
     EndsWhole s (answer_held s sheets words before) status before after ⊎ RanOut status before after
 
--- The same over objects of any kind, the machine's too, by the bytes that came of what was opened and the minute that the clock gave,
--- unless a write of the answer has failed. So it ends with a fault of reading only if no minute, or not a whole file, came.
+-- A run over objects of any kind, the machine's too, ends by the bytes that were read of the opened files
+-- and the minute that the clock returned, unless a write of the answer has failed. So it ends with a fault
+-- of reading only if the clock or a file wasn't read whole.
 abbrev pub EndsByWhatCame : {F O E K : Type 0} → States F O E K → Type 0
 EndsByWhatCame {F} {O} {E} {K} s = (sheets : List SheetMeaning) (words : List (List ℕ)) (status : Status) (before after : Objects F O E K)
     (answers : AnswersAs s sheets words status before after) → ¬ (Rose (s.out before.out).faults (s.out after.out).faults) →
     EndsWhole s (answer_by sheets words answers.shown.openings (s.clock before.clock) (s.clock after.clock)) status before after
     ⊎ RanOut status before after
 
--- ---- A question that nothing refuses
+-- ---- A request that nothing refuses
 
--- The words ask a question, of which each file is there, within its limit and of its form. Over what they hold the question has this
--- answer: its station is known and has a curve, its span is in the file's years, and no limit is exceeded.
+-- The command line is a request whose files are all present, within their limits and of their form, and
+-- over their contents it has this answer: its station is found and has a curve, its span is in the file's
+-- years, and no bound is exceeded.
 pub record HasAnswer (sheets : List SheetMeaning) (folder : Folder) (minute : ℤ) (words : List (List ℕ)) (answer : Answer)
     : Type 0 where
   pub question : Question
@@ -105,15 +112,15 @@ pub record HasAnswer (sheets : List SheetMeaning) (folder : Folder) (minute : �
   pub unrefused : answered_with (is_report question.command) sheets read.book read.table question
       (given_with read (minute_for question.command minute)) ≡ Ok answer
 
--- done, or rejected if that is the answer to a certificate, with the whole text and nothing beside it
+-- done, or rejected if that is the answer to a certificate, with the whole text and nothing else written
 pub record WroteAll {F O E K : Type 0} (s : States F O E K) (answer : Answer) (status : Status) (before after : Objects F O E K)
     : Type 0 where
   pub ends : status ≡ (if answer.rejected then Rejected else Done)
   pub text : s.out after.out ≡ put answer.text (s.out before.out)
   pub silent : after.err ≡ before.err
 
--- Over steady files that hold what the words name, within their limits, and with no fault of clock or output: a question that nothing
--- refuses is done with the whole text, or out of memory.
+-- A request that nothing refuses is done with the whole text, or out of memory, over steady files that hold
+-- what the command line names, within their limits, and with a clock and outputs that don't fail.
 abbrev pub IsComplete : {F O E K : Type 0} → States F O E K → Type 0
 IsComplete {F} {O} {E} {K} s = (sheets : List SheetMeaning) (words : List (List ℕ)) (status : Status) (before after : Objects F O E K)
     (answer : Answer) →
@@ -121,17 +128,18 @@ IsComplete {F} {O} {E} {K} s = (sheets : List SheetMeaning) (words : List (List 
     HasAnswer sheets (folder_held s before) (next_minute (s.clock before.clock)) words answer →
     WroteAll s answer status before after ⊎ RanOut status before after
 
--- ---- A certificate that is valid
+-- ---- A valid certificate
 
--- done with an answer of this kind, or out of memory
+-- the run is done with an answer of this kind, or out of memory
 abbrev pub EndsAccepting : {F O E K : Type 0} → States F O E K → (Answer → Type 0) → Status → Objects F O E K → Objects F O E K
     → Type 0
 EndsAccepting s accepts status before after =
     ((answer : Answer) × accepts answer × (status ≡ Done) × (s.out after.out ≡ put answer.text (s.out before.out)))
     ⊎ RanOut status before after
 
--- The text is a certificate's, whose own question nothing refuses. It has a slack track exactly if one is requested, and each of its
--- tracks is accepted by its curve over the minutes of the reference.
+-- The text is a certificate's, and nothing refuses a request for its own station, span and mark. Its slack
+-- track is present exactly if it is required, and each of its tracks is accepted by its curve over the
+-- minutes of the reference.
 pub record IsValid (book : Book) (table : List Offsets) (text : List ℕ) : Type 0 where
   pub certificate : Certificate
   pub site : Site
@@ -140,7 +148,8 @@ pub record IsValid (book : Book) (table : List Offsets) (text : List ℕ) : Type
   pub accepted : rejection_of (followed_by (version_of certificate) book site certificate.mark)
       (widened_of site.basis certificate.begin certificate.end) certificate.tracks ≡ None
 
--- The text is a certificate of a highest water, whose own question nothing refuses, and which is accepted by the level's curve.
+-- The text is a certificate of a highest water, nothing refuses a request for its own station and span, and
+-- the level's curve accepts it.
 pub record IsValidPeak (book : Book) (table : List Offsets) (text : List ℕ) : Type 0 where
   pub certificate : PeakCertificate
   pub site : Site
@@ -148,16 +157,17 @@ pub record IsValidPeak (book : Book) (table : List Offsets) (text : List ℕ) : 
   pub unrefused : highest_site book table certificate.station (asked_of_peak certificate) ≡ Ok site
   pub accepted : highest_verdict book site (asked_of_peak certificate) certificate.peak ≡ Accepted
 
--- and only a valid one is accepted
+-- every accepted certificate is valid
 abbrev pub IsValidIfAccepted : Type 0
 IsValidIfAccepted = (book : Book) (table : List Offsets) (text : List ℕ) (zone : Zone) (answer : Answer) →
     checked book table text zone ≡ Ok answer → answer.rejected ≡ false → IsValid book table text
 
+-- every accepted certificate of a highest water is valid
 abbrev pub IsValidPeakIfAccepted : Type 0
 IsValidPeakIfAccepted = (book : Book) (table : List Offsets) (text : List ℕ) (answer : Answer) →
     peak_checked book table text ≡ Ok answer → answer.rejected ≡ false → IsValidPeak book table text
 
--- what a folder has under the names of a question of a certificate
+-- the contents of a folder under the names of a request to check a certificate
 pub record HoldsFiles (folder : Folder) (question : Question) (book : Book) (table : List Offsets) (text : List ℕ) : Type 0 where
   pub name : List ℕ
   pub file : question.file ≡ Some name
@@ -165,8 +175,8 @@ pub record HoldsFiles (folder : Folder) (question : Question) (book : Book) (tab
   pub offsets : table_named folder question.offsets ≡ Ok table
   pub certificate : certificate_named folder question.certificate ≡ Ok text
 
--- A check of a valid certificate over an outside that doesn't fail is done, accepts it with the listing of its own question, or runs
--- out of memory.
+-- A check of a valid certificate over objects that don't fail is done and accepts it with the listing of
+-- its own station, span and mark, or runs out of memory.
 abbrev pub AcceptsValid : {F O E K : Type 0} → States F O E K → Type 0
 AcceptsValid {F} {O} {E} {K} s = (sheets : List SheetMeaning) (words : List (List ℕ)) (check : Question) (book : Book)
     (table : List Offsets) (text : List ℕ) (zone : Zone) (status : Status) (before after : Objects F O E K) →
@@ -175,6 +185,8 @@ AcceptsValid {F} {O} {E} {K} s = (sheets : List SheetMeaning) (words : List (Lis
     IsValid book table text → AnswersAs s sheets words status before after → NothingFailed s sheets words before after →
     EndsAccepting s (IsTrueAnswer sheets (folder_held s before) check) status before after
 
+-- A check of a valid certificate of a highest water over objects that don't fail is done and accepts it
+-- with the highest water, or runs out of memory.
 abbrev pub AcceptsValidPeaks : {F O E K : Type 0} → States F O E K → Type 0
 AcceptsValidPeaks {F} {O} {E} {K} s = (sheets : List SheetMeaning) (words : List (List ℕ)) (check : Question) (book : Book)
     (table : List Offsets) (text : List ℕ) (status : Status) (before after : Objects F O E K) →

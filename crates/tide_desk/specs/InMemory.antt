@@ -1,4 +1,4 @@
--- What a run leaves of objects in memory (this project).
+-- The promise of a run over objects in memory (this project).
 use Rattle.std.specs.Prelude.{◌≡◌, ◌⊎◌, ℕ, List, [], IsTrue, Result}
 use Rattle.named_files.specs.declared.no_answer.NoAnswer.{NoAnswer}
 use Rattle.report_sheets.specs.Sheets.{SheetMeaning}
@@ -9,24 +9,26 @@ use Rattle.tide_fault.specs.declared.status.Status.TheVariants.{Done, Rejected, 
 use Rattle.tide_desk.specs.Answers.{AsksClock, answer_of, asked_of}
 use Rattle.tide_desk.specs.Outcomes.{EndsAs, IsFirm, Outputs, Says, Sources, outputs, sources, text_with}
 
--- what a run is handed
+-- the objects of a run in memory
 pub record Held : Type 0 where
   pub files : HeldFiles
   pub out : HeldSink
   pub err : HeldSink
   pub clock : HeldClock
 
+-- the states of its files and its clock
 abbrev pub sources_in : Held → Sources
 sources_in held = sources (files_state held.files) (clock_state held.clock)
 
+-- the states of its outputs
 abbrev pub outputs_in : Held → Outputs
 outputs_in held = outputs (sink_state held.out) (sink_state held.err)
 
--- the answer to the words over the files and the minute that are held
+-- the answer to a command line over its files and its minute
 abbrev pub answer_in : List SheetMeaning → Held → List (List ℕ) → Result Answer NoAnswer
 answer_in sheets held words = answer_of sheets (folder_of held.files.files) held.clock.minute words
 
--- what a run promises over files that tell, of files in memory
+-- the promise of a run over observable files, for files in memory
 abbrev pub EndsAsPromised : List SheetMeaning → List (List ℕ) → Status → Held → Held → Type 0
 EndsAsPromised sheets words status before after =
     IsTrue (files_state before.files).store.is_observable
@@ -34,8 +36,8 @@ EndsAsPromised sheets words status before after =
     → IsFirm (AsksClock (asked_of sheets words)) (sources_in before) (sources_in after) ⊎ (¬ (status ≡ ReadFault))
     → EndsAs (answer_in sheets before words) status (outputs_in before) (outputs_in after)
 
--- The premises are met there. Any status but that of a fault of reading says the answer; and where a run is done, or rejects a
--- certificate, a sink that was empty has taken exactly the answer's text.
+-- In memory the premises hold: any status but a fault of reading is that of the answer, and if a run is
+-- done or rejects a certificate, a sink that was empty holds exactly the answer's text.
 abbrev pub MemoryHoldsTheAnswer : Type 0
 MemoryHoldsTheAnswer = (sheets : List SheetMeaning) (words : List (List ℕ)) (status : Status) (before after : Held) →
     before.out.taken ≡ [] → EndsAsPromised sheets words status before after → ¬ (status ≡ ReadFault) →

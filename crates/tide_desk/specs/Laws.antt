@@ -1,4 +1,5 @@
--- What certificates come to over files and words: what `certify` answers `check` accepts, and what `check` accepts is true (this project).
+-- The laws of certificates over files and command lines: `check` accepts what `certify` returned, and what
+-- `check` accepts is true (this project).
 use Rattle.std.specs.Prelude.{◌≡◌, ℕ, ℤ, false, List, ◌++◌, codes, Option, Some, None, IsSomeAnd, Ok}
 use Rattle.cert_text.specs.declared.certificate.Certificate.{Certificate}
 use Rattle.harmonics_text.specs.declared.book.Book.{Book}
@@ -16,29 +17,31 @@ use Rattle.tide_desk.specs.Answers.{answer_of, answered_by, asked_of}
 use Rattle.named_files.specs.Readings.{book_named, table_named, zone_named}
 use Rattle.tide_edge.specs.FileStates.{Folder}
 
--- ---- what is asked
+-- ---- the requests
 
--- with these sheets the words ask this question, which is one of the command
+-- the command line is this request, with these sheets, and the request is for the command
 pub record Asks (sheets : List SheetMeaning) (words : List (List ℕ)) (command : Command) (question : Question) : Type 0 where
   pub asked : asked_of sheets words ≡ Ok question
   pub is : question.command ≡ command
 
--- both name one file of constants, and one table or none
+-- two requests name one file of constants, and one table or none
 pub record NameSameFiles (question other : Question) : Type 0 where
   pub file : question.file ≡ other.file
   pub offsets : question.offsets ≡ other.offsets
 
--- the station, the span and the mark of a question, and of a certificate
+-- the station, the span and the mark of a request or of a certificate
 pub record Subject : Type 0 where
   pub station : Option (List ℕ)
   pub begin : Option ℤ
   pub end : Option ℤ
   pub mark : Option ℤ
 
+-- those of a request
 abbrev pub subject_of : Question → Subject
 subject_of question =
     record { station = question.station; begin = question.begin; end = question.end; mark = question.mark }
 
+-- those of a certificate
 abbrev pub subject_in : Certificate → Subject
 subject_in certificate = record {
   station = Some certificate.station;
@@ -47,7 +50,7 @@ subject_in certificate = record {
   mark = certificate.mark;
 }
 
--- asks `predict` for the plain listing of a subject, of the files and in the zone of a check
+-- a request to `predict` for the listing of a subject as text, over the files and in the zone of a check
 pub record AsksListing (check : Question) (subject : Subject) (question : Question) : Type 0 where
   pub command : question.command ≡ Predict
   pub files : NameSameFiles question check
@@ -55,28 +58,29 @@ pub record AsksListing (check : Question) (subject : Subject) (question : Questi
   pub zone : question.zone ≡ check.zone
   pub layout : question.layout ≡ Plain
 
--- ---- what is held
+-- ---- the contents of files
 
--- both name a file of constants, and their books are the same, each under its own name
+-- both requests name a file of constants, and their constants are the same, each under its own name
 abbrev pub HaveSameBook : Folder → Folder → Option (List ℕ) → Option (List ℕ) → Type 0
 HaveSameBook before after named other =
     IsSomeAnd other (λ there. IsSomeAnd named (λ here. book_named after there ≡ book_named before here))
 
--- under a name there is this text
+-- the file of a name has this text
 abbrev pub Holds : Folder → Option (List ℕ) → List ℕ → Type 0
 Holds folder named text = IsSomeAnd named (λ name. folder name ≡ Some text)
 
--- under its own names a check has the book and the table that the run which certified had under its names, where no table is one
--- without a row; and the text is its certificate
+-- a check has, under its own names, the constants and the table that the run which certified had under its
+-- names, with no table as a table without a row; and the text is its certificate
 pub record HoldsCertificate (before after : Folder) (certify check : Question) (text : List ℕ) : Type 0 where
   pub file : HaveSameBook before after certify.file check.file
   pub offsets : table_named after check.offsets ≡ table_named before certify.offsets
   pub certificate : Holds after check.certificate text
 
--- ---- what is answered
+-- ---- the answers
 
--- the word that accepts, and then what is answered over the same folder to each question that asks for it: to whatever words ask
--- it, at whatever minute, and to such a question of no words, which names no certificate either
+-- the answer is the line `Accepted`, and then the answer over the same folder to each request of a kind: to
+-- any command line that is one, at any minute, and to a request without a command line, which names no
+-- certificate
 pub record AcceptsWith (sheets : List SheetMeaning) (folder : Folder) (asks : Question → Type 0) (answer : Answer) : Type 0 where
   pub shown : Answer
   pub text : answer ≡ text_alone (codes "Accepted\n" ++ shown.text)
@@ -85,12 +89,12 @@ pub record AcceptsWith (sheets : List SheetMeaning) (folder : Folder) (asks : Qu
   pub to_question : (minute : ℤ) (question : Question) →
       asks question → question.certificate ≡ None → answered_by sheets (λ slot. folder) minute question question.file ≡ Ok shown
 
--- with the listing that `predict` answers
+-- the answer is the line `Accepted`, and then what `predict` prints for a subject
 abbrev pub AcceptsWithListing : List SheetMeaning → Folder → Question → Subject → Answer → Type 0
 AcceptsWithListing sheets folder check subject = AcceptsWith sheets folder (AsksListing check subject)
 
--- what `certify` answers is accepted, with the listing of its question, by each later check, in whatever folder, that has the same
--- book and table and the answer's text as its certificate
+-- the answer of `certify` is accepted, with the listing of its station, span and mark, by each later check,
+-- in any folder, that has the same constants and table and the answer's text as its certificate
 abbrev pub AcceptsWhatCertifyAnswers : Type 0
 AcceptsWhatCertifyAnswers = (sheets : List SheetMeaning) (before after : Folder) (minute later : ℤ) (words more : List (List ℕ)) (certify check : Question) (certificate : Answer) (zone : Zone) →
     Asks sheets words Certify certify → answer_of sheets before minute words ≡ Ok certificate →
@@ -99,8 +103,8 @@ AcceptsWhatCertifyAnswers = (sheets : List SheetMeaning) (before after : Folder)
     (answer : Answer) × (answer_of sheets after later more ≡ Ok answer)
     × AcceptsWithListing sheets after check (subject_of certify) answer
 
--- over the file, the table and the zone that the check names, the text under its certificate's name is a true certificate,
--- and the answer has the listing of that certificate's own question
+-- over the file, the table and the zone that the check names, the text under its certificate's name is a
+-- true certificate, and the answer has the listing of this certificate's own station, span and mark
 pub record IsTrueAnswer (sheets : List SheetMeaning) (folder : Folder) (check : Question) (answer : Answer) : Type 0 where
   pub book : Book
   pub table : List Offsets
@@ -113,7 +117,7 @@ pub record IsTrueAnswer (sheets : List SheetMeaning) (folder : Folder) (check : 
   pub is_true : IsTrueCertificate book table text zone answer
   pub listing : AcceptsWithListing sheets folder check (subject_in is_true.certificate) answer
 
--- whatever `check` accepts, whoever wrote it, is true
+-- every certificate that `check` accepts is true, whoever wrote it
 abbrev pub AcceptsOnlyTrueCertificates : Type 0
 AcceptsOnlyTrueCertificates = (sheets : List SheetMeaning) (folder : Folder) (minute : ℤ) (words : List (List ℕ)) (check : Question) (answer : Answer) →
     Asks sheets words Check check → answer_of sheets folder minute words ≡ Ok answer → answer.rejected ≡ false →

@@ -1,4 +1,4 @@
--- How a run ends, and what it leaves where it wrote, by the answer that is expected (this project).
+-- The end of a run, and what it has written, by the expected answer (this project).
 use Rattle.std.specs.Prelude.{◌≡◌, ℕ, ℤ, Bool, true, false, if◌then◌else◌, IsTrue, List, [], ◌∷◌, count_by, codes, Result, Ok, Err, IsErrAnd}
 use Rattle.std.specs.Result.{IsOkAnd}
 use Rattle.tide_fault.specs.declared.status.Status.{Status}
@@ -13,23 +13,25 @@ use Rattle.tide_edge.specs.Whole.{Allowance, ReadWithin}
 use Rattle.named_files.specs.declared.no_answer.NoAnswer.{NoAnswer}
 use Rattle.named_files.specs.NoAnswers.{status_of, line_of}
 
+-- the status of an answer that couldn't be written
 abbrev pub is_write_fault : Status → Bool
 is_write_fault WriteFault = true
 is_write_fault _ = false
 
--- neither want of memory nor a fault of reading
+-- a status other than out of memory and a fault of reading
 abbrev pub is_settled : Status → Bool
 is_settled NoMemory = false
 is_settled ReadFault = false
 is_settled _ = true
 
--- ---- How a run ends
+-- ---- The end of a run
 
--- the expected answer is a fault of that status
+-- there is no answer, and the status is that of the reason
 abbrev pub IsRefused : Result Answer NoAnswer → Status → Type 0
 IsRefused expected status = IsErrAnd expected (λ none. status_of none ≡ status)
 
--- A refusal is the expected one; a whole answer is done, or rejected, or can't be written; want of memory says nothing.
+-- A status fits the expected answer: an answer is done, or rejected, or can't be written; a refusal has its
+-- own status; out of memory says nothing.
 abbrev pub Says : Result Answer NoAnswer → Status → Type 0
 Says expected Done = IsOkAnd expected (λ answer. answer.rejected ≡ false)
 Says expected Rejected = IsOkAnd expected (λ answer. answer.rejected ≡ true)
@@ -37,23 +39,24 @@ Says expected WriteFault = IsOkAnd expected (λ answer. Unit {0})
 Says expected NoMemory = Unit {0}
 Says expected status = IsRefused expected status
 
--- the text that goes to standard output with a status
+-- the text of an answer; none without an answer
 abbrev pub text_with : Result Answer NoAnswer → List ℕ
 text_with (Ok answer) = answer.text
 text_with (Err none) = []
 
+-- the text that is written to standard output with a status
 abbrev pub output_with : Result Answer NoAnswer → Status → List ℕ
 output_with expected Done = text_with expected
 output_with expected Rejected = text_with expected
 output_with expected WriteFault = text_with expected
 output_with expected _ = []
 
--- the line of the expected fault
+-- the line of the reason; none with an answer
 abbrev pub refusal_line : Result Answer NoAnswer → List ℕ
 refusal_line (Ok answer) = []
 refusal_line (Err none) = line_of none
 
--- the line that goes to standard error with a status
+-- the line that is written to standard error with a status
 abbrev pub line_with : Result Answer NoAnswer → Status → List ℕ
 line_with expected Done = []
 line_with expected Rejected = []
@@ -61,38 +64,41 @@ line_with expected WriteFault = codes "write fault\n"
 line_with expected NoMemory = codes "no memory\n"
 line_with expected _ = refusal_line expected
 
--- where a run writes to, as it is told
+-- the states of the outputs of a run
 pub record Outputs : Type 0 where
   pub out : SinkState
   pub err : SinkState
 
+-- such states
 abbrev pub outputs : SinkState → SinkState → Outputs
 outputs out err = record { out = out; err = err }
 
--- The run ends as over this answer: its status says the answer, and the texts that go with it were written.
+-- The run ends as with this answer: its status fits the answer, and the texts of this status were written.
 pub record EndsAs (expected : Result Answer NoAnswer) (status : Status) (before after : Outputs) : Type 0 where
   pub says : Says expected status
   pub output : Wrote before.out after.out (is_write_fault status) (output_with expected status)
   pub failed : Bool
   pub line : Wrote before.err after.err failed (line_with expected status)
 
--- ---- Where a fault of reading comes from
+-- ---- The source of a fault of reading
 
--- what a run reads from, as it is told
+-- the states of the files and the clock of a run
 pub record Sources : Type 0 where
   pub files : FilesState
   pub clock : ClockState
 
+-- such states
 abbrev pub sources : FilesState → ClockState → Sources
 sources files clock = record { files = files; clock = clock }
 
--- the outside stood firm: the files are steady, and no clock that was to be asked has failed
+-- the files are steady, and no clock that was to be read has failed
 pub record IsFirm (asks : Type 0) (before after : Sources) : Type 0 where
   pub files : IsTrue before.files.store.is_steady
   pub clock : ¬ (asks × Rose before.clock.faults after.clock.faults)
 
--- Reading has failed exactly where the files or the clock has, one of them and once. The files were read within an allowance. The
--- clock was asked once or not at all, only where that is asked of it and no file has failed.
+-- Reading has failed exactly if the files or the clock have, one of them and once. The files were read
+-- within an allowance. The clock was read once or not at all, and only if it is needed and no file has
+-- failed.
 pub record WentOn (has_failed : Bool) (asks : Type 0) (allowed : Allowance) (before after : Sources) : Type 0 where
   pub files : Bool
   pub clock : Bool
@@ -107,14 +113,14 @@ pub record WentOn (has_failed : Bool) (asks : Type 0) (allowed : Allowance) (bef
 
 -- ---- The whole objects
 
--- after a refusal, a fault of reading or want of memory it is as it was: nothing was written
+-- after a refusal, a fault of reading or out of memory an output is unchanged: nothing was written
 abbrev pub IsUntouched : {A : Type 0} → Status → A → A → Type 0
 IsUntouched Done before after = Unit {0}
 IsUntouched Rejected before after = Unit {0}
 IsUntouched WriteFault before after = Unit {0}
 IsUntouched _ before after = after ≡ before
 
--- after an answer that was written nothing was said beside it
+-- after an answer that was written an output is unchanged: no line was written
 abbrev pub IsSilent : {A : Type 0} → Status → A → A → Type 0
 IsSilent Done before after = after ≡ before
 IsSilent Rejected before after = after ≡ before

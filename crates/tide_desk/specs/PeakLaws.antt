@@ -1,4 +1,5 @@
--- What certificates of a highest water come to over files and words: what `peak` answers `peakcheck` accepts, and what `peakcheck` accepts is true (this project).
+-- The laws of certificates of a highest water over files and command lines: `peakcheck` accepts what `peak`
+-- returned, and what `peakcheck` accepts is true (this project).
 use Rattle.std.specs.Prelude.{◌≡◌, ℕ, ℤ, false, List, Some, None, IsSomeAnd, Ok}
 use Rattle.harmonics_text.specs.declared.book.Book.{Book}
 use Rattle.highest_water.specs.declared.certificate.PeakCertificate.{PeakCertificate}
@@ -14,9 +15,9 @@ use Rattle.tide_edge.specs.FileStates.{Folder}
 use Rattle.tide_desk.specs.Answers.{answer_of}
 use Rattle.tide_desk.specs.Laws.{Asks, NameSameFiles, Subject, subject_of, Holds, HoldsCertificate, AcceptsWith}
 
--- ---- what is asked
+-- ---- the requests
 
--- the station and the span of a certificate
+-- the station and the span of a certificate of a highest water
 abbrev pub subject_of_peak : PeakCertificate → Subject
 subject_of_peak certificate = record {
   station = Some certificate.station;
@@ -25,21 +26,21 @@ subject_of_peak certificate = record {
   mark = None;
 }
 
--- asks `highest` for a subject, of the files of a check and in universal time
+-- a request to `highest` for a subject, over the files of a check and in universal time
 pub record AsksHighest (check : Question) (subject : Subject) (question : Question) : Type 0 where
   pub command : question.command ≡ Highest
   pub files : NameSameFiles question check
   pub about : subject_of question ≡ subject
   pub zone : question.zone ≡ Utc
 
--- ---- what is answered
+-- ---- the answers
 
--- with what `highest` answers
+-- the answer is the line `Accepted`, and then what `highest` prints for a subject
 abbrev pub AcceptsWithHighest : List SheetMeaning → Folder → Question → Subject → Answer → Type 0
 AcceptsWithHighest sheets folder check subject = AcceptsWith sheets folder (AsksHighest check subject)
 
--- what `peak` answers is accepted, with the highest water of its question, by each later check, in whatever folder, that has the
--- same book and table and the answer's text as its certificate
+-- the answer of `peak` is accepted, with the highest water of its station and span, by each later check, in
+-- any folder, that has the same constants and table and the answer's text as its certificate
 abbrev pub AcceptsWhatPeakAnswers : Type 0
 AcceptsWhatPeakAnswers = (sheets : List SheetMeaning) (before after : Folder) (minute later : ℤ) (words more : List (List ℕ)) (peak check : Question) (certificate : Answer) →
     Asks sheets words Peak peak → answer_of sheets before minute words ≡ Ok certificate →
@@ -47,8 +48,8 @@ AcceptsWhatPeakAnswers = (sheets : List SheetMeaning) (before after : Folder) (m
     (answer : Answer) × (answer_of sheets after later more ≡ Ok answer)
     × AcceptsWithHighest sheets after check (subject_of peak) answer
 
--- over the file and the table that the check names, the text under its certificate's name is a true certificate, and the answer
--- tells the highest water of that certificate's own question
+-- over the file and the table that the check names, the text under its certificate's name is a true
+-- certificate, and the answer has the highest water of this certificate's own station and span
 pub record IsTruePeakAnswer (sheets : List SheetMeaning) (folder : Folder) (check : Question) (answer : Answer) : Type 0 where
   pub book : Book
   pub table : List Offsets
@@ -59,7 +60,7 @@ pub record IsTruePeakAnswer (sheets : List SheetMeaning) (folder : Folder) (chec
   pub is_true : IsTruePeak book table text answer
   pub told : AcceptsWithHighest sheets folder check (subject_of_peak is_true.certificate) answer
 
--- whatever `peakcheck` accepts, whoever wrote it, is true
+-- every certificate that `peakcheck` accepts is true, whoever wrote it
 abbrev pub AcceptsOnlyTruePeaks : Type 0
 AcceptsOnlyTruePeaks = (sheets : List SheetMeaning) (folder : Folder) (minute : ℤ) (words : List (List ℕ)) (check : Question) (answer : Answer) →
     Asks sheets words PeakCheck check → answer_of sheets folder minute words ≡ Ok answer → answer.rejected ≡ false →

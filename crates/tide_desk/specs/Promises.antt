@@ -1,4 +1,4 @@
--- What a run promises, whatever the objects are that it works on (this project).
+-- The promise of a run, over objects of any kind (this project).
 use Rattle.std.specs.Prelude.{◌≡◌, ◌⊎◌, ℕ, ℤ, List, IsTrue, Ok}
 use Rattle.report_sheets.specs.Sheets.{SheetMeaning}
 use Rattle.named_files.specs.NoAnswers.{is_read_fault}
@@ -11,13 +11,14 @@ use Rattle.tide_desk.specs.Answers.{AsksClock, HasFiles, NamesFile, allowed_by, 
 use Rattle.tide_desk.specs.Outcomes.{EndsAs, IsFirm, IsSilent, IsUntouched, Outputs, Sources, WentOn, is_settled, outputs, sources}
 use Rattle.tide_desk.specs.Shown.{EndsAsShown}
 
--- the objects that a run works on
+-- the objects of a run
 pub record Objects (F O E K : Type 0) : Type 0 where
   pub files : F
   pub out : O
   pub err : E
   pub clock : K
 
+-- such objects
 abbrev pub objects : {F O E K : Type 0} → F → O → E → K → Objects F O E K
 objects files out err clock = record { files = files; out = out; err = err; clock = clock }
 
@@ -28,23 +29,28 @@ pub record States (F O E K : Type 0) : Type 0 where
   pub err : E → SinkState
   pub clock : K → ClockState
 
+-- such states
 abbrev pub states : {F O E K : Type 0} → (F → FilesState) → (O → SinkState) → (E → SinkState) → (K → ClockState) → States F O E K
 states files out err clock = record { files = files; out = out; err = err; clock = clock }
 
+-- the states of the files and the clock
 abbrev pub sources_of : {F O E K : Type 0} → States F O E K → Objects F O E K → Sources
 sources_of s o = sources (s.files o.files) (s.clock o.clock)
 
+-- the states of the outputs
 abbrev pub outputs_of : {F O E K : Type 0} → States F O E K → Objects F O E K → Outputs
 outputs_of s o = outputs (s.out o.out) (s.err o.err)
 
--- The words were answered, with these sheets for a report.
---
--- shown: the run ends as by the answer to the words by the files that it opened, as far as their bytes came, and by the minute that the
--- clock gave; it opened what the words name, in their order.
--- own_files: over observable objects it ends as by the answer over what they hold, unless reading has failed.
--- reads: how much was opened, read and asked; and a fault of reading is one of the files or of the clock.
--- unwritten, untold: what stays untouched without an answer, and with one.
--- unopened, unread, read_last, read_once: when the files and the clock stay untouched, and when the clock is read.
+-- The command line was answered, with these sheets for a report. The fields:
+-- - `shown`: the run ends as by the answer to the command line by the files that it opened, as far as their
+--   bytes were read, and by the minute that the clock returned; it opened what the command line names, in
+--   their order.
+-- - `own_files`: over observable objects it ends as by the answer over their contents, unless reading has
+--   failed.
+-- - `reads`: the bytes that were read, and the readings of the clock; a fault of reading is one of the
+--   files or of the clock.
+-- - `unwritten`, `untold`: the outputs that are unchanged without an answer, and with one.
+-- - All others: the cases in which the files and the clock are unchanged, and in which the clock is read.
 pub record AnswersAs {F O E K : Type 0} (s : States F O E K) (sheets : List SheetMeaning) (words : List (List ℕ)) (status : Status)
     (before after : Objects F O E K) : Type 0 where
   pub shown : EndsAsShown sheets words (sources_of s before) (sources_of s after) status (outputs_of s before) (outputs_of s after)

@@ -1,4 +1,5 @@
--- What the words are answered by what was opened for them and the minute that the clock gave (this project).
+-- The answer to a command line by the openings of its files and the minute that the clock returned (this
+-- project).
 use Rattle.std.specs.Prelude.{◌≡◌, ℕ, ℤ, pos, if◌then◌else◌, List, [], ◌++◌, length, map, Option, Some, None, Result, Ok, Err, slice_get}
 use Rattle.decimal_text.specs.Expected.{◌>>=◌}
 use Rattle.question.specs.declared.command.Command.{Command}
@@ -22,15 +23,16 @@ use Rattle.tide_desk.specs.Outcomes.{EndsAs, Outputs, Sources}
 
 -- ---- The answer, if the clock may fail
 
--- the minute of a command that reads the clock; of any other, 0
+-- the minute that a clock returned, or the reason if it failed
 abbrev pub minute_given : Option ℤ → Result ℤ NoAnswer
 minute_given None = Err Unread
 minute_given (Some minute) = Ok minute
 
+-- the minute for a command: 0 if it doesn't read the clock
 abbrev pub minute_read : Command → Option ℤ → Result ℤ NoAnswer
 minute_read command given = if asks_clock command then minute_given given else Ok (pos 0)
 
--- as the answer over files and a minute, but that the clock, which is read behind all files, may have given none
+-- the answer over files whose clock, which is read after them, may have failed
 unfoldable pub shown_over : List SheetMeaning → Folders → Option ℤ → Question → List ℕ → Result Answer NoAnswer
 shown_over sheets folders given question name = do
   read ← files_in folders question name
@@ -38,42 +40,46 @@ shown_over sheets folders given question name = do
   refused_over read.table
       (answered_with (is_report question.command) sheets read.book read.table question (given_with read now))
 
+-- the answer to a request, which may name no file
 abbrev pub shown_by : List SheetMeaning → Folders → Option ℤ → Question → Option (List ℕ) → Result Answer NoAnswer
 shown_by sheets folders given question None = told (refused_from (answered_alone question))
 shown_by sheets folders given question (Some name) = shown_over sheets folders given question name
 
+-- the answer to a command line, for which each file is read from a folder of its own
 unfoldable pub answer_shown : List SheetMeaning → Folders → Option ℤ → List (List ℕ) → Result Answer NoAnswer
 answer_shown sheets folders given words = do
   question ← told (asked_of sheets words)
   shown_by sheets folders given question question.file
 
--- ---- What was opened, and the minute
+-- ---- The openings and the minute
 
--- the names that the words want opened, in their order, up to the file that is why there is no answer
+-- the names of a request's files in their order, up to the file that is the reason
 abbrev pub names_by : Question → Option (List ℕ) → Option Slot → List (List ℕ)
 names_by question None why = []
 names_by question (Some name) why = names_to name question why
 
+-- the names of a command line's files
 abbrev pub names_wanted : Result Question Fault → Option Slot → List (List ℕ)
 names_wanted (Ok question) why = names_by question question.file why
 names_wanted (Err fault) why = []
 
--- the files of what the words ask, as these openings show them
+-- the files of a command line as the openings show them
 abbrev pub folders_by : Result Question Fault → List Opening → Folders
 folders_by (Ok question) openings = folders_shown question openings
 folders_by (Err fault) openings = λ slot name. None
 
--- the minute that a clock gave in between, if it gave one
+-- the minute that a clock returned between two states, if it returned one
 abbrev pub given_between : ClockState → ClockState → Option ℤ
 given_between before after = slice_get after.given (length before.given)
 
--- the answer to the words by these openings and by what the clock gave in between
+-- the answer to a command line by the openings and by what the clock returned between two states
 abbrev pub answer_by : List SheetMeaning → List (List ℕ) → List Opening → ClockState → ClockState → Result Answer NoAnswer
 answer_by sheets words openings before after =
     answer_shown sheets (folders_by (asked_of sheets words) openings) (given_between before after) words
 
--- A run ends as by the answer to the words by what it opened and by what the clock gave. What it opened are the first of the files that
--- the words name, in their order, each once; and unless memory ran out, none behind the one that is why there is no answer.
+-- A run ends by the answer to its command line by what it opened and what the clock returned. It opened the
+-- first of the files that the command line names, in their order, each once; and unless memory ran out,
+-- none after the one that is the reason.
 pub record EndsAsShown (sheets : List SheetMeaning) (words : List (List ℕ)) (before after : Sources) (status : Status)
     (unwritten written : Outputs) : Type 0 where
   pub openings : List Opening

@@ -1,4 +1,4 @@
-//! The answer to the words, or the first fault on the way to it.
+//! The answer to a command line, or the first reason for which there is none.
 
 ghost use Rattle.std.specs.Prelude.{◌≡◌, ℤ, Bool, false, IsTrue, None, Ok, IsOk, IfOk, IfErr, OnErr, if◌then◌else◌, map};
 ghost use Rattle.decimal_text.specs.Expected.{Gives};
@@ -27,8 +27,12 @@ use tide_answer::{Given, answer_alone};
 use tide_edge::{Clock, Files};
 use tide_fault::Fault;
 
-/// What is written for the words, or the first fault in the order of refusals: the words, a sheet that
-/// isn't there, the files, the clock, and then those of what is asked of the files.
+/// Returns the answer to the arguments `words`, which is ready to be written. Files are opened and
+/// the clock is read as [`run`](crate::run) says.
+///
+/// # Errors
+/// The first reason in this order: the command line, a sheet that doesn't exist, the files, the
+/// clock, and then the refusals of the request over the files.
 pub fn answer_words<F: Files, K: Clock>(
     alloc: Global,
     words: &Words,
@@ -63,7 +67,7 @@ pub fn answer_words<F: Files, K: Clock>(
     }
 }
 
-// The answer to a question that names no file.
+// Returns the answer to a request that names no file.
 fn answer_without(alloc: Global, question: &SoundQuestion<'_>) -> Result<Reply, NoAnswer>
     ensures exact { Gives wants_memory (told (refused_from (answered_alone question.now))) result }
     ensures told { IfErr result IsTold }
@@ -75,7 +79,8 @@ fn answer_without(alloc: Global, question: &SoundQuestion<'_>) -> Result<Reply, 
     }
 }
 
-// The answer over files, of which the first has this name. The clock is asked after them.
+// Returns the answer to a request whose harmonics file is `name`. The clock is read after the
+// files.
 fn answer_over<F: Files, K: Clock>(
     alloc: Global,
     question: &SoundQuestion<'_>,
@@ -105,7 +110,7 @@ fn answer_over<F: Files, K: Clock>(
     answer_with(alloc, read, question, now, sheets)
 }
 
-// The present minute where the command asks for it, and else none.
+// Returns the present minute if the command needs it, and 0 otherwise.
 fn read_minute<K: Clock>(clock: &mut K, question: &SoundQuestion<'_>) -> Result<i64, NoAnswer>
     ensures own { (IsTrue (asks_clock question.now.command) → IsTrue (K.state clock.old).is_observable)
         → IfOk result (λ now. now ≡ minute_for question.now.command (next_minute (K.state clock.old))) }
@@ -125,13 +130,14 @@ fn read_minute<K: Clock>(clock: &mut K, question: &SoundQuestion<'_>) -> Result<
     }
 }
 
+/// Returns true if `command` reads the clock.
 fn asks_clock(command: Command) -> bool
     ensures { result ≡ asks_clock command }
 {
     matches!(command, Command::Clock | Command::Report)
 }
 
-// The answer over what the files hold, at a minute.
+// Returns the answer over the contents `read` of the files, at the present minute `now`.
 fn answer_with(
     alloc: Global,
     read: Materials,

@@ -1,4 +1,4 @@
-//! What the words ask.
+//! The request of a command line.
 
 ghost use Rattle.std.specs.Prelude.{◌≡◌, ◌<◌, [], Some, length, map, unwrap_or, IfOk, IfErr};
 ghost use Rattle.decimal_text.specs.Expected.{Excused, Gives};
@@ -15,7 +15,11 @@ use report_sheets::{Sheet, missing};
 use std::alloc::Global;
 use tide_fault::{Fault, Refusal};
 
-/// The question that the words ask, where each sheet that it wants is one of these.
+/// Returns the request of the arguments `words`. Each sheet that it names is one of `sheets`.
+///
+/// # Errors
+/// [`Fault::Ask`] if the arguments are no request, and [`Fault::NoSheet`] for the first named sheet
+/// that isn't one of `sheets`.
 #[tactic(auto, unfolding(crate::specs::Answers::asked_of))]
 pub fn read_words(
     alloc: Global,
@@ -31,6 +35,7 @@ pub fn read_words(
     Ok(question)
 }
 
+/// Returns the request of the arguments `words`, whose command isn't `serve`.
 fn question_in_words(alloc: Global, words: &Words) -> Result<Question, AskFault>
     ensures exact { Gives ask_wants_memory (question_in (pairs_of words.now)) result }
     ensures asked { IfOk result IsAsked }
@@ -42,6 +47,7 @@ fn question_in_words(alloc: Global, words: &Words) -> Result<Question, AskFault>
     read_question(alloc, &pairs)
 }
 
+/// Returns true if the command is `serve`.
 fn asks_to_serve(pairs: &Pairs) -> bool
     ensures { result ≡ asks_to_serve pairs.now }
 {
@@ -51,7 +57,7 @@ fn asks_to_serve(pairs: &Pairs) -> bool
     }
 }
 
-// Whether each sheet that is wanted is one of these, or the first word that none of them has.
+// Returns `Ok` if each word in `wanted` is that of one of `sheets`.
 fn check_known(wanted: &Option<Words>, sheets: &Vec<Box<dyn Sheet>>) -> Result<(), Fault>
     ensures exact { let wanted = unwrap_or wanted.now [] in
         Gives wants_memory (known_in wanted (missing_of (map meaning sheets.now.items) wanted)) result }
@@ -66,7 +72,7 @@ fn check_known(wanted: &Option<Words>, sheets: &Vec<Box<dyn Sheet>>) -> Result<(
     }
 }
 
-// The fault of a wanted word that no sheet has.
+// Returns the fault of the word at index `place` of `wanted`, which no sheet has.
 fn unknown(wanted: &Words, place: usize) -> Fault
     requires { place < length wanted.now }
     ensures exact { Excused (wants_memory result) (known_in wanted.now (Some place)) result }

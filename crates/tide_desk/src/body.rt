@@ -1,12 +1,12 @@
-//! The two ways in which an answer is written.
+//! The two sources of a written answer.
 
 use tide_answer::{Answer, Ready};
 
-/// What an answer is written from.
+/// The source from which an answer is written.
 #[derive(Drop)]
 pub enum Body {
-    /// Its text, which is made.
+    /// A text in memory.
     Text(Answer),
-    /// What its text is found from while it is written.
+    /// A station's curve, whose answer is written as it is found.
     Stream(Ready),
 }

@@ -1,10 +1,11 @@
-//! What certificates come to over files and words.
+//! Laws of certificates over files and arguments.
 
 ghost use Rattle.tide_desk.specs.Laws.{AcceptsWhatCertifyAnswers, AcceptsOnlyTrueCertificates};
 
 use tide_answer::{accepted_is_true, certified_is_accepted, certified_is_short};
 
-/// What `certify` answers, put into a file, `check` accepts, with the listing that `predict` answers.
+/// `check` accepts the answer of `certify`, put into a file, with the listing that `predict`
+/// prints.
 pub fn what_certify_answers_is_accepted()
     ensures { AcceptsWhatCertifyAnswers }
 {
@@ -12,8 +13,9 @@ pub fn what_certify_answers_is_accepted()
     certified_is_short();
 }
 
-/// Whatever `check` accepts, whoever wrote it, is true: its tracks tell every event of its own
-/// question's curves and no other, and the answer lists what `predict` answers to that question.
+/// A certificate that `check` accepts is true, whoever wrote it: its tracks have every event of the
+/// curves of its station, span and mark and no other, and the answer lists what `predict` prints
+/// for them.
 pub fn what_check_accepts_is_true()
     ensures { AcceptsOnlyTrueCertificates }
 {

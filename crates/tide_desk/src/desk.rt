@@ -1,4 +1,4 @@
-//! One run, from the words to the status.
+//! One run, from the arguments to the exit status.
 
 ghost use Rattle.std.specs.Prelude.{◌≡◌, ◌⊎◌, ℤ, Bool, Ok, IsTrue, if◌then◌else◌, map};
 ghost use Rattle.named_files.specs.NoAnswers.{is_read_fault};
@@ -17,14 +17,21 @@ use std::alloc::Global;
 use tide_edge::{Clock, Files, Sink};
 use tide_fault::Status;
 
-/// Answers the words from the files: writes the whole answer to `out`, or one line that says why
-/// there is none to `err`. A failure to write to `err` changes nothing of the status. Nothing is
-/// tried again after a failure. The files that the words name are opened in their order, each once and none
-/// behind one that is why there is no answer, and together no more bytes are read than their limits and a piece
-/// of 65,536 bytes for each. The clock is read once, for the commands `clock` and `report` alone, after all files.
+/// Answers the arguments `words`: writes the whole answer to `out`, or one line with the reason for
+/// which there is none to `err`, and returns the exit status, 0 to 8. A failed write to `err`
+/// doesn't change the status, and nothing is tried again after a failure.
 ///
-/// A report has the pages of those of the sheets whose words are wanted, in the order in which they
-/// are passed. A wanted word that no sheet has is refused before any file is opened.
+/// The files that the arguments name are opened in their order, each once and none after one that
+/// has no answer. Together at most their limits and a piece of 65,536 bytes for each are read. The
+/// clock is read once, after all files, and for the commands `clock` and `report` alone.
+///
+/// A report has the pages of those `sheets` whose words are requested, in the order of `sheets`. A
+/// requested word that no sheet has is refused before any file is opened.
+///
+/// # Examples
+/// ```
+/// let status = run(alloc, &words, &mut files, &mut out, &mut err, &mut clock, sheets);
+/// ```
 pub fn run<F: Files, O: Sink, E: Sink, K: Clock>(
     alloc: Global,
     words: &Words,
@@ -40,7 +47,7 @@ pub fn run<F: Files, O: Sink, E: Sink, K: Clock>(
     write_answer(alloc, words, files, out, err, clock, sheets)
 }
 
-// The same, promise by promise.
+// Does the same, with each promise as a clause of its own.
 fn write_answer<F: Files, O: Sink, E: Sink, K: Clock>(
     alloc: Global,
     words: &Words,
@@ -81,7 +88,7 @@ fn write_answer<F: Files, O: Sink, E: Sink, K: Clock>(
     }
 }
 
-// The status of an answer that was written.
+// Returns the status of an answer that was written.
 fn judged(rejected: bool) -> Status
     ensures { result ≡ (if rejected then Status.Rejected else Status.Done) }
 {

@@ -1,9 +1,9 @@
-//! What a run comes to over objects in memory.
+//! The promise of a run over objects in memory.
 
 ghost use Rattle.tide_desk.specs.InMemory.{MemoryHoldsTheAnswer};
 
-/// What [`run`](crate::run) promises over objects that tell, over those in memory, where its premises are met: any status
-/// but that of a fault of reading says the answer, and an empty sink has taken exactly its text where the run is done or
+/// The promise of [`run`](crate::run) over objects in memory: any status but a fault of reading is
+/// that of the answer, and an empty sink holds exactly the answer's text if the run is done or
 /// rejects a certificate.
 pub fn memory_holds_the_answer()
     ensures { MemoryHoldsTheAnswer }

@@ -1,8 +1,8 @@
-//! The top call: words, files, a clock and the sheets of a report in, text and a status out.
+//! Runs: arguments, files, a clock and the sheets of a report in, text and an exit status out.
 //!
-//! [`run`] does all that the program does but serving. It reads what the words ask for, reads the files
-//! that they name, and writes either the whole answer to `out` or one line to `err`. It reaches the
-//! outside through the objects that it is handed alone.
+//! [`run`] does all that the program does except serving. It reads the arguments and the files that
+//! they name, and writes either the whole answer to `out` or one line to `err`. It reaches files,
+//! clock and outputs through the objects that are passed to it alone.
 #![tactic(auto)]
 
 mod answering;

@@ -1,4 +1,4 @@
-//! What one run has written is the certificate of the next one.
+//! Laws of a certificate that one run writes and the next one checks.
 
 ghost use Rattle.tide_desk.specs.PassedOn.{ChecksPeakThatCame, ChecksWhatCame, ChecksWhatWasCertified, ChecksWhatPeakCertified};
 ghost use Rattle.tide_desk.specs.Promises.{states};
@@ -8,9 +8,10 @@ use crate::peak_laws::what_peak_answers_is_accepted;
 use tide_answer::{certified_is_accepted, peak_certified_is_accepted};
 use tide_edge::{Clock, Files, Sink};
 
-/// What a done run of `certify` left in its output, `check` over such an outside accepts with the listing,
-/// or it runs out of memory. The first run's objects may be of other kinds than the second's. Over objects
-/// of any kind it is so of what came of the second run's files, unless a write of its answer has failed.
+/// `check` accepts what a run of `certify` that was done left in its output, with the listing, or
+/// runs out of memory, over objects that don't fail. The two runs may have objects of different
+/// kinds. Over objects of any kind this holds of the bytes that the second run read, unless a write
+/// of its answer failed.
 pub fn what_was_certified_is_checked<F, O, E, K, G, P, D, L>()
 where
     F: Files,
@@ -28,8 +29,9 @@ where
     certified_is_accepted();
 }
 
-/// What a done run of `peak` left in its output, `peakcheck` over such an outside accepts with the highest
-/// water, or it runs out of memory; and over objects of any kind likewise by what came.
+/// `peakcheck` accepts what a run of `peak` that was done left in its output, with the highest
+/// water, or runs out of memory, over objects that don't fail; and over objects of any kind by the
+/// bytes that it read.
 pub fn what_peak_certified_is_checked<F, O, E, K, G, P, D, L>()
 where
     F: Files,

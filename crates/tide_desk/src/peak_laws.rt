@@ -1,11 +1,11 @@
-//! What certificates of a highest water come to over files and words.
+//! Laws of certificates of a highest water over files and arguments.
 
 ghost use Rattle.tide_desk.specs.PeakLaws.{AcceptsOnlyTruePeaks, AcceptsWhatPeakAnswers};
 
 use tide_answer::{accepted_peak_is_true, peak_certified_is_accepted, peak_certified_is_short};
 
-/// What `peak` answers, put into a file, `peakcheck` accepts, with what `highest` answers in universal
-/// time.
+/// `peakcheck` accepts the answer of `peak`, put into a file, with what `highest` prints in
+/// universal time.
 pub fn what_peak_answers_is_accepted()
     ensures { AcceptsWhatPeakAnswers }
 {
@@ -13,9 +13,9 @@ pub fn what_peak_answers_is_accepted()
     peak_certified_is_short();
 }
 
-/// Whatever `peakcheck` accepts, whoever wrote it, is true: its minute is that of its own question's
-/// highest water, its value the reference's level there, and the answer tells what `highest` answers to
-/// that question in universal time.
+/// A certificate that `peakcheck` accepts is true, whoever wrote it: its minute is that of the
+/// highest water of its station and span, its value is the reference's level there, and the answer
+/// is what `highest` prints for them in universal time.
 pub fn what_peakcheck_accepts_is_true()
     ensures { AcceptsOnlyTruePeaks }
 {

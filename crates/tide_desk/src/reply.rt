@@ -1,4 +1,4 @@
-//! What is written for the words.
+//! Answers that can be written.
 
 ghost use Rattle.std.specs.Prelude.{◌≡◌, false, IfOk, is_err};
 ghost use Rattle.std.specs.Option.{ForSome};
@@ -10,8 +10,8 @@ use std::marker::Model;
 use tide_answer::{Answer, Ready, answer_into};
 use tide_edge::{Sink, WriteFailed, write_all};
 
-/// An answer that can be written: its text was made, or is found while it is written. Contracts see
-/// the answer.
+/// An answer that can be written, from a text in memory or as it is found. Contracts see it as the
+/// answer.
 #[derive(Drop)]
 pub struct Reply {
     body: Body,
@@ -29,7 +29,7 @@ impl Model for Reply {
 }
 
 impl Reply {
-    /// An answer whose text was made.
+    /// Returns the answer as a text in memory.
     pub fn made(answer: Answer) -> Reply
         ensures { result ≡ answer }
     {
@@ -38,7 +38,7 @@ impl Reply {
         }
     }
 
-    /// An answer as it is to be written.
+    /// Returns the answer that is written from `body`.
     pub fn of(body: Body) -> Reply
         requires { IsReply body }
         ensures { result ≡ answer_in body }
@@ -46,11 +46,11 @@ impl Reply {
         Reply { body }
     }
 
-    /// Writes the text, and answers whether it rejects a certificate. Where the text is found, this
-    /// takes no memory.
+    /// Writes the text, and returns true if it rejects a certificate. Doesn't allocate if the text
+    /// is written as it is found.
     ///
     /// # Errors
-    /// [`WriteFailed`] where a write failed. Nothing was written after that one.
+    /// [`WriteFailed`] if a write failed. Nothing was written after it.
     pub fn write<O: Sink>(&self, out: &mut O) -> Result<bool, WriteFailed>
         ensures wrote { Wrote (O.state out.old) (O.state out.new) (is_err result) self.now.text }
         ensures judged { IfOk result (λ rejected. rejected ≡ self.now.rejected) }
@@ -62,6 +62,7 @@ impl Reply {
     }
 }
 
+/// Writes a text in memory.
 fn write_text<O: Sink>(answer: &Answer, out: &mut O) -> Result<bool, WriteFailed>
     ensures wrote { Wrote (O.state out.old) (O.state out.new) (is_err result) answer.now.text }
     ensures judged { IfOk result (λ rejected. rejected ≡ answer.now.rejected) }
@@ -70,7 +71,7 @@ fn write_text<O: Sink>(answer: &Answer, out: &mut O) -> Result<bool, WriteFailed
     Ok(answer.rejected)
 }
 
-// An answer that streams rejects nothing.
+// Writes an answer as it is found. It rejects nothing.
 fn write_stream<O: Sink>(ready: &Ready, out: &mut O) -> Result<bool, WriteFailed>
     requires { Streamed ready.now }
     ensures wrote { ForSome ready.now.stream (λ answer. Wrote (O.state out.old) (O.state out.new) (is_err result) answer.text) }

@@ -1,4 +1,4 @@
-//! The way in which a question's answer is written.
+//! The answer to a request over files that were read.
 
 ghost use Rattle.std.specs.Prelude.{◌≡◌, ◌&&◌, IfOk, IfErr, map};
 ghost use Rattle.decimal_text.specs.Expected.{Gives};
@@ -21,8 +21,11 @@ use tide_answer::{Given, answer, can_stream, prepare};
 use tide_fault::Refusal;
 use zone_time::Zone;
 
-/// The answer to a question over a book and a table, or the first refusal: a report of the sheets that
-/// it wants, and else as [`answer`](tide_answer::answer) has it.
+/// Returns the answer to `question` over the harmonic constants `book` and the offsets `table`: a
+/// report of the sheets that it requests, or otherwise as [`answer`](tide_answer::answer).
+///
+/// # Errors
+/// The first [`Refusal`] in the order of [`answer`](tide_answer::answer).
 pub fn reply_with(
     alloc: Global,
     book: &SoundBook<'_>,
@@ -42,13 +45,14 @@ pub fn reply_with(
     reply_to(alloc, book, table, question, given)
 }
 
+/// Returns true if `command` is `report`.
 fn is_report(command: Command) -> bool
     ensures { result ≡ is_report command }
 {
     matches!(command, Command::Report)
 }
 
-// The answer to a question that asks for no report.
+// Returns the answer to a request that isn't for a report.
 fn reply_to(
     alloc: Global,
     book: &SoundBook<'_>,
@@ -66,7 +70,8 @@ fn reply_to(
     }
 }
 
-// What it is written from. It streams exactly if the question may and what was prepared does; its text is made only otherwise.
+// Returns the source of the answer. The answer is streamed exactly if the request allows it and the
+// prepared source does; its text is made only otherwise.
 fn body_for(
     alloc: Global,
     book: &SoundBook<'_>,
@@ -92,13 +97,14 @@ fn body_for(
     Ok(Body::Text(answer(alloc, book, table, question, given)?))
 }
 
-// Whether the answer streams at a station that has the events of its reference as they are.
+// Returns true if the answer is streamed at a station without offsets.
 fn may_stream(question: &Question, zone: &Zone) -> bool
     ensures { result ≡ may_stream question.now zone.now }
 {
     can_stream(question.command) && question.layout == Layout::Plain && !is_zone_file(zone)
 }
 
+/// Returns true if `zone` is that of a file.
 fn is_zone_file(zone: &Zone) -> bool
     ensures { result ≡ is_zone_file zone.now }
 {

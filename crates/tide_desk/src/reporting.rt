@@ -18,8 +18,11 @@ use std::alloc::{AllocError, Global};
 use tide_answer::{Answer, Given, Listed, station_events};
 use tide_fault::Refusal;
 
-/// The pages of the sheets that a question wants, of the events that it asks of a book and a table,
-/// or the first refusal, as `predict` has it. They are headed with the present minute.
+/// Returns the pages of the sheets that `question` requests, of the events of its station, span and
+/// mark. Their head has the present minute.
+///
+/// # Errors
+/// The first [`Refusal`] in the order of `predict`.
 #[tactic(auto, unfolding(crate::specs::Answers::reported))]
 pub fn report(
     alloc: Global,
@@ -44,7 +47,7 @@ pub fn report(
     })
 }
 
-// The pages of the wanted sheets: none, where no sheet is named.
+// Returns the pages of the sheets in `wanted`, and none if there is no list of sheets.
 fn pages(
     alloc: Global,
     listed: Listed,

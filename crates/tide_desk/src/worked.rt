@@ -1,4 +1,4 @@
-//! Minutes and words that were worked out by hand.
+//! Minutes and command lines worked out by hand.
 
 ghost use Rattle.std.specs.Prelude.{◌≡◌, [], ◌∷◌, codes, pos, Some, Ok, Err};
 ghost use Rattle.question.specs.declared.command.Command.{Command};
@@ -14,14 +14,14 @@ ghost use Rattle.tide_desk.specs.Worked.{in_memory, pier, pier_words};
 
 use harmonics_text::worked_files;
 
-/// The minute that commands are given.
+/// The present minute that commands use.
 pub fn worked_minutes()
     ensures clock { minute_for Command.Clock (pos 7) ≡ pos 7 }
     ensures report { minute_for Command.Report (pos 7) ≡ pos 7 }
     ensures no_clock { minute_for Command.Heights (pos 7) ≡ pos 0 }
 {}
 
-/// The first word that no sheet has is told, where nothing is wrong with the words themselves.
+/// The fault of the first word that no sheet has, if the arguments themselves are in order.
 #[tactic(auto, unfolding(crate::specs::Answers::asked_of, report_sheets::specs::Pages::missing_of, question::specs::Questions::question_of, question::specs::Questions::with_items, question::specs::Questions::with_item, question::specs::Forms::some_text, question::specs::Forms::sheets_of))]
 pub fn worked_sheets()
     ensures no_sheet { known_in (codes "first" ∷ []) (missing_of [] (codes "first" ∷ [])) ≡ Err (Fault.NoSheet (codes "first")) }
@@ -31,7 +31,7 @@ pub fn worked_sheets()
     ensures words_first { asked_of [] (codes "report" ∷ codes "file=f" ∷ codes "sheets=first,first" ∷ []) ≡ Err (Fault.Ask (AskFault.BadValue 2)) }
 {}
 
-/// A run in memory of words that list the stations of a small file: it has an answer, and nothing has failed.
+/// A run in memory that lists the stations of a small file: it has an answer, and nothing failed.
 pub fn worked_runs()
     ensures answer { HasAnswer [] (folder_held in_memory pier) (pos 15791220) pier_words (text_alone (codes "Ref feet Pier\n")) }
     ensures nothing_failed { NothingFailed in_memory [] pier_words pier pier }

@@ -1,4 +1,4 @@
--- How a run ends (this project).
+-- The exit statuses (this project).
 use Rattle.std.specs.Prelude.{ℕ}
 use Rattle.tide_fault.specs.declared.status.Status.{Status}
 use Rattle.tide_fault.specs.declared.status.Status.TheVariants.{Done, Rejected, Words, FileRefused, Refused, Limit, ReadFault, WriteFault, NoMemory}

@@ -1,4 +1,4 @@
-//! Why a question, or a file that it names, can't be answered.
+//! Faults: the reasons for which a request has no answer.
 
 ghost use Rattle.std.specs.Prelude.{◌≡◌};
 ghost use Rattle.tide_fault.specs.Faults.{status_of, status_of_ask, status_of_form, status_of_table, status_of_refusal};
@@ -11,26 +11,27 @@ use harmonics_text::BookFault;
 use question::AskFault;
 use station_table::OffsetFault;
 
-/// Why there is no answer, in the order in which it is found.
+/// A reason for which a request has no answer. The variants are in the order in which they are
+/// found.
 #[derive(Debug, Drop)]
 pub enum Fault {
-    /// The words, or a query, ask nothing.
+    /// The command line, or a query, is no request.
     Ask(AskFault),
-    /// No sheet of a report has this word.
+    /// A report has no sheet named `word`.
     NoSheet { word: Text },
-    /// A file has too many bytes.
+    /// A file has more bytes than are read.
     TooLong(Slot),
-    /// The file of harmonic constants has no reading.
+    /// The file of harmonic constants is not of its form.
     Book(BookFault),
-    /// The table of subordinate stations has no reading.
+    /// The table of subordinate stations is not of its form.
     Offsets(OffsetFault),
-    /// The zone's file has no reading.
+    /// The time zone's file is not of its form.
     BadZone,
-    /// The question has no answer.
+    /// The files were read, and the request has no answer over them.
     Refused(Refusal),
 }
 
-/// The status of a run that ends with this fault. It takes no memory.
+/// Returns the status of a run that ends with `fault`. Doesn't allocate.
 pub fn fault_status(fault: &Fault) -> Status
     ensures { result ≡ status_of fault.now }
 {
@@ -45,6 +46,7 @@ pub fn fault_status(fault: &Fault) -> Status
     }
 }
 
+/// Returns the status for a command line or query that is no request.
 fn ask_status(fault: AskFault) -> Status
     ensures { result ≡ status_of_ask fault }
 {
@@ -54,6 +56,7 @@ fn ask_status(fault: AskFault) -> Status
     }
 }
 
+/// Returns the status for a file of harmonic constants that is not of its form.
 fn form_status(fault: BookFault) -> Status
     ensures { result ≡ status_of_form fault }
 {
@@ -63,6 +66,7 @@ fn form_status(fault: BookFault) -> Status
     }
 }
 
+/// Returns the status for a table of subordinate stations that is not of its form.
 fn table_status(fault: OffsetFault) -> Status
     ensures { result ≡ status_of_table fault }
 {
@@ -72,6 +76,7 @@ fn table_status(fault: OffsetFault) -> Status
     }
 }
 
+/// Returns the status for `refusal`.
 fn refusal_status(refusal: Refusal) -> Status
     ensures { result ≡ status_of_refusal refusal }
 {

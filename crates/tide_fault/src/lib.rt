@@ -1,8 +1,8 @@
-//! Why a question has no answer, and how that is told.
+//! Refusals and faults, with their lines and exit statuses.
 //!
-//! A [`Refusal`] says why a question has no answer over what was read, a [`Fault`] also what is wrong
-//! with the words or with a file. [`fault_line`] and [`fault_status`] are the line and the exit status
-//! of each: the one place where they are made.
+//! A [`Refusal`] is a reason for which a request has no answer over the files that were read. A
+//! [`Fault`] is also an error of the command line or of a file. [`fault_line`] and [`fault_status`]
+//! return the line and the exit status of each; no other crate makes them.
 #![tactic(auto)]
 
 mod fault;

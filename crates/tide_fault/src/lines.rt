@@ -1,4 +1,4 @@
-//! The line that tells of a fault. Every such line is made here.
+//! The lines that report faults.
 
 ghost use Rattle.std.specs.Prelude.{◌≡◌, ◌++◌, ◌<◌, codes, length, IfOk, string_bytes};
 ghost use Rattle.tide_fault.specs.Faults.{line_of, slot_name, ask_line, form_line, file_line, table_line, row_line, naming_line, reference_at, refusal_line, years_line, IsTold, IsToldRefusal};
@@ -15,9 +15,10 @@ use station_table::{OffsetFault, OffsetTable, OffsetWhy};
 use std::alloc::{AllocError, Global};
 use zone_time::write_moment;
 
-/// The line that tells of this fault, with its LF. The moments of
-/// [`OutOfYears`](Refusal::OutOfYears) are of the years from 1 to 9999, and the row of
-/// [`NoReference`](Refusal::NoReference) is one of the table.
+/// Returns the line that reports `fault`, with its LF. `table` is the table of subordinate
+/// stations, which names the reference of [`NoReference`](Refusal::NoReference): its row is an
+/// index into `table`. The moments of [`OutOfYears`](Refusal::OutOfYears) are in the years 1 to
+/// 9999.
 pub fn fault_line(alloc: Global, fault: &Fault, table: &OffsetTable) -> Result<Bytes, AllocError>
     requires { IsTold table.now fault.now }
     ensures { IfOk result (λ line. line ≡ line_of table.now fault.now) }
@@ -42,6 +43,7 @@ fn fault_text(alloc: Global, fault: &Fault, table: &OffsetTable) -> Result<Strin
     }
 }
 
+/// Returns the line for a command line or query that is no request.
 #[tactic(auto, unfolding(crate::specs::Faults::ask_line))]
 fn ask_text(alloc: Global, fault: AskFault) -> Result<String, AllocError>
     ensures { IfOk result (λ text. string_bytes text ≡ ask_line fault) }
@@ -58,6 +60,7 @@ fn ask_text(alloc: Global, fault: AskFault) -> Result<String, AllocError>
     }
 }
 
+/// Returns the line for a request without a required key.
 #[tactic(auto, unfolding(crate::specs::Faults::ask_line))]
 fn missing_text(alloc: Global, key: Key) -> Result<String, AllocError>
     ensures { IfOk result (λ text. string_bytes text ≡ ask_line (AskFault.MissingKey key)) }
@@ -68,6 +71,7 @@ fn missing_text(alloc: Global, key: Key) -> Result<String, AllocError>
     Ok(text)
 }
 
+/// Returns the line for a file that has more bytes than are read.
 fn long_text(alloc: Global, slot: Slot) -> Result<String, AllocError>
     ensures { IfOk result (λ text. string_bytes text ≡ slot_name slot ++ codes ": too long\n") }
 {
@@ -76,6 +80,7 @@ fn long_text(alloc: Global, slot: Slot) -> Result<String, AllocError>
     Ok(text)
 }
 
+/// Returns the line for a file of harmonic constants that is not of its form.
 #[tactic(auto, unfolding(crate::specs::Faults::form_line))]
 fn form_text(alloc: Global, fault: BookFault) -> Result<String, AllocError>
     ensures { IfOk result (λ text. string_bytes text ≡ form_line fault) }
@@ -86,6 +91,7 @@ fn form_text(alloc: Global, fault: BookFault) -> Result<String, AllocError>
     }
 }
 
+/// Returns the line for a fault at `line` of a file of harmonic constants.
 fn file_text(alloc: Global, line: u32, why: Why) -> Result<String, AllocError>
     ensures { IfOk result (λ text. string_bytes text ≡ file_line line why) }
 {
@@ -97,6 +103,7 @@ fn file_text(alloc: Global, line: u32, why: Why) -> Result<String, AllocError>
     Ok(text)
 }
 
+/// Returns the line for a table of subordinate stations that is not of its form.
 #[tactic(auto, unfolding(crate::specs::Faults::table_line))]
 fn table_text(alloc: Global, fault: OffsetFault) -> Result<String, AllocError>
     ensures { IfOk result (λ text. string_bytes text ≡ table_line fault) }
@@ -107,6 +114,7 @@ fn table_text(alloc: Global, fault: OffsetFault) -> Result<String, AllocError>
     }
 }
 
+/// Returns the line for a fault at `row` of a table of subordinate stations.
 fn row_text(alloc: Global, row: u32, why: OffsetWhy) -> Result<String, AllocError>
     ensures { IfOk result (λ text. string_bytes text ≡ row_line row why) }
 {
@@ -146,6 +154,7 @@ fn refusal_text(alloc: Global, refusal: Refusal, table: &OffsetTable) -> Result<
     }
 }
 
+/// Returns the name of the reference station at index `row` of `table`.
 fn reference_at(table: &OffsetTable, row: u32) -> &str
     requires { row < length table.now }
     ensures { result.now ≡ reference_at table.now row }
@@ -153,6 +162,7 @@ fn reference_at(table: &OffsetTable, row: u32) -> &str
     table.as_slice()[row as usize].reference.as_str()
 }
 
+/// Returns the line of a refusal that names `name`, after the words `what`.
 fn named_text(alloc: Global, what: &str, name: &str) -> Result<String, AllocError>
     ensures { IfOk result (λ text. string_bytes text ≡ naming_line what.now name.now) }
 {
@@ -162,6 +172,8 @@ fn named_text(alloc: Global, what: &str, name: &str) -> Result<String, AllocErro
     Ok(text)
 }
 
+/// Returns the line for a span outside the file's years, from minute `first` up to minute `last`,
+/// which isn't part of them; both since 1970-01-01T00:00Z.
 fn years_text(alloc: Global, first: i64, last: i64) -> Result<String, AllocError>
     requires first { IsMoment first }
     requires last { IsMoment last }

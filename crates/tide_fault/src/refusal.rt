@@ -1,4 +1,4 @@
-//! Why a question has no answer.
+//! Refusals of a request over files that were read.
 
 use cert_text::CertFault;
 use harmonics_text::Why;
@@ -6,37 +6,45 @@ use station_curve::CurveFault;
 use station_table::FindFault;
 use std::alloc::AllocError;
 
-/// Why a question has no answer over a book that was read.
+/// A reason for which a request has no answer over the harmonics file and the table that were read.
 #[derive(Clone, Copy, Debug)]
 pub enum Refusal {
+    /// Memory ran out.
     NoMemory,
-    /// What is given as a certificate is none: its first line with which no certificate goes on.
+    /// The bytes of a certificate are none: `line`, counted from 1, is the first with which no
+    /// certificate goes on.
     NotACertificate { line: u32 },
-    /// The file made from a seed isn't of the form: its first line that breaks a rule.
+    /// The file made from a seed is not of the form: `line`, counted from 1, is the first that
+    /// breaks the rule `why`.
     BadSample { line: u32, why: Why },
-    /// Neither the book nor the table has a station of the name.
+    /// Neither the harmonics file nor the table has a station of the name.
     NoStation,
-    /// The book doesn't have the reference of the station's row, by its place in the table's list.
+    /// The harmonics file doesn't have the reference station of the row at index `row` of the
+    /// table.
     NoReference { row: u32 },
-    /// The station is a current whose speed is the root of what its constants give.
+    /// The station is a hydraulic current: its speed is the square root of the sum of its
+    /// constituents.
     Hydraulic,
     /// The span ends before it begins.
     BackwardSpan,
-    /// The span has no minute, where the highest water of it is asked.
+    /// The highest water of a span without a minute is requested.
     EmptySpan,
-    /// The span isn't in the file's years: with the file's first minute and the one after its last.
+    /// The span isn't within the file's years. `first` is their first minute and `last` the minute
+    /// after their last, since 1970-01-01T00:00Z.
     OutOfYears { first: i64, last: i64 },
-    /// The first year in which the amplitudes sum to too much.
+    /// The amplitudes of the station's constituents exceed their bound; `year` is the first such
+    /// year.
     TooLarge { year: i32 },
-    /// The first year in which amplitude times speed sums to too much.
+    /// The products of amplitude and speed of the station's constituents exceed their bound; `year`
+    /// is the first such year.
     TooSteep { year: i32 },
-    /// The span has too many minutes.
+    /// The span has `minutes`, which are too many.
     SpanTooLong { minutes: i64 },
-    /// A mark is asked of a station whose highs and lows have different offsets.
+    /// A mark is requested of a station whose highs and lows have different offsets.
     MarkNotHere,
-    /// A level is asked of such a station.
+    /// A level is requested of a station whose highs and lows have different offsets.
     LevelNotHere,
-    /// More heights are asked than a list may have.
+    /// The request is for `rows` heights, more than a list may have.
     TooManyRows { rows: i64 },
 }
 

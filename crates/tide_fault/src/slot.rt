@@ -1,8 +1,8 @@
-//! The files of a question.
+//! The files of a request.
 
 ghost use Rattle.std.specs.Prelude.{◌≡◌, ◌≤◌, length};
 
-/// What a file is read as.
+/// What a named file is read as.
 #[derive(Clone, Copy, Debug, PartialEq, Eq)]
 pub enum Slot {
     /// The harmonic constants.
@@ -11,13 +11,14 @@ pub enum Slot {
     Offsets,
     /// A time zone.
     Zone,
+    /// A certificate.
     Certificate,
 }
 
 impl Slot {
     ghost use Rattle.tide_fault.specs.Faults.{slot_name};
 
-    /// Its name in the lines that tell of faults.
+    /// Returns the name of the file in the lines that report faults.
     pub fn text(self) -> &'static str
         ensures { result.now ≡ slot_name self }
     {

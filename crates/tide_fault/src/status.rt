@@ -1,34 +1,34 @@
-//! How a run ends.
+//! The exit statuses.
 
 ghost use Rattle.std.specs.Prelude.{◌≡◌};
 
-/// How a run ended. Its number is the exit status of the program.
+/// The end of a run. Its number is the exit status of the program.
 #[derive(Clone, Copy, Debug, PartialEq, Eq)]
 pub enum Status {
     /// The answer was written whole.
     Done,
     /// A certificate isn't valid.
     Rejected,
-    /// The words ask for nothing.
+    /// The command line is no request.
     Words,
-    /// A file is too long, or isn't of its form.
+    /// A file is too long, or is not of its form.
     FileRefused,
-    /// The question has no answer.
+    /// The request has no answer.
     Refused,
-    /// A limit on numbers is passed.
+    /// A bound on numbers is exceeded.
     Limit,
-    /// A file, or the clock, wasn't to be read.
+    /// A file, or the clock, could not be read.
     ReadFault,
-    /// The answer couldn't be written.
+    /// The answer could not be written.
     WriteFault,
-    /// Memory was wanting.
+    /// Memory ran out.
     NoMemory,
 }
 
 impl Status {
     ghost use Rattle.tide_fault.specs.Statuses.{number_of};
 
-    /// From 0 to 8.
+    /// Returns the exit status, 0 to 8.
     pub fn number(&self) -> u8
         ensures { result ≡ number_of self.now }
     {

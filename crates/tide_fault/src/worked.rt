@@ -1,4 +1,4 @@
-//! Lines and statuses that were worked out by hand.
+//! Lines and statuses of faults worked out by hand.
 
 ghost use Rattle.std.specs.Prelude.{◌≡◌, [], codes};
 ghost use Rattle.question.specs.declared.fault.AskFault.{AskFault};
@@ -9,7 +9,7 @@ ghost use Rattle.tide_fault.specs.declared.slot.Slot.{Slot};
 ghost use Rattle.tide_fault.specs.declared.status.Status.{Status};
 ghost use Rattle.tide_fault.specs.Faults.{line_of, status_of};
 
-/// Lines without a number.
+/// Lines without a number, and statuses.
 #[tactic(auto, unfolding(crate::specs::Faults::line_of, crate::specs::Faults::ask_line, crate::specs::Faults::refusal_line))]
 pub fn worked_lines()
     ensures no_command { line_of [] (Fault.Ask AskFault.NoCommand) ≡ codes "words: no command\n" }

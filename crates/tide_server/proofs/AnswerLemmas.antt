@@ -1,4 +1,4 @@
--- What answers a connection.
+-- The answers to a connection.
 use Rattle.std.proofs.Common.{◌≡◌, ◌⊎◌, ◌≢◌, ℕ, ◌<◌, Bool, false, true, List, [], ◌∷◌, ◌++◌, length, take, drop, append-nil, length-drop, arith, Option, Some, None, inl, inr, ap, sym, ◌∙◌, subst, refl}
 use Rattle.std.specs.Bool.{IsTrue}
 use Rattle.std.specs.List.{concat}
@@ -18,7 +18,7 @@ use Rattle.http_rows.proofs.RowLemmas.{one_row_at, settled_stays}
 one : (request : List ℕ) (a b : Row) → IsRow request a → IsRow request b → a ≡ b
 one request a b x y = one_row_at (head_end request) request a b x y
 
--- ---- What was read stands for all bytes
+-- ---- The bytes that were read determine the answer to all bytes
 
 row_whole : (request rest : List ℕ) (row : Row) → (rest ≡ []) ⊎ IsEnough request → IsRow request row → IsRow (request ++ rest) row
 row_whole request rest row enough is =
@@ -125,7 +125,7 @@ has_bytes : (bytes : List ℕ) → true ≡ has_byte bytes → ¬ (bytes ≡ [])
 has_bytes [] is = absurd (cc)
 has_bytes (b ∷ bytes) is = λ none. absurd (cc)
 
--- ---- What came of the open connection
+-- ---- The open connection at its end
 
 parts : (count : ℕ) (text : List ℕ) → text ≡ take count text ++ drop count text
 parts count text = sym (take-append-drop count text)
@@ -209,7 +209,7 @@ went_by_row false stock row request first now after clock clock_now read some is
 went_by_row true stock row request first now after clock clock_now read some is found sends =
     stopped_row stock row request first now after clock clock_now read some found sends
 
--- no byte came
+-- no byte was read
 pub went_silent : (stock : Stock) (first now : DoorState) (clock : ClockState) → HasRead false [] first now
     → (IsTrue first.is_observable → concat first.traffic.rest ≡ []) → Went stock (exchange first clock) (exchange now clock)
 went_silent stock first now clock read none = record {

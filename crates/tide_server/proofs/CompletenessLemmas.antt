@@ -1,4 +1,4 @@
--- A server over an outside that doesn't fail ends by what it serves from, or out of memory.
+-- A server over objects that don't fail ends by its data, or out of memory.
 use Rattle.std.proofs.Common.{◌≡◌, ◌⊎◌, ◌∙◌, ℕ, Bool, true, false, List, [], ◌∷◌, codes, Some, None, Result, Ok, Err, inl, inr, refl, ap, arith, le_refl}
 use Rattle.std.specs.Bool.{IsTrue}
 use Rattle.std.specs.Prelude.{count_by}
@@ -29,7 +29,7 @@ use Rattle.tide_server.specs.Openings.{EndedBy, HasListened, IsRefused, service_
 use Rattle.tide_server.specs.Promises.{ServesAs, ServiceStates, Services, handed_of}
 use Rattle.tide_server.specs.Worked.{in_memory, pier, pier_stock, pier_words}
 
--- ---- Nobody was served
+-- ---- No connection was served
 
 -- a fault that is excused is the expected one, unless it is out of memory
 said_for : {A : Type 0} (expected : Result A NoAnswer) (why : NoAnswer) (firm : Type 0) → firm → Excuses (source_of why) firm expected why
@@ -49,7 +49,7 @@ said_for expected (Told (Refused _)) firm stood excused = inl excused
 said_for expected (none_of.Refused refusals.NoMemory rows) firm stood excused = inr refl
 said_for expected (none_of.Refused _ rows) firm stood excused = inl excused
 
--- its door was never asked to listen
+-- the port was not listened to
 before_listening : {F D E K : Type 0} (s : ServiceStates F D E K) (words : List (List ℕ)) (status is : Status) (before after : Services F D E K)
     → ServesAs s words status before after → (s.door after.door).doorway.port ≡ None → status ≡ is → EndedBefore status is before after
 before_listening s words status is before after serves unasked ends =
@@ -119,7 +119,7 @@ serves_completely s words status before after unasked serves nothing =
       | inr listened ↦ inl (rw listened.1 (served_all s words listened.0 status before after serves nothing listened.2))
     ]
 
--- ---- A server that is worked out
+-- ---- A server worked out by hand
 
 pier_named : book_of (file_of pier_lines) ≡ Ok pier_book
     → stock_named (λ slot. (in_memory.files pier.files).store.folder) (record (bare Serve) { file = Some (codes "f") }) (codes "f") ≡ Ok pier_stock

@@ -1,4 +1,4 @@
--- What goes over a connection, piece by piece.
+-- The bytes of a connection, piece by piece.
 use Rattle.std.proofs.Common.{◌≡◌, ◌⊎◌, ℕ, ◌+◌, ◌<◌, ◌≤◌, Bool, false, true, List, [], ◌∷◌, ◌++◌, length, take, drop, append_assoc, append-nil, arith, ap, sym, ◌∙◌, subst, refl, Ok, Err, Option, Some, None, inl, inr}
 use Rattle.std.specs.Bool.{IsTrue}
 use Rattle.std.specs.List.{concat}
@@ -47,7 +47,7 @@ few_by true request row is unsettled long =
     absurd (cc)
 few_by false request row is unsettled long = grind (arith, nat_tests)
 
--- bytes that aren't enough are few
+-- bytes that don't determine the reply are fewer than the longest request has
 pub few : (request : List ℕ) (row : Row) → IsRow request row → is_settled row ≡ false → length request < LONGEST
 few request row is unsettled = few_by (nat_le LONGEST (length request)) request row is unsettled refl
 
@@ -66,7 +66,7 @@ not_enough enough = unsettled [] enough.0 enough.1 (unsettled_at enough.0 enough
 
 -- ---- Reading on
 
--- so many bytes were read: this is left of the pieces, and these are the bytes
+-- the bytes that were read of the pieces, and the pieces that are left
 pub record IsReadTo (pieces : List (List ℕ)) (request : List ℕ) (left : List (List ℕ)) : Type 0 where
   rest : left ≡ left_after (length request) pieces
   bytes : request ≡ take (length request) (concat pieces)
@@ -82,7 +82,7 @@ read_parts pieces request left read =
     ∙ ap (λ xs. xs ++ drop (length request) (concat pieces)) (sym read.bytes)
     ∙ ap (λ xs. request ++ xs) (sym (ap concat read.rest ∙ bytes_left (length request) pieces))
 
--- ---- What a door makes of it
+-- ---- The state of the port
 
 with_traffic : DoorState → Connections → ℕ → Traffic → DoorState
 with_traffic d connections lines traffic = record d { connections = connections; traffic = traffic; line_faults = lines }
@@ -117,7 +117,7 @@ unfolding rest_of
 rest_by true left t is = refl
 rest_by false left t is = absurd (cc)
 
--- so far bytes were read of the open connection, whose end was found or wasn't, and no read has failed
+-- bytes were read of the open connection, whose end was found or wasn't, and no read has failed
 pub record ReadSoFar (first : DoorState) (request : List ℕ) (is_ended : Bool) (now : DoorState) : Type 0 where
   left : List (List ℕ)
   door : now ≡ read_to left (read_as false request is_ended) false first
@@ -152,7 +152,7 @@ unfolding rest_of
 rest_now first now request is_ended so_far t =
     ap (λ d. d.traffic.rest) so_far.door ∙ rest_by first.is_observable so_far.left first.traffic t
 
--- what one read more gives
+-- the result of one more read
 pub record OneMore (now : DoorState) (request next : List ℕ) (count : ℕ) (after : DoorState) : Type 0 where
   pub room : List ℕ
   pub door : after ≡ door_after_read (Ok count) room now
@@ -205,7 +205,7 @@ not_over : (ends settled : Bool) → (ends || settled) ≡ false → (ends || fa
 not_over true settled is = absurd (cc)
 not_over false settled is = refl
 
--- where reading goes on, the end wasn't found
+-- the end wasn't found, if reading goes on
 pub goes_on : (first now after : DoorState) (request next : List ℕ) (settled : Bool) (count : ℕ) → ReadSoFar first request false now
     → OneMore now request next count after → (count == 0 || settled) ≡ false → ReadSoFar first next false after
 goes_on first now after request next settled count so_far more is =
@@ -217,7 +217,7 @@ pub parts_read : (first now : DoorState) (request : List ℕ) (is_ended : Bool) 
     → IsTrue first.is_observable → concat first.traffic.rest ≡ request ++ concat so_far.left
 parts_read first now request is_ended so_far t = read_parts first.traffic.rest request so_far.left (so_far.read t)
 
--- where nothing was left before one read more, all were read
+-- all bytes were read, if nothing was left before one more read
 pub all_read : (first now after : DoorState) (request next : List ℕ) (count : ℕ) → ReadSoFar first request false now
     → OneMore now request next count after → IsTrue first.is_observable → (IsTrue now.is_observable → concat now.traffic.rest ≡ [])
     → IsRead (concat first.traffic.rest) next
@@ -232,7 +232,7 @@ all_read first now after request next count so_far more t none =
       enough = inl left;
     }
 
--- where the bytes are enough, so many were read
+-- the bytes were read, if they determine the reply
 pub enough_read : (first now : DoorState) (request : List ℕ) (is_ended : Bool) → ReadSoFar first request is_ended now
     → IsTrue first.is_observable → IsEnough request → IsRead (concat first.traffic.rest) request
 enough_read first now request is_ended so_far t enough =
@@ -253,7 +253,7 @@ found_by false settled first now after request next count row so_far more is ove
 is_none : (count : ℕ) → (count == 0) ≡ true → count ≡ 0
 is_none count is = grind (arith, nat_tests)
 
--- the row of what was read, where reading has ended
+-- the row of the bytes that were read, if reading has ended
 pub row_found : (first now after : DoorState) (request next : List ℕ) (count : ℕ) (row : Row)
     → ReadSoFar first request false now → OneMore now request next count after → (count == 0 || is_settled row) ≡ true
     → (IsTrue now.is_observable → (count ≡ 0) ↔ (concat now.traffic.rest ≡ [])) → ¬ (next ≡ []) → IsRow next row
@@ -275,7 +275,7 @@ pub still_open_after : (first now after : DoorState) (request next : List ℕ) (
 still_open_after first now after request next count so_far more =
     still_open first after next ((count == 0) || false) (read_on first now after request next false count so_far more)
 
--- ---- Why nothing more was read
+-- ---- The end of reading
 
 abbrev pub HasEnded : Bool → List ℕ → Type 0
 HasEnded is_ended bytes = (is_ended ≡ true) ⊎ ((false ≡ true) ⊎ IsEnough bytes)
@@ -285,12 +285,12 @@ over_by : (ends settled : Bool) (next : List ℕ) (row : Row) → (ends || settl
 over_by true settled next row is enough row_is = inl refl
 over_by false settled next row is enough row_is = inr (inr (row, row_is, enough is))
 
--- a row ended it
+-- a row ended the reading
 pub over_row : (count : ℕ) (next : List ℕ) (row : Row) → (count == 0 || is_settled row) ≡ true → IsRow next row
     → HasEnded ((count == 0) || false) next
 over_row count next row is row_is = over_by (count == 0) (is_settled row) next row is (λ s. s) row_is
 
--- or the end
+-- the end of the connection ended the reading
 pub over_none : (count : ℕ) (next : List ℕ) → count ≡ 0 → HasEnded ((count == 0) || false) next
 over_none count next none = rw none (inl refl)
 
@@ -320,7 +320,7 @@ read_enough now after request next count waits more over = record {
   until = over;
 }
 
--- nothing more is read: the last read has failed
+-- no more is read, since the last read failed
 pub has_failed : (first now after : DoorState) (request room : List ℕ) (failed : Failed) → ReadSoFar first request false now
     → ¬ (IsEnough request) → after ≡ door_after_read (Err failed) room now → HasRead true request first after
 has_failed first now after request room failed so_far waits is = record {
@@ -337,7 +337,7 @@ has_failed first now after request room failed so_far waits is = record {
   };
 }
 
--- or it was the last one needed, since the bytes before it weren't enough
+-- no more is read, since the bytes before the last read didn't determine the reply
 pub has_read : (first now after : DoorState) (request next : List ℕ) (count : ℕ) → ReadSoFar first request false now
     → ¬ (IsEnough request) → OneMore now request next count after → HasEnded ((count == 0) || false) next
     → (IsTrue now.is_observable → IsTrue now.keeps_pieces → count ≤ length (first_or_empty now.traffic.rest)) → HasRead false next first after
@@ -401,7 +401,7 @@ unfolding appended
 sent_twice true a b t = ap (λ rs. record { waiting = t.waiting; rest = t.rest; replies = rs }) (append_twice t.replies a b)
 sent_twice false a b t = refl
 
--- after one piece more
+-- the port after one more piece was sent
 pub sent_on : (first now after : DoorState) (text : List ℕ) (at count : ℕ) → now ≡ sent (take at text) false first
     → after ≡ door_after_write (Ok count) (drop at text) now → after ≡ sent (take (at + count) text) false first
 unfolding with_traffic with_open appended

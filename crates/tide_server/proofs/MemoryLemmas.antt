@@ -1,4 +1,4 @@
--- What a served door in memory holds.
+-- The port in memory after serving.
 use Rattle.std.proofs.Common.{◌≡◌, ℕ, suc, ◌+◌, ◌-◌, ◌^◌, ◌<◌, Bool, false, true, List, [], ◌∷◌, map, arith, None, Ok, inl, inr, ap, ◌∙◌, subst, sym, refl}
 use Rattle.std.specs.List.{concat}
 use Rattle.std.specs.Prelude.{ℤ, count_by, if◌then◌else◌}
@@ -14,7 +14,7 @@ use Rattle.tide_server.specs.Laws.{AreAnswered, AreAnsweredBut, HasAnswered, InM
 use Rattle.tide_server.specs.Openings.{EndsAs, stock_of}
 use Rattle.tide_server.specs.Serving.{AnswersUnlessCut, Answers, AreHeld, Conversation, RoseBy, Served, clock_after_all, clock_at_end, clock_with, exchange}
 
--- how many were cut short
+-- the number of connections that were cut short
 abbrev cuts : List Conversation → ℕ
 cuts served = count_by (λ c. c.is_cut) served
 
@@ -26,7 +26,7 @@ uncut : (is_cut : Bool) (more : ℕ) → (if is_cut then 1 + more else more) ≡
 uncut true more none = absurd (omega (arith, none))
 uncut false more none = (refl, none)
 
--- the first wasn't cut short, nor were those behind it
+-- neither the first connection nor those after it were cut short
 first_uncut : (c : Conversation) (more : List Conversation) → cuts (c ∷ more) ≡ 0 → (c.is_cut ≡ false) × (cuts more ≡ 0)
 first_uncut c more none = uncut c.is_cut (cuts more) (grind (arith, common_steps, none))
 
@@ -40,7 +40,7 @@ same_minutes : (is_asked : Bool) (clock : ClockState) (minute : ℤ) → ((n : �
 same_minutes true clock minute is n = is n
 same_minutes false clock minute is n = is n
 
--- the first is answered, or it was cut short
+-- the first connection is answered, or it was cut short
 whole_or_cut : (is_cut : Bool) (stock : Stock) (minute : ℤ) (request : List (List ℕ)) (reply : List ℕ) (requests : List (List (List ℕ))) (replies : List (List ℕ)) (more : ℕ)
     → AnswersUnlessCut is_cut (Answers stock minute) (concat request) reply → AreAnsweredBut more stock minute requests replies
     → AreAnsweredBut (if is_cut then suc more else more) stock minute (request ∷ requests) (reply ∷ replies)
@@ -72,7 +72,7 @@ all_answered stock clock minute (c ∷ more) is none held =
       all_answered stock (clock_with c.is_asked clock) minute more (same_minutes c.is_asked clock minute is) first.1 held.1,
     )
 
--- those that weren't cut short are answered
+-- connections that weren't cut short are answered
 all_but : (stock : Stock) (clock : ClockState) (minute : ℤ) (served : List Conversation) → ((n : ℕ) → clock.minute_at n ≡ minute)
     → AreHeld stock clock served
     → AreAnsweredBut (cuts served) stock minute (map (λ c. c.request) served) (map (λ c. c.reply) served)

@@ -1,4 +1,4 @@
--- What a server serves from, and why it serves nobody.
+-- The data of a server, and the reason for which it serves nothing.
 use Rattle.std.proofs.Common.{◌≡◌, ℕ, Bool, true, false, List, [], Option, Some, None, Result, Ok, Err, ap, inl, inr, sym, subst, refl, ◌∙◌}
 use Rattle.std.specs.Bool.{IsTrue}
 use Rattle.std.specs.Prelude.{codes}
@@ -39,9 +39,9 @@ pub meets_unnamed : (folders : Folders) (question : Question) → question.file 
     → stock_by folders question question.file ≡ Err (Told (Ask (MissingKey keys.File)))
 meets_unnamed folders question is = ap (stock_by folders question) is
 
--- ---- How much is read
+-- ---- The bytes that are read
 
--- of the files that the words name
+-- the bytes of the files that the arguments name
 pub read_named : (question : Question) (asked : Result Question Fault) (name : List ℕ) (failed : Bool) (before after : FilesState)
     → asked ≡ Ok question → question.file ≡ Some name
     → ReadWithin (both (one_file (limit_of slots.File)) (allowed_for slots.Offsets question.offsets)) failed before after
@@ -52,12 +52,12 @@ read_named question asked name failed before after is file read =
     let Q : Result Question Fault → Type 0 = λ q. ReadWithin (files_asked q) failed before after in
     subst Q (sym is) (subst A (sym file) read)
 
--- ---- What was written
+-- ---- The bytes that were written
 
 put_nothing : (s : SinkState) → s ≡ put [] s
 put_nothing s = sym (put_none s)
 
--- one text, behind nothing
+-- one text after nothing
 pub wrote_one : (before after : SinkState) (failed : Bool) (text : List ℕ) → Wrote before after failed text → WroteBoth before after [] text
 wrote_one before after failed text wrote = (before, false, failed, put_nothing before, wrote)
 
@@ -65,7 +65,7 @@ wrote_one before after failed text wrote = (before, false, failed, put_nothing b
 pub wrote_first : (before after : SinkState) (failed : Bool) (text : List ℕ) → Wrote before after failed text → WroteBoth before after text []
 wrote_first before after failed text wrote = (after, failed, false, wrote, put_nothing after)
 
--- ---- What has failed
+-- ---- The failures
 
 pub never : {G : Type 0} → false ≡ true → G
 never is = cc
@@ -119,9 +119,9 @@ ended_behind failed before after files count same ended = record {
   clock_state = ended.clock_state;
 }
 
--- ---- Nobody was served
+-- ---- No connection was served
 
--- why nobody was served is told
+-- the reason is reported
 pub refused_for : (firm : Type 0) (expected : Result Stock NoAnswer) (none : NoAnswer) (status : Status) (before after : Handed)
     → Excuses (source_of none) firm expected none → after.door ≡ before.door → after.clock ≡ before.clock
     → Tells none status before.err after.err → IsRefused firm expected status before after
@@ -147,7 +147,7 @@ refused_for firm expected none status before after excused door clock told =
       }
     ]
 
--- for want of memory
+-- memory ran out
 pub refused_full : (firm : Type 0) (expected : Result Stock NoAnswer) (status : Status) (before after : Handed) (failed : Bool)
     → status ≡ NoMemory → after.door ≡ before.door → after.clock ≡ before.clock
     → Wrote before.err after.err failed (codes "no memory\n") → IsRefused firm expected status before after
@@ -163,7 +163,7 @@ refused_full firm expected status before after failed full door clock wrote = re
 
 -- ---- Another command
 
--- the words have no question then
+-- the arguments are no request to serve then
 pub another_asked : (words : List (List ℕ)) → IsTrue (asks_another (pairs_of words)) → service_of words ≡ Err (Ask UnknownCommand)
 unfolding service_of
 another_asked words is = rw is refl
@@ -173,7 +173,7 @@ another_stock : (folders : Folders) (words : List (List ℕ)) → service_of wor
 unfolding stock_from
 another_stock folders words is = rw is refl
 
--- nobody was served, since the words have another command
+-- no connection was served, since the arguments have another command
 pub refused_another : (firm : Type 0) (folders : Folders) (words : List (List ℕ)) (status : Status) (before after : Handed) (failed : Bool)
     → IsTrue (asks_another (pairs_of words)) → status ≡ Words → after.door ≡ before.door → after.clock ≡ before.clock
     → Wrote before.err after.err failed (codes "words: unknown command\n")

@@ -1,4 +1,4 @@
--- What is left of the pieces of a connection.
+-- The pieces of a connection that are left.
 use Rattle.std.proofs.Common.{◌≡◌, ℕ, ◌+◌, ◌-◌, ◌≤◌, Bool, false, true, List, [], ◌∷◌, ◌++◌, length, drop, arith, ap, sym, ◌∙◌, refl}
 use Rattle.std.specs.List.{concat}
 use Rattle.std.specs.Prelude.{◌==◌, ◌||◌, nat_lt}
@@ -41,7 +41,7 @@ bytes_left count [] = grind (arith, common_steps)
 bytes_left count (piece ∷ more) =
     bytes_by (is_within count piece) count piece more refl (bytes_left (count - length piece) more)
 
--- ---- After one read more
+-- ---- After one more read
 
 on_within : (within : Bool) (count next : ℕ) (piece : List ℕ) (more : List (List ℕ)) → is_within count piece ≡ true
     → is_within next (drop count piece) ≡ within
@@ -69,18 +69,18 @@ on_by false count next piece more is later =
     ∙ ap (λ n. left_after n more) same
     ∙ sym (behind_left (count + next) piece more there)
 
--- what is left behind so many bytes, and then behind some more
+-- the pieces that are left after some bytes, and then after some more
 pub left_on : (count next : ℕ) (pieces : List (List ℕ)) → left_after next (left_after count pieces) ≡ left_after (count + next) pieces
 left_on count next [] = refl
 left_on count next (piece ∷ more) =
     on_by (is_within count piece) count next piece more refl (left_on (count - length piece) next more)
 
--- at the begin all is left
+-- all pieces are left at the begin
 pub all_left : (pieces : List (List ℕ)) → pieces ≡ left_after 0 pieces
 all_left [] = refl
 all_left (piece ∷ more) = refl
 
--- ---- The connection taken last
+-- ---- The last connection
 
 pub last_read : (before : List (List (List ℕ))) (request left : List (List ℕ)) → IsReadAsNeeded request left
     → IsLastReadAsNeeded (before ++ request ∷ []) left

@@ -1,4 +1,4 @@
--- The zone that a query asks for names no file.
+-- The zone of a query is no file.
 use Rattle.std.proofs.Common.{◌≡◌, ℕ, ℤ, Bool, true, false, List, Option, Some, None, refl}
 use Rattle.std.specs.Prelude.{if◌then◌else◌, option_and_then, unwrap_or, codes, Result, Ok, Err}
 use Rattle.std.specs.Option.{option_map, option_or}

@@ -1,4 +1,4 @@
--- Replies: one a request, which more bytes don't change once its row is settled.
+-- Replies: one for each request, which further bytes don't change once they determine its row.
 use Rattle.std.proofs.Common.{◌≡◌, ℕ, ℤ, List, ◌++◌, Some, ap, ◌∙◌, sym, subst}
 use Rattle.std.specs.Prelude.{IsTrue, Result, Ok, Err, IfOk}
 use Rattle.harmonics_text.specs.declared.book.Book.{Book}
@@ -30,7 +30,7 @@ pub fixed_row_replies : (book : Book) (table : List Offsets) (minute : ℤ) (req
     → fixed_of row ≡ Some reply → IsReply book table minute request reply
 fixed_row_replies book table minute request reply row is fixed = (row, is, fixed_is book table minute reply row fixed)
 
--- what is written for the row of a request is its reply
+-- the reply to a request is the reply of its row
 pub row_replies : {E : Type 0} (book : Book) (table : List Offsets) (minute : ℤ) (request : List ℕ) (row : Row) (result : Result (List ℕ) E)
     → IsRow request row → IfOk result (λ bytes. bytes ≡ reply_of book table minute row) → IfOk result (IsReply book table minute request)
 row_replies book table minute request row (Ok bytes) is same = (row, is, same)

@@ -1,4 +1,4 @@
--- How a server that has something to serve from ends.
+-- The end of a server that has data.
 use Rattle.std.proofs.Common.{◌≡◌, ℕ, Bool, true, false, Some, Ok, Err, inl, inr, sym, subst, refl}
 use Rattle.std.specs.Bool.{IsTrue}
 use Rattle.std.specs.Prelude.{codes}
@@ -20,9 +20,9 @@ use Rattle.tide_server.specs.Workings.Steps.{IsKept, is_clock, is_door}
 use Rattle.tide_server.proofs.OpeningLemmas.{never, wrote_first, wrote_one}
 use Rattle.tide_server.proofs.StepLemmas.{all_passed, nobody, none_passed}
 
--- ---- The door listens
+-- ---- The port is listened to
 
--- what was served
+-- the connections that were served
 pub record Serves (stock : Stock) (failed : Bool) (before after : Exchange) : Type 0 where
   pub port : after.door.doorway.port ≡ Some stock.port
   pub listens : after.door.doorway.listens ≡ true
@@ -60,7 +60,7 @@ served_done stock door door_after err err_after clock clock_after failed serves 
   };
 }
 
--- by the door or by the clock
+-- the end by a failure of the port or of the clock
 by_outage : (outage : Outage) (door door_after : DoorState) (err err_after : SinkState) (clock clock_after : ClockState) (files left : FilesState)
     → IsKept (is_door outage) (is_clock outage) (exchange door clock) (exchange door_after clock_after)
     → left.faults ≡ files.faults
@@ -113,7 +113,7 @@ served_failed stock outage door door_after err between err_after clock clock_aft
   ended = λ files left same. by_outage outage door door_after err err_after clock clock_after files left kept same;
 }
 
--- ---- The door was asked to listen
+-- ---- The port was listened to
 
 same_served : {T : Type 0} (value : T) (stock : Stock) (failed : Bool) (port : ℕ) (door : DoorState) (clock : ClockState) (after : Exchange)
     → Served stock failed (exchange (door_after_listen (Ok value) port door) clock) after → Served stock failed (exchange door clock) after

@@ -109,7 +109,7 @@ unfolding with_all
 next_over first after is =
     is ∙ ap (with_all first (door_at_end first).doorway first.faults) (unread_again first.is_observable first.traffic)
 
--- ---- What serving leaves as it is
+-- ---- What serving leaves unchanged
 
 pub none_kept : (before : Exchange) → IsKept false false before before
 none_kept before =
@@ -177,7 +177,7 @@ pub kept_by : (stock : Stock) (outage : Outage) (before now after : Exchange) �
 kept_by stock outages.Door before now after kept step = kept_failed before now after kept step
 kept_by stock outages.Clock before now after kept step = kept_left before now after kept step
 
--- ---- So many steps
+-- ---- Several steps
 
 pub none_served : (stock : Stock) (before : Exchange) → WereServed stock 0 before before
 unfolding clock_after_all AreHeld
@@ -376,14 +376,14 @@ failed stock outages.Clock count before now after t few taken kept so_far step =
     broken stock count before now after t kept so_far step
     (ap (λ d. d.doorway.taken) step.door ∙ ap counted taken ∙ counted_on count few)
 
--- where nobody was served
+-- no connection was served
 pub nobody : (stock : Stock) (has_failed : Bool) (before after : Exchange) → after.door.traffic ≡ before.door.traffic
     → after.door.line_faults ≡ before.door.line_faults → after.clock ≡ before.clock → after.door.doorway.taken ≡ 0
     → Served stock has_failed before after
 nobody stock has_failed before after traffic lines clock none =
     ended stock has_failed 0 before before after (none_served stock before) traffic lines clock none
 
--- ---- What passed
+-- ---- The connections
 
 pub none_passed : (stock : Stock) (before : Exchange) → HavePassed stock before before
 unfolding AreServed
@@ -422,7 +422,7 @@ faults_on : (minute : Option ℤ) (clock : ClockState) → (clock_given minute c
 faults_on None clock = refl
 faults_on (Some minute) clock = refl
 
--- after one connection more
+-- the connections after one more
 pub passed_on : (stock : Stock) (before now after : Exchange) → HavePassed stock before now → ServedNext stock now after
     → HavePassed stock before after
 passed_on stock before now after so_far step =
@@ -443,7 +443,7 @@ passed_on stock before now after so_far step =
       served = served_on stock so_far.over so_far.minutes c minute so_far.served step.served;
     }
 
--- where door and clock are left as they were
+-- the connections, if port and clock are unchanged
 pub all_passed : (stock : Stock) (has_failed : Bool) (before now after : Exchange) → HavePassed stock before now
     → after.door.connections ≡ now.door.connections → after.clock ≡ now.clock → HasServed stock has_failed before after
 all_passed stock has_failed before now after so_far door clock = record {

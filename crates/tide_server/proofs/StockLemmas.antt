@@ -1,4 +1,4 @@
--- What a server serves from by what it opened.
+-- The data of a server by what it opened.
 use Rattle.std.proofs.Common.{◌≡◌, ◌∙◌, ap, ℕ, List, [], ◌∷◌, ◌++◌, map, append-nil, append_assoc, Option, Some, None, Result, Ok, Err, inl, refl, sym, subst}
 use Rattle.std.specs.Prelude.{slice_get}
 use Rattle.std.specs.Option.{ForSome}
@@ -124,7 +124,7 @@ all_opened question name before between after read rows stock is book table =
           refl;
     }
 
--- ---- The words
+-- ---- The arguments
 
 pub shown_unasked : (words : List (List ℕ)) (before : Openings) (fault : Fault) (result : Result Stock NoAnswer)
     → IsErrAnd result (λ none. none ≡ Told fault) → Excused (fault_wants_memory fault) (service_of words) fault
@@ -166,7 +166,7 @@ shown_nameless words question before result is meets = record {
   answer = rw is meets;
 }
 
--- ---- How a server ends
+-- ---- The end of a server
 
 wider_by : (question : Question) (file : Option (List ℕ)) (why : Option Slot)
     → (more : List (List ℕ)) × (names_by question file None ≡ names_by question file why ++ more)

@@ -1,4 +1,5 @@
--- Over steady files and with no fault of clock or door a server is done, or out of memory before it listens (this project).
+-- Over steady files, and with a clock and a port that don't fail, a server is done, or out of memory before
+-- it listens (this project).
 use Rattle.std.specs.Prelude.{◌≡◌, ◌⊎◌, ℕ, false, IsTrue, List, Some, None, Result, Ok, Err}
 use Rattle.named_files.specs.declared.no_answer.NoAnswer.{NoAnswer}
 use Rattle.named_files.specs.NoAnswers.{status_of}
@@ -11,16 +12,16 @@ use Rattle.tide_server.specs.Openings.{stock_of}
 use Rattle.tide_server.specs.Promises.{ServesAs, ServiceStates, Services}
 use Rattle.tide_server.specs.Serving.{IsOver, exchange}
 
--- What the files hold is observable, and they are steady. Neither the clock nor the door itself has failed; connections may have. (A count
--- of faults that was at its last value counts as one that rose.)
+-- The files are observable and steady, and neither the clock nor the port itself has failed; connections
+-- may have. (A count of faults that is saturated counts as one that rose.)
 pub record NothingFailed {F D E K : Type 0} (s : ServiceStates F D E K) (before after : Services F D E K) : Type 0 where
   pub observable : IsTrue (s.files before.files).store.is_observable
   pub steady : IsTrue (s.files before.files).store.is_steady
   pub clock : ¬ (Rose (s.clock before.clock).faults (s.clock after.clock).faults)
   pub door : ¬ (Rose (s.door before.door).faults (s.door after.door).faults)
 
--- It is done: it has listened at its port, until no more connections came or as many were taken as can be, and none was left without a
--- reply.
+-- the server is done: it has listened at its port until no more connections came or the most were accepted,
+-- and each has a reply
 pub record ServedAll {F D E K : Type 0} (s : ServiceStates F D E K) (stock : Stock) (status : Status) (before after : Services F D E K)
     : Type 0 where
   pub ends : status ≡ Done
@@ -29,20 +30,21 @@ pub record ServedAll {F D E K : Type 0} (s : ServiceStates F D E K) (stock : Sto
   pub passed : HasServed stock false (exchange (s.door before.door) (s.clock before.clock))
       (exchange (s.door after.door) (s.clock after.clock))
 
--- it ends with this status before it listens: door and clock are unchanged
+-- the server ends with this status before it listens: port and clock are unchanged
 pub record EndedBefore {F D E K : Type 0} (status is : Status) (before after : Services F D E K) : Type 0 where
   pub ends : status ≡ is
   pub door : after.door ≡ before.door
   pub clock : after.clock ≡ before.clock
 
--- it serves what it was expected to serve from, or is refused with the status of why there is nothing
+-- the server serves the expected data, or is refused with the status of the reason for which there is none
 abbrev pub EndsBy : {F D E K : Type 0} → ServiceStates F D E K → Result Stock NoAnswer → Status → Services F D E K → Services F D E K
     → Type 0
 EndsBy s (Ok stock) status before after = ServedAll s stock status before after
 EndsBy s (Err why) status before after = EndedBefore status (status_of why) before after
 
--- Over steady files, with no fault of the clock or of the door itself, a server that returns ends by what its words serve from. If their
--- files are there, within their limits and of their form, it is done; otherwise it is refused. Or it runs out of memory before it listens.
+-- A server that returns, over steady files and with a clock and a port that don't fail, ends by the data
+-- that its command line names: it is done if the files are present, within their limits and of their form,
+-- and refused otherwise; or it runs out of memory before it listens.
 abbrev pub IsComplete : {F D E K : Type 0} → ServiceStates F D E K → Type 0
 IsComplete {F} {D} {E} {K} s = (words : List (List ℕ)) (status : Status) (before after : Services F D E K) →
     (s.door before.door).doorway.port ≡ None → ServesAs s words status before after → NothingFailed s before after →

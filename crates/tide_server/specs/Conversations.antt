@@ -1,4 +1,5 @@
--- What passed over each connection of a server: the bytes that came, the reply to them, and the minute of the reply (this project).
+-- The bytes of each connection of a server: those that were read, the reply to them, and the minute of the
+-- reply (this project).
 use Rattle.std.specs.Prelude.{◌≡◌, ◌⊎◌, ◌≤◌, ◌+◌, ◌&&◌, not, ℕ, ℤ, Bool, true, false, IsTrue, List, [], ◌∷◌, ◌++◌, length, take, Option, Some, None, is_some}
 use Rattle.tide_edge.specs.Doors.{Connection, connections_of}
 use Rattle.tide_edge.specs.Faults.{faults_after}
@@ -9,15 +10,15 @@ use Rattle.tide_server.specs.Serving.{Answers, Exchange, IsEnough, has_byte}
 
 -- ---- One connection
 
--- It was read until its bytes were enough, its end was found, or a read failed. Nothing was read once they were enough: those
--- before the last read weren't, and that gave one piece at most.
+-- The connection was read until its bytes determined the reply, its end was found, or a read failed, and no
+-- further: the bytes before the last read didn't, and this read returned one piece at most.
 pub record IsReadEnough (c : Connection) : Type 0 where
   pub before : ℕ
   pub waits : ¬ (IsEnough (take before c.came))
   pub one : length c.came ≤ before + PIECE
   pub until : (c.is_ended ≡ true) ⊎ ((c.read_failed ≡ true) ⊎ IsEnough c.came)
 
--- The clock is read for a connection that has a byte and of which no read failed, and for no other.
+-- the clock is read for a connection that has a byte and of which no read failed, and for no other
 abbrev pub reads_clock : Connection → Bool
 reads_clock c = not c.read_failed && has_byte c.came
 
@@ -26,21 +27,24 @@ abbrev pub IsSent : Bool → (List ℕ → Type 0) → List ℕ → Type 0
 IsSent false answers sent = answers sent
 IsSent true answers sent = (rest : List ℕ) × ¬ (rest ≡ []) × answers (sent ++ rest)
 
+-- nothing was sent
 pub record IsUnanswered (c : Connection) : Type 0 where
   pub sent : c.sent ≡ []
   pub unfailed : c.write_failed ≡ false
 
--- A connection was answered at the minute that the clock gave for it. If none was given, nothing was sent.
+-- a connection was answered at the minute that the clock returned for it; nothing was sent if the clock
+-- wasn't read
 abbrev pub IsAnswered : Stock → Connection → Option ℤ → Type 0
 IsAnswered stock c None = IsUnanswered c
 IsAnswered stock c (Some minute) = IsSent c.write_failed (Answers stock minute c.came) c.sent
 
+-- a connection was read and answered
 pub record IsServed (stock : Stock) (c : Connection) (minute : Option ℤ) : Type 0 where
   pub read : IsReadEnough c
   pub asked : is_some minute ≡ reads_clock c
   pub answered : IsAnswered stock c minute
 
--- the clock failed for it, and nothing was sent
+-- a connection for which the clock failed, and to which nothing was sent
 pub record IsLeft (c : Connection) : Type 0 where
   pub read : IsReadEnough c
   pub asked : reads_clock c ≡ true
@@ -48,7 +52,7 @@ pub record IsLeft (c : Connection) : Type 0 where
 
 -- ---- One after the other
 
--- these were served in this order, at the minutes given
+-- the connections were served in this order, at these minutes
 unfoldable pub AreServed : Stock → List Connection → List ℤ → Type 0
 AreServed stock [] minutes = minutes ≡ []
 AreServed stock (c ∷ more) minutes =
@@ -59,8 +63,8 @@ abbrev pub IsLast : Option Connection → Type 0
 IsLast None = Unit {0}
 IsLast (Some c) = IsLeft c
 
--- What passed over a door and a clock. The clock was read for nothing else, and failed exactly for the connection that was left
--- without a reply, which is the last one.
+-- The connections of a port and the readings of a clock: the clock was read for nothing else, and failed
+-- exactly for the connection that was left without a reply, which is the last one.
 pub record HasServed (stock : Stock) (has_failed : Bool) (before after : Exchange) : Type 0 where
   pub over : List Connection
   pub left : Option Connection

@@ -1,4 +1,4 @@
--- What a server comes to over objects in memory (this project).
+-- The promise of a server over objects in memory (this project).
 use Rattle.std.specs.Prelude.{◌≡◌, ◌⊎◌, ◌<◌, ◌-◌, ◌^◌, ℕ, suc, ℤ, Bool, true, false, All, List, [], ◌∷◌, ◌++◌, length, map}
 use Rattle.std.specs.List.{concat}
 use Rattle.tide_edge.specs.Faults.{faults_after}
@@ -7,13 +7,14 @@ use Rattle.tide_server.specs.declared.stock.Stock.{Stock}
 use Rattle.tide_server.specs.Openings.{Handed}
 use Rattle.tide_server.specs.Serving.{Answers, MayLeave, RoseBy}
 
+-- the objects of a server in memory
 pub record InMemory : Type 0 where
   pub files : HeldFiles
   pub door : HeldDoor
   pub err : HeldSink
   pub clock : HeldClock
 
--- what they tell
+-- the states of these objects
 abbrev pub handed_in : InMemory → Handed
 handed_in held = record {
   files = files_state held.files;
@@ -30,7 +31,7 @@ AreAnswered stock minute (request ∷ requests) [] = ⊥
 AreAnswered stock minute (request ∷ requests) (reply ∷ more) =
     Answers stock minute (concat request) reply × AreAnswered stock minute requests more
 
--- the same of all but so many of them, or fewer
+-- each reply answers the bytes of its request, except `failed` of them or fewer
 abbrev pub AreAnsweredBut : ℕ → Stock → ℤ → List (List (List ℕ)) → List (List ℕ) → Type 0
 AreAnsweredBut failed stock minute [] [] = Unit {0}
 AreAnsweredBut failed stock minute [] (reply ∷ more) = ⊥
@@ -39,14 +40,15 @@ AreAnsweredBut failed stock minute (request ∷ requests) (reply ∷ more) =
     (Answers stock minute (concat request) reply × AreAnsweredBut failed stock minute requests more)
     ⊎ ((fewer : ℕ) × (failed ≡ suc fewer) × AreAnsweredBut fewer stock minute requests more)
 
--- whether a connection was left
+-- a connection was left without a reply
 abbrev pub is_left : List (List (List ℕ)) → Bool
 is_left [] = false
 is_left (request ∷ more) = true
 
--- The requests that waited were taken in their order, and each has a reply; but after a read fault of the clock the last one taken is left:
--- it has a byte, and its reply is empty. Unless a line has failed, each reply answers its request. Those that don't are no more than the
--- count of the lines' faults rose by, unless that count is at its last value.
+-- The requests that waited were accepted in their order, and each has a reply; but after a read fault of
+-- the clock the last one accepted was left: it has a byte, and its reply is empty. Unless a read or write
+-- has failed, each reply answers its request. Those that don't are at most as many as the count of such
+-- faults rose by, unless this count is saturated.
 pub record HasAnswered (stock : Stock) (has_failed : Bool) (before after : InMemory) : Type 0 where
   pub requests : List (List (List ℕ))
   pub replies : List (List ℕ)

@@ -1,4 +1,4 @@
--- What a server serves from, and how it ends (this project).
+-- The data that a server serves, and its end (this project).
 use Rattle.std.specs.Prelude.{◌≡◌, ◌⊎◌, ℕ, ℤ, Bool, false, IsTrue, not, if◌then◌else◌, List, [], ◌∷◌, ◌++◌, codes, count_by, decimal, Option, Some, None, Result, Ok, Err}
 use Rattle.std.specs.Option.{option_map_or}
 use Rattle.std.specs.Str.{bytes_eq}
@@ -30,83 +30,89 @@ use Rattle.tide_server.specs.declared.stock.Stock.{Stock}
 use Rattle.tide_server.specs.Conversations.{HasServed}
 use Rattle.tide_server.specs.Serving.{Served, exchange}
 
--- ---- The words
+-- ---- The arguments
 
--- the words have another command than the server's
+-- the command isn't `serve`
 abbrev pub asks_another : Pairs → Bool
 asks_another pairs = option_map_or (λ word. not (bytes_eq word (codes "serve"))) pairs.command false
 
+-- the request to serve of a command line
 abbrev pub service_in : Pairs → Result Question AskFault
 service_in pairs = if asks_another pairs then Err UnknownCommand else question_of pairs
 
+-- a result with a fault of the arguments as one with a fault of the server
 abbrev pub service_from : Result Question AskFault → Result Question Fault
 service_from (Ok question) = Ok question
 service_from (Err fault) = Err (Ask fault)
 
--- what the words ask of a server
+-- the request to serve of the arguments
 unfoldable pub service_of : List (List ℕ) → Result Question Fault
 service_of words = service_from (service_in (pairs_of words))
 
--- ---- The files, the first of this name
+-- ---- The files; the harmonics file has the name
 
+-- the data of a request
 unfoldable pub stock_named : Folders → Question → List ℕ → Result Stock NoAnswer
 stock_named folders question name = do
   book ← book_named (folders slots.File) name
   table ← table_named (folders slots.Offsets) question.offsets
   Ok (record { book = book; table = table; port = question.port })
 
--- what a server is asked names a file
+-- the data of a request, which has to name a file
 abbrev pub stock_by : Folders → Question → Option (List ℕ) → Result Stock NoAnswer
 stock_by folders question None = Err (Told (Ask (MissingKey keys.File)))
 stock_by folders question (Some name) = stock_named folders question name
 
--- what the words ask to serve from, where each file is read from a folder of its own
+-- the data that the arguments name, for which each file is read from a folder of its own
 unfoldable pub stock_from : Folders → List (List ℕ) → Result Stock NoAnswer
 stock_from folders words = do
   question ← told (service_of words)
   stock_by folders question question.file
 
--- the same from one folder
+-- the data that the arguments name, over one folder
 abbrev pub stock_of : Folder → List (List ℕ) → Result Stock NoAnswer
 stock_of folder words = stock_from (λ slot. folder) words
 
--- what may be read of the files that the words name
+-- the bytes that may be read of the files that the arguments name
 abbrev pub files_asked : Result Question Fault → Allowance
 files_asked (Ok question) = both (allowed_for slots.File question.file) (allowed_for slots.Offsets question.offsets)
 files_asked (Err fault) = no_file
 
--- ---- What is told on standard error
+-- ---- The lines on standard error
 
--- where the server listens
+-- the line of the port at which the server listens
 abbrev pub notice_of : ℕ → List ℕ
 notice_of port = codes "http://127.0.0.1:" ++ decimal port ++ codes "/\n"
 
+-- this line, if the server listens
 abbrev pub notice_at : ℕ → Doorway → List ℕ
 notice_at port door = if door.listens then notice_of port else []
 
--- a fault has its status and its line, unless telling it wanted memory
+-- the status and the line of a reason, or that memory ran out
 abbrev pub IsSaid : NoAnswer → Status → List ℕ → Type 0
 IsSaid why status line = ((status ≡ status_of why) × (line ≡ line_of why)) ⊎ ((status ≡ NoMemory) × (line ≡ codes "no memory\n"))
 
--- another command is refused by its own status and line, also without memory
+-- a command other than `serve` is refused by its own status and line, also if memory runs out
 abbrev pub RefusesCommand : Status → SinkState → SinkState → Type 0
 RefusesCommand status before after =
     (status ≡ Words) × (failed : Bool) × Wrote before after failed (codes "words: unknown command\n")
 
--- ---- How a server ends
+-- ---- The end of a server
 
--- what a server is handed, and how it leaves it
+-- the states of a server's objects
 pub record Handed : Type 0 where
   pub files : FilesState
   pub door : DoorState
   pub err : SinkState
   pub clock : ClockState
 
+-- such states
 abbrev pub handed : FilesState → DoorState → SinkState → ClockState → Handed
 handed files door err clock = record { files = files; door = door; err = err; clock = clock }
 
--- Nobody was served, for want of what to serve from: `why` is the expected fault, save that want of memory says nothing, nor does a
--- fault of reading where the files didn't stand firm. The door was never asked to listen, and the clock never asked.
+-- No connection was served, since there is no data: `why` is the expected reason; out of memory says
+-- nothing, nor does a fault of reading if the files aren't steady. The port was not listened to, and the
+-- clock not read.
 pub record IsRefused (firm : Type 0) (expected : Result Stock NoAnswer) (status : Status) (before after : Handed) : Type 0 where
   pub why : NoAnswer
   pub excused : Excuses (source_of why) firm expected why
@@ -121,9 +127,9 @@ abbrev pub end_line : Status → List ℕ
 end_line Done = []
 end_line _ = codes "read fault\n"
 
--- The door was asked to listen at the port, and connections were served until the end of them or a fault: what passed over each,
--- for any door and clock, and which requests were answered, if door and clock are observable. What was written says first where the
--- server listens.
+-- The port was listened to, and connections were served until their end or a fault: the bytes of each, for
+-- any port and clock, and the requests that were answered, if port and clock are observable. The first line
+-- written is that of the port.
 pub record HasListened (stock : Stock) (status : Status) (before after : Handed) : Type 0 where
   pub asked : after.door.doorway.port ≡ Some stock.port
   pub ends : (status ≡ Done) ⊎ (status ≡ ReadFault)
@@ -132,15 +138,16 @@ pub record HasListened (stock : Stock) (status : Status) (before after : Handed)
       → Served stock (is_read_fault status) (exchange before.door before.clock) (exchange after.door after.clock)
   pub wrote : WroteBoth before.err after.err (notice_at stock.port after.door.doorway) (end_line status)
 
--- it was refused, or has listened for what it was expected to serve from
+-- the server was refused, or has listened for the expected data
 abbrev pub EndsAs : Type 0 → Result Stock NoAnswer → Status → Handed → Handed → Type 0
 EndsAs firm expected status before after =
     IsRefused firm expected status before after ⊎ ((stock : Stock) × (expected ≡ Ok stock) × HasListened stock status before after)
 
--- ---- Where a fault of reading comes from
+-- ---- The source of a fault of reading
 
--- A server ends with a fault of reading exactly where the files, the clock or the door has failed, one of them and once: its count is
--- one more, and the others are as before; the files only if the door wasn't asked to listen. What door and clock tell of themselves stays.
+-- A server ends with a fault of reading exactly if the files, the clock or the port has failed, one of them
+-- and once: its count is one more, and the others are unchanged; the files only if the port wasn't listened
+-- to. Whether port and clock are observable is unchanged.
 pub record EndedBy (has_failed : Bool) (before after : Handed) : Type 0 where
   pub files : Bool
   pub clock : Bool
@@ -157,6 +164,6 @@ pub record EndedBy (has_failed : Bool) (before after : Handed) : Type 0 where
 
 -- ---- The whole objects
 
--- the door wasn't asked to listen, or no connection was taken
+-- the port wasn't listened to, or no connection was accepted
 abbrev pub TookNone : Doorway → Type 0
 TookNone door = (door.port ≡ None) ⊎ (door.taken ≡ 0)

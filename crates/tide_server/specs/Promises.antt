@@ -1,4 +1,4 @@
--- What a server promises, whatever the objects are that it works on (this project).
+-- The promise of a server, over objects of any kind (this project).
 use Rattle.std.specs.Prelude.{◌≡◌, ℕ, Bool, false, List, IsTrue, IsOk, None}
 use Rattle.question.specs.Words.{pairs_of}
 use Rattle.named_files.specs.NoAnswers.{is_read_fault}
@@ -13,13 +13,14 @@ use Rattle.tide_server.specs.Openings.{EndedBy, EndsAs, Handed, RefusesCommand, 
 use Rattle.tide_server.specs.Serving.{IsOver}
 use Rattle.tide_server.specs.Shown.{EndsAsShown}
 
--- the objects that a server works on
+-- the objects of a server
 pub record Services (F D E K : Type 0) : Type 0 where
   pub files : F
   pub door : D
   pub err : E
   pub clock : K
 
+-- such objects
 abbrev pub services : {F D E K : Type 0} → F → D → E → K → Services F D E K
 services files door err clock = record { files = files; door = door; err = err; clock = clock }
 
@@ -30,20 +31,22 @@ pub record ServiceStates (F D E K : Type 0) : Type 0 where
   pub err : E → SinkState
   pub clock : K → ClockState
 
+-- such states
 abbrev pub service_states : {F D E K : Type 0} → (F → FilesState) → (D → DoorState) → (E → SinkState) → (K → ClockState) → ServiceStates F D E K
 service_states files door err clock = record { files = files; door = door; err = err; clock = clock }
 
+-- the states of a server's objects
 abbrev pub handed_of : {F D E K : Type 0} → ServiceStates F D E K → Services F D E K → Handed
 handed_of s o = handed (s.files o.files) (s.door o.door) (s.err o.err) (s.clock o.clock)
 
--- The words were served.
---
--- shown: the server ends as by what it serves from, by the files that it opened, as far as their bytes came; it opened what the words name.
--- own_files: over observable files it ends as by what they hold, unless reading has failed.
--- another: another command is refused by its own status and line.
--- done, fault: when it is done, and where a fault of reading comes from.
--- reads, reads_first: how much was read, and that all of it came before the door was asked to listen.
--- unopened, unlistened, unread: when files, door and clock stay untouched; closed: no connection stays open.
+-- The arguments were served. The fields:
+-- - `shown`: the server ends as by the data in the files that it opened, as far as their bytes were read;
+--   it opened what the arguments name.
+-- - `own_files`: over observable files it ends as by their contents, unless reading has failed.
+-- - `another`: a command other than `serve` is refused by its own status and line.
+-- - `reads`, `reads_first`: the bytes that were read, all of them before the port was listened to.
+-- - All others: the cases in which the server is done, the source of a fault of reading, the cases in which
+--   files, port and clock are unchanged, and that no connection stays open.
 pub record ServesAs {F D E K : Type 0} (s : ServiceStates F D E K) (words : List (List ℕ)) (status : Status) (before after : Services F D E K)
     : Type 0 where
   pub shown : EndsAsShown words status (handed_of s before) (handed_of s after)

@@ -1,4 +1,5 @@
--- The question that a path and a query ask (URL Standard, section 5; the commands and the keys are this project's).
+-- The request of a path and a query (URL Standard, section 5; the commands and the keys are this
+-- project's).
 use Rattle.std.specs.Prelude.{ℕ, List, map, drop, Some}
 use Rattle.std.specs.Str.Lossy.{utf8_lossy}
 use Rattle.form_urlencoded.specs.Form.{raw_pairs, decode}
@@ -7,17 +8,18 @@ use Rattle.question.specs.declared.pairs.Item.{Item}
 use Rattle.question.specs.declared.pairs.Pairs.{Pairs}
 use Rattle.http_rows.specs.Rows.{Asking}
 
--- what a name or a value says: bytes that aren't UTF-8 become U+FFFD
+-- the text of an encoded name or value: bytes that aren't UTF-8 become U+FFFD
 unfoldable pub said_by : List ℕ → List ℕ
 said_by encoded = utf8_lossy (decode encoded)
 
--- each pair has a value, which may be empty
+-- the pair of a name and a value, which may be empty
 abbrev pub item_of : List ℕ × List ℕ → Item
 item_of pair = record { key = said_by pair.0; value = Some (said_by pair.1) }
 
+-- the pairs of a query
 abbrev pub items_of : List ℕ → List Item
 items_of query = map item_of (raw_pairs query)
 
--- the command is the path without its `/`
+-- the command, which is the path without its `/`, and the pairs of a request
 abbrev pub pairs_of : Asking → Pairs
 pairs_of asking = record { origin = Query; command = Some (drop 1 asking.path); items = items_of asking.query }

@@ -1,4 +1,5 @@
--- The reply to a request, over a book of harmonic constants, a table of offsets and the present minute (this project).
+-- The reply to a request, over harmonic constants, a table of offsets and the present minute (this
+-- project).
 use Rattle.std.specs.Prelude.{◌≡◌, ℕ, ℤ, Bool, List, [], codes, is_some, Result, Ok, Err}
 use Rattle.harmonics_text.specs.declared.book.Book.{Book}
 use Rattle.question.specs.declared.fault.AskFault.{AskFault}
@@ -25,42 +26,45 @@ use Rattle.tide_server.specs.Queries.{pairs_of}
 use Rattle.http_rows.specs.Responses.{response, rejection_of}
 use Rattle.http_rows.specs.Rows.{Row, rejects, asks, Asking, IsRow}
 
+-- a zone that is a file
 abbrev pub names_file : ZoneWord → Bool
 names_file word = is_some (zone_file word)
 
--- the zone of a query's word, which never names a file
+-- the zone of a query, which never names a file
 abbrev pub zone_of : ZoneWord → Zone
 zone_of words.Utc = Utc
 zone_of (words.Fixed minutes) = Fixed minutes
 zone_of (words.Named name) = Utc
 
--- the body is the certificate
+-- the inputs of the answer besides the harmonic constants and the offsets; the body is the certificate
 abbrev pub given_with : Question → Asking → ℤ → Given
 given_with question asking minute = record { zone = zone_of question.zone; certificate = asking.body; now = minute }
 
--- the type of an answer's text
+-- the content type of an answer
 abbrev pub type_of : Layout → List ℕ
 type_of Plain = codes "text/plain"
 type_of Csv = codes "text/csv"
 
--- the line of what keeps a question from its answer
+-- the reply with the line of a fault
 abbrev pub fault_reply : Code → List Offsets → Fault → Bool → List ℕ
 fault_reply code table fault bodiless = response code (codes "text/plain") [] (line_of table fault) bodiless
 
--- an answer, which also a rejected certificate has, or a refusal
+-- the reply with an answer, which a rejected certificate has too, or with a refusal
 unfoldable pub answer_reply : List Offsets → Layout → Result Answer Refusal → Bool → List ℕ
 answer_reply table layout (Ok answer) bodiless = response code.Success (type_of layout) [] answer.text bodiless
 answer_reply table layout (Err refusal) bodiless = fault_reply code.Unprocessable table (Refused refusal) bodiless
 
--- what is asked is a question, or it isn't
+-- the reply to a query that is a request, or to one that isn't
 unfoldable pub question_reply : Book → List Offsets → ℤ → Asking → Result Question AskFault → List ℕ
 question_reply book table minute asking (Ok question) =
     answer_reply table question.layout (answered book table question (given_with question asking minute)) asking.bodiless
 question_reply book table minute asking (Err fault) = fault_reply code.BadRequest table (Ask fault) asking.bodiless
 
+-- the reply to a request that no fixed reply rejects
 unfoldable pub asking_reply : Book → List Offsets → ℤ → Asking → List ℕ
 asking_reply book table minute asking = question_reply book table minute asking (question_of (pairs_of asking))
 
+-- the reply to a request by its row
 abbrev pub reply_of : Book → List Offsets → ℤ → Row → List ℕ
 reply_of book table minute (rejects rejection bodiless) = rejection_of rejection bodiless
 reply_of book table minute (asks asking) = asking_reply book table minute asking

@@ -1,4 +1,4 @@
--- Who was served, and with what (this project).
+-- The connections that were served, and their replies (this project).
 use Rattle.std.specs.Prelude.{◌≡◌, ◌⊎◌, ◌≤◌, ◌+◌, ◌-◌, ◌^◌, ℕ, ℤ, Bool, true, false, IsTrue, if◌then◌else◌, List, [], ◌∷◌, ◌++◌, length, map, take, All, count_by, None, Ok}
 use Rattle.std.specs.List.{concat}
 use Rattle.tide_edge.specs.Clocks.{ClockState, clock_after, next_minute}
@@ -11,47 +11,51 @@ use Rattle.http_rows.specs.Rows.{Row, IsRow, is_settled}
 
 -- ---- One connection
 
--- the response for want of memory stands for a reply that isn't a fixed one
+-- the reply that replaces another if memory runs out; a fixed one needs no memory
 abbrev pub IsUnavailable : List ℕ → List ℕ → Type 0
 IsUnavailable request reply = (row : Row) × IsRow request row × (fixed_of row ≡ None) × (reply ≡ unavailable_of row)
 
--- what answers a connection's bytes: nothing where there are none, and else the reply to them or what stands for it
+-- the answer to a connection's bytes: nothing if there are none, and otherwise the reply to them or the one
+-- that replaces it
 abbrev pub Answers : Stock → ℤ → List ℕ → List ℕ → Type 0
 Answers stock minute [] reply = reply ≡ []
 Answers stock minute (b ∷ bytes) reply =
     IsReply stock.book stock.table minute (b ∷ bytes) reply ⊎ IsUnavailable (b ∷ bytes) reply
 
--- A reply answers the bytes. Where a failure of the connection's lines has cut it short it is empty, or a front part of what
--- answers them.
+-- a reply answers the bytes; if a read or write of the connection failed, it is empty or a prefix of an
+-- answer
 abbrev pub AnswersUnlessCut : Bool → (List ℕ → List ℕ → Type 0) → List ℕ → List ℕ → Type 0
 AnswersUnlessCut false answers bytes reply = answers bytes reply
 AnswersUnlessCut true answers bytes reply =
     (reply ≡ []) ⊎ ((whole : List ℕ) × answers bytes whole × (count : ℕ) × (reply ≡ take count whole))
 
+-- a request that has a byte
 abbrev pub has_byte : List ℕ → Bool
 has_byte [] = false
 has_byte (b ∷ bytes) = true
 
--- The clock is asked for a connection that has a byte, and for no other. Where its lines have failed, that depends on when.
+-- the clock is read for a connection that has a byte, and for no other; if a read or write failed, it may
+-- or may not have been
 abbrev pub AsksUnlessCut : Bool → List ℕ → Bool → Type 0
 AsksUnlessCut false bytes is_asked = is_asked ≡ has_byte bytes
 AsksUnlessCut true bytes is_asked = Unit {0}
 
--- one connection: what came over it, in its pieces, its reply, whether its lines failed, and whether the clock was asked for it
+-- a connection: the pieces that were sent, its reply, whether a read or write failed, and whether the clock
+-- was read for it
 pub record Conversation : Type 0 where
   pub request : List (List ℕ)
   pub reply : List ℕ
   pub is_cut : Bool
   pub is_asked : Bool
 
--- it was held at a minute
+-- a connection that was answered at a minute
 pub record IsHeld (stock : Stock) (minute : ℤ) (c : Conversation) : Type 0 where
   pub answered : AnswersUnlessCut c.is_cut (Answers stock minute) (concat c.request) c.reply
   pub asked : AsksUnlessCut c.is_cut (concat c.request) c.is_asked
 
 -- ---- One after the other
 
--- the clock after a conversation, for which it gives its next minute once or not at all
+-- the clock after a connection, for which it returned its next minute once or not at all
 abbrev pub clock_with : Bool → ClockState → ClockState
 clock_with is_asked clock = if is_asked then clock_after (Ok (next_minute clock)) clock else clock
 
@@ -59,23 +63,24 @@ clock_with is_asked clock = if is_asked then clock_after (Ok (next_minute clock)
 abbrev pub clock_failed : ClockState → ClockState
 clock_failed clock = record clock { asked = counted clock.asked; faults = counted clock.faults }
 
+-- the clock after all these connections
 unfoldable pub clock_after_all : List Conversation → ClockState → ClockState
 clock_after_all [] clock = clock
 clock_after_all (c ∷ more) clock = clock_after_all more (clock_with c.is_asked clock)
 
--- each was held at the minute that the clock gives at the asking for it
+-- each connection was answered at the minute that the clock returns for it
 unfoldable pub AreHeld : Stock → ClockState → List Conversation → Type 0
 AreHeld stock clock [] = Unit {0}
 AreHeld stock clock (c ∷ more) = IsHeld stock (next_minute clock) c × AreHeld stock (clock_with c.is_asked clock) more
 
--- ---- How far they are read
+-- ---- The bytes that are read
 
--- the bytes that came so far settle their row
+-- the bytes so far determine the row of their request
 abbrev pub IsEnough : List ℕ → Type 0
 IsEnough request = (row : Row) × IsRow request row × IsTrue (is_settled row)
 
--- This is left of a connection's pieces, and nothing was read once the bytes were enough: those before the last read weren't, and it
--- took no more than what was left of one piece.
+-- the pieces of a connection that are left: nothing was read after the bytes determined the reply; the
+-- bytes before the last read didn't, and this read returned no more than what was left of one piece
 pub record IsReadAsNeeded (request left : List (List ℕ)) : Type 0 where
   pub before : ℕ
   pub all : ℕ
@@ -83,7 +88,7 @@ pub record IsReadAsNeeded (request left : List (List ℕ)) : Type 0 where
   pub waits : ¬ (IsEnough (take before (concat request)))
   pub one : all ≤ before + length (first_or_empty (left_after before request))
 
--- the same of the last of these connections: of what is left of those before it nothing is told
+-- the pieces of the last connection that are left; the earlier ones are not described
 abbrev pub IsLastReadAsNeeded : List (List (List ℕ)) → List (List ℕ) → Type 0
 IsLastReadAsNeeded [] left = Unit {0}
 IsLastReadAsNeeded (request ∷ []) left = IsReadAsNeeded request left
@@ -91,36 +96,39 @@ IsLastReadAsNeeded (request ∷ next ∷ more) left = IsLastReadAsNeeded (next �
 
 -- ---- All of them
 
--- what conversations go over
+-- the states of a port and a clock
 pub record Exchange : Type 0 where
   pub door : DoorState
   pub clock : ClockState
 
+-- such states
 abbrev pub exchange : DoorState → ClockState → Exchange
 exchange door clock = record { door = door; clock = clock }
 
--- a count rose by so many, unless it stands at its last value
+-- a count rose by `more`, unless it is saturated
 abbrev pub RoseBy : ℕ → ℕ → ℕ → Type 0
 RoseBy more before now = (now ≡ before + more) ⊎ (now ≡ 2 ^ 64 - 1)
 
--- no more connections will come, or as many were taken as can be
+-- no more connections will come, or the most were accepted
 abbrev pub IsOver : Doorway → Type 0
 IsOver door = (door.is_over ≡ true) ⊎ (door.taken ≡ 2 ^ 64 - 1)
 
--- only where the door or the clock has failed a connection was left without a reply, and it is the last one taken
+-- a connection was left without a reply only if the port or the clock has failed, and it is the last one
+-- accepted
 abbrev pub MayLeave : Bool → List (List (List ℕ)) → Type 0
 MayLeave false left = left ≡ []
 MayLeave true left = length left ≤ 1
 
--- where a connection was left the clock has failed for it
+-- the clock at the end: it has failed for the connection that was left, if any
 abbrev pub clock_at_end : List (List (List ℕ)) → ClockState → ClockState
 clock_at_end [] clock = clock
 clock_at_end (request ∷ more) clock = clock_failed clock
 
--- Connections were served one after the other, in the order in which they waited, and each has its reply. As many were cut short
--- as the count of the lines' faults rose by. One was left exactly where the clock has failed, and it has a byte. The clock was asked
--- once for each connection that it is asked for, and for nothing else. Of a door that keeps pieces the last connection was read as
--- needed.
+-- Connections were served one after the other, in the order in which they waited, and each has its reply.
+-- As many were cut short as the count of failed reads and writes rose by. One was left exactly if the clock
+-- has failed, and it has a byte. The clock was read once for each connection that needs it, and for nothing
+-- else. If the port keeps the pieces that a client sends, the last connection was read no further than its
+-- reply needs.
 pub record Served (stock : Stock) (has_failed : Bool) (before after : Exchange) : Type 0 where
   pub served : List Conversation
   pub left : List (List (List ℕ))

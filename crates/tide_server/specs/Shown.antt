@@ -1,4 +1,4 @@
--- What a server serves from by the files that it opened (this project).
+-- The data of a server by the files that it opened (this project).
 use Rattle.std.specs.Prelude.{◌≡◌, ℕ, List, [], ◌∷◌, ◌++◌, map, Option, Some, None, Result, Ok, Err}
 use Rattle.question.specs.declared.question.Question.{Question}
 use Rattle.tide_edge.specs.FileStates.{Opening, listed, openings_of}
@@ -13,7 +13,8 @@ use Rattle.named_files.specs.Readings.{Folders}
 use Rattle.tide_server.specs.declared.stock.Stock.{Stock}
 use Rattle.tide_server.specs.Openings.{EndsAs, Handed, service_of, stock_from}
 
--- the names of what a server serves from, the first of this name, up to the file that is why there is nothing to serve
+-- the names of the files of a request to serve, up to the file that is the reason; the harmonics file has
+-- the name
 abbrev pub stock_names : List ℕ → Question → Option Slot → List (List ℕ)
 stock_names name question None = name ∷ listed question.offsets
 stock_names name question (Some slots.File) = name ∷ []
@@ -21,26 +22,28 @@ stock_names name question (Some slots.Offsets) = name ∷ listed question.offset
 stock_names name question (Some slots.Zone) = name ∷ listed question.offsets
 stock_names name question (Some slots.Certificate) = name ∷ listed question.offsets
 
+-- the names of the files of a request, which may name none
 abbrev pub names_by : Question → Option (List ℕ) → Option Slot → List (List ℕ)
 names_by question None why = []
 names_by question (Some name) why = stock_names name question why
 
--- those that the words want opened
+-- the names of the files of the arguments
 abbrev pub names_served : Result Question Fault → Option Slot → List (List ℕ)
 names_served (Ok question) why = names_by question question.file why
 names_served (Err fault) why = []
 
--- the files of what the words ask, as these openings show them
+-- the files of the arguments as the openings show them
 abbrev pub folders_by : Result Question Fault → List Opening → Folders
 folders_by (Ok question) openings = folders_shown question openings
 folders_by (Err fault) openings = λ slot name. None
 
--- what the words serve from by these openings
+-- the data of the arguments by the openings
 abbrev pub stock_by_openings : List (List ℕ) → List Opening → Result Stock NoAnswer
 stock_by_openings words openings = stock_from (folders_by (service_of words) openings) words
 
--- A server ends as by what the words serve from by what it opened. What it opened are the first of the files that the words name, in their
--- order, each once; and unless memory ran out, none behind the one that is why there is nothing to serve.
+-- A server ends by the data of its arguments by what it opened. It opened the first of the files that the
+-- arguments name, in their order, each once; and unless memory ran out, none after the one that is the
+-- reason.
 pub record EndsAsShown (words : List (List ℕ)) (status : Status) (before after : Handed) : Type 0 where
   pub openings : List Opening
   pub all : openings_of after.files.openings ≡ openings_of before.files.openings ++ openings

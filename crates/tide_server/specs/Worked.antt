@@ -1,4 +1,5 @@
--- A server in memory that is worked out: its files hold constants under the name `f`, and no call on it fails (this project).
+-- A server in memory worked out by hand: its files hold constants under the name `f`, and no call on it
+-- fails (this project).
 use Rattle.std.specs.Prelude.{ℕ, pos, List, [], ◌∷◌, codes}
 use Rattle.harmonics_text.specs.Worked.{file_of, pier_book, pier_lines}
 use Rattle.tide_edge.specs.Calls.{HeldCalls}
@@ -8,9 +9,11 @@ use Rattle.tide_edge.specs.Memory.{HeldClock, HeldDoor, HeldFiles, HeldSink, clo
 use Rattle.tide_server.specs.declared.stock.Stock.{Stock}
 use Rattle.tide_server.specs.Promises.{ServiceStates, Services, service_states, services}
 
+-- no call was made, and none is to fail
 abbrev pub no_calls : HeldCalls
 no_calls = record { fails = []; made = 0; faults = 0 }
 
+-- the files
 abbrev pub pier_files : HeldFiles
 pier_files = record {
   files = record { name = codes "f"; bytes = file_of pier_lines } ∷ [];
@@ -20,7 +23,7 @@ pier_files = record {
   calls = no_calls;
 }
 
--- at which no request waits
+-- a port at which no request waits
 abbrev pub quiet_door : HeldDoor
 quiet_door = record {
   doorway = unasked;
@@ -33,15 +36,19 @@ quiet_door = record {
   line_faults = 0;
 }
 
+-- the states of objects in memory
 abbrev pub in_memory : ServiceStates HeldFiles HeldDoor HeldSink HeldClock
 in_memory = service_states files_state door_state sink_state clock_state
 
+-- the objects of the server
 abbrev pub pier : Services HeldFiles HeldDoor HeldSink HeldClock
 pier = services pier_files quiet_door (record { taken = []; most = 10; room = 1000; calls = no_calls })
     (record { minute = pos 15791220; given = []; calls = no_calls })
 
+-- its arguments
 abbrev pub pier_words : List (List ℕ)
 pier_words = codes "serve" ∷ codes "file=f" ∷ []
 
+-- its data
 abbrev pub pier_stock : Stock
 pier_stock = record { book = pier_book; table = []; port = 8080 }

@@ -1,4 +1,4 @@
-//! Whether a server serves, over an outside that doesn't fail.
+//! Laws of servers over files, a port and a clock that don't fail.
 
 ghost use Rattle.std.specs.Prelude.{◌≡◌, Some, None, Ok, codes};
 ghost use Rattle.question.specs.declared.command.Command.{Command};
@@ -11,13 +11,13 @@ ghost use Rattle.tide_server.specs.Worked.{in_memory, pier, pier_stock, pier_wor
 use harmonics_text::worked_files;
 use tide_edge::{Clock, Door, Files, Sink};
 
-/// Over steady files that hold what the words name, within their limits, and with no fault of the clock
-/// or of the door itself, a server that returns is done, or ran out of memory before it listened.
+/// A server that returns is done, or ran out of memory before it listened, over steady files that
+/// hold what the arguments name, within their limits, and with a clock and a port that don't fail.
 pub fn servers_are_complete<F: Files, D: Door, E: Sink, K: Clock>()
     ensures { IsComplete (service_states F.state D.state E.state K.state) }
 {}
 
-/// A server in memory: what its words serve from, and that nothing has failed.
+/// A server in memory: the data that it serves, and that nothing failed.
 pub fn worked_servers()
     ensures words { service_of pier_words ≡ Ok (record (bare Command.Serve) { file = Some (codes "f") }) }
     ensures stock { stock_of (in_memory.files pier.files).store.folder pier_words ≡ Ok pier_stock }

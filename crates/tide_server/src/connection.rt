@@ -18,11 +18,11 @@ use http_rows::{Rejection, Row, row_for, write_rejection, write_unavailable};
 use std::alloc::Global;
 use tide_edge::{Clock, Door, Failed};
 
-/// Serves the open connection and closes it. A failure of its lines ends it alone, and nothing is
-/// tried again after one.
+/// Serves the open connection and closes it. A failed read or write of the connection ends this
+/// connection alone, and nothing is tried again after one.
 ///
 /// # Errors
-/// [`Failed`] where the clock failed.
+/// [`Failed`] if the clock failed.
 pub(crate) fn serve_connection<D: Door, K: Clock>(
     alloc: Global,
     stock: &SoundStock,
@@ -40,8 +40,8 @@ pub(crate) fn serve_connection<D: Door, K: Clock>(
     answered
 }
 
-// Reads the open connection until its bytes are enough for a reply, or to their end, and no further:
-// a client may wait for its reply before it sends more. The row that reading ended with is answered.
+// Reads the open connection until its bytes determine a reply, or to their end, and no further,
+// since a client may wait for its reply before it sends more. Then it replies.
 fn answer_connection<D: Door, K: Clock>(
     alloc: Global,
     stock: &SoundStock,
@@ -70,14 +70,15 @@ fn answer_connection<D: Door, K: Clock>(
     }
 }
 
-// Whether nothing more is to be read behind so many bytes, which made this row.
+// Returns true if no more is to be read after a piece of `count` bytes, by the request `row` so
+// far.
 fn ends_reading(count: usize, row: &Row<'_>) -> bool
     ensures { result ≡ (count == 0 || is_settled (row_seen row.now)) }
 {
     count == 0 || row.is_settled()
 }
 
-// Answers what was read of a connection, at the present minute.
+// Replies to what was read of a connection, at the present minute.
 fn answer_row<D: Door, K: Clock>(
     alloc: Global,
     stock: &SoundStock,
@@ -95,7 +96,7 @@ fn answer_row<D: Door, K: Clock>(
     Ok(())
 }
 
-// Sends the reply to a request, or what stands for it where it wants memory.
+// Sends the reply to a request, or the reply that replaces it if memory runs out.
 fn send_reply<D: Door>(
     alloc: Global,
     stock: &SoundStock,
@@ -118,6 +119,7 @@ fn send_reply<D: Door>(
     }
 }
 
+/// Sends the fixed reply to a request that is `rejection`.
 fn send_rejection<D: Door>(rejection: Rejection, bodiless: bool, door: &mut D) -> Result<(), Failed>
     requires { IsTrue (D.state door.old).doorway.is_open }
     ensures { SentBy (is_err result) (rejection_of rejection bodiless) (D.state door.old) (D.state door.new) }
@@ -127,7 +129,7 @@ fn send_rejection<D: Door>(rejection: Rejection, bodiless: bool, door: &mut D) -
     send(door, text.as_str().as_bytes())
 }
 
-// Sends what stands for a reply that wants memory.
+// Sends the reply that replaces another if memory runs out.
 fn send_unavailable<D: Door>(bodiless: bool, door: &mut D) -> Result<(), Failed>
     requires { IsTrue (D.state door.old).doorway.is_open }
     ensures { SentBy (is_err result) (unavailable_to bodiless) (D.state door.old) (D.state door.new) }

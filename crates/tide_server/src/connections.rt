@@ -1,4 +1,4 @@
-//! One connection after the other.
+//! The connections of a server, one after the other.
 
 ghost use Rattle.std.specs.Prelude.{◌≡◌, false, true, Some, IsTrue, OnOk, is_err};
 ghost use Rattle.tide_edge.specs.Doors.{asked};
@@ -13,7 +13,10 @@ use crate::stock::SoundStock;
 use std::alloc::Global;
 use tide_edge::{Clock, Door};
 
-/// Serves one connection after the other, until no more will come or 2^64 - 1 of them were taken.
+/// Serves one connection after the other, until no more will come or 2^64 - 1 of them were served.
+///
+/// # Errors
+/// [`Outage`] if the port or the clock failed.
 pub(crate) fn serve_all<D: Door, K: Clock>(
     alloc: Global,
     stock: &SoundStock,
@@ -42,7 +45,7 @@ pub(crate) fn serve_all<D: Door, K: Clock>(
     Ok(())
 }
 
-// Serves the next connection, and answers whether there was one.
+// Serves the next connection, and returns true if there was one.
 fn serve_next<D: Door, K: Clock>(
     alloc: Global,
     stock: &SoundStock,

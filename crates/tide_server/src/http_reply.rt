@@ -24,11 +24,12 @@ use std::alloc::{AllocError, Global};
 use tide_answer::{Fault, Given, Refusal, answer, fault_line};
 use zone_time::Zone;
 
-/// The reply to the whole of a request, over a book and a table, at the present minute. Bytes behind
-/// the request count for nothing.
+/// Returns the reply to the whole of a `request`, over the harmonic constants `book` and the
+/// offsets `table`, at the minute `now` since 1970-01-01T00:00Z. Bytes after the request are
+/// ignored.
 ///
 /// # Errors
-/// [`AllocError`] says nothing of the request.
+/// [`AllocError`] if memory runs out.
 pub fn reply(
     alloc: Global,
     book: &Book,
@@ -46,7 +47,7 @@ pub fn reply(
     }
 }
 
-/// The reply of a fixed row.
+/// Returns the fixed reply to a request that is `rejection`.
 fn rejection_reply(alloc: Global, rejection: Rejection, bodiless: bool) -> Result<Bytes, AllocError>
     ensures { IfOk result (λ bytes. bytes ≡ rejection_of rejection bodiless) }
 {
@@ -55,10 +56,10 @@ fn rejection_reply(alloc: Global, rejection: Rejection, bodiless: bool) -> Resul
     Ok(Bytes::from_vec(out.as_bytes().to_vec(alloc)?))
 }
 
-/// The reply to what is asked behind the fixed rows.
+/// Returns the reply to a request that no fixed reply rejects.
 ///
 /// # Errors
-/// [`AllocError`] says nothing of the request.
+/// [`AllocError`] if memory runs out.
 #[tactic(auto, unfolding(crate::specs::Replies::asking_reply, crate::specs::Replies::question_reply))]
 pub(crate) fn asking_reply(
     alloc: Global,
@@ -92,7 +93,7 @@ pub(crate) fn asking_reply(
     }
 }
 
-/// The reply to a question.
+/// Returns the reply to `question`.
 #[tactic(auto, unfolding(crate::specs::Replies::answer_reply))]
 fn answer_reply(
     alloc: Global,
@@ -129,7 +130,7 @@ fn answer_reply(
     }
 }
 
-/// What is given with a question besides the book and the table.
+/// Returns the inputs of the answer besides the harmonic constants and the offsets.
 fn given_with(
     alloc: Global,
     question: &SoundQuestion<'_>,
@@ -148,7 +149,7 @@ fn given_with(
     })
 }
 
-/// The zone of a query's word, which never names a file.
+/// Returns the zone of a query's `word`, which never names a file.
 fn zone_of(word: &ZoneWord) -> Zone
     requires { IsZoneWord word.now }
     ensures exact { result ≡ zone_of word.now }
@@ -161,7 +162,7 @@ fn zone_of(word: &ZoneWord) -> Zone
     }
 }
 
-/// The type of an answer's text.
+/// Returns the content type of an answer in `layout`.
 fn type_of(layout: Layout) -> &'static str
     ensures text { result.now ≡ type_of layout }
     ensures short { length result.now ≤ 10 }
@@ -172,19 +173,21 @@ fn type_of(layout: Layout) -> &'static str
     }
 }
 
+/// Returns true if `fault` is that memory ran out.
 fn wants_memory(fault: AskFault) -> bool
     ensures { result ≡ wants_memory fault }
 {
     matches!(fault, AskFault::NoMemory)
 }
 
+/// Returns true if `refusal` is that memory ran out.
 fn wants_memory_of_refusal(refusal: Refusal) -> bool
     ensures { result ≡ wants_memory_of_refusal refusal }
 {
     matches!(refusal, Refusal::NoMemory)
 }
 
-/// The line that tells of a fault, as a reply.
+/// Returns the line that reports `fault` as a reply.
 fn fault_reply(
     alloc: Global,
     code: Code,

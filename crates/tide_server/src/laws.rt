@@ -1,4 +1,4 @@
-//! What is true of the rows of requests, and of the replies.
+//! Laws of requests and of their replies.
 
 ghost use Rattle.std.specs.Prelude.{◌≡◌, ℕ, ℤ, ◌≤◌, false, List, ◌++◌, length, Option, Some, None, Ok, IsTrue};
 ghost use Rattle.harmonics_text.specs.declared.book.Book.{Book};
@@ -18,52 +18,53 @@ ghost use Rattle.tide_server.specs.Replies.{IsReply, names_file};
 ghost use Rattle.tide_server.specs.Responses.{fixed_of};
 ghost use Rattle.tide_server.specs.Rows.{Row, IsRow, is_settled};
 
-/// A request has one row.
+/// A request has exactly one meaning, its row.
 pub fn one_row()
     ensures { (request : List ℕ) (a b : Row) → IsRow request a → IsRow request b → a ≡ b }
 {}
 
-/// Where the bytes that came so far settle the row, no more bytes change it.
+/// The row of a request doesn't change with further bytes, if the bytes so far determine it.
 pub fn settled_rows_stay()
     ensures { (request more : List ℕ) (row : Row)
         → IsRow request row → IsTrue (is_settled row) → IsRow (request ++ more) row }
 {}
 
-/// So many bytes as the longest request has settle the row.
+/// The row of a request is determined by as many bytes as the longest request has.
 pub fn long_requests_are_settled()
     ensures { (request : List ℕ) (row : Row) → IsRow request row → LONGEST ≤ length request → IsTrue (is_settled row) }
 {}
 
-/// A request has one reply.
+/// A request has exactly one reply.
 pub fn one_reply()
     ensures { (book : Book) (table : List Offsets) (minute : ℤ) (request a b : List ℕ)
         → IsReply book table minute request a → IsReply book table minute request b → a ≡ b }
 {}
 
-/// Where the bytes that came so far settle the row, no more bytes change the reply.
+/// The reply to a request doesn't change with further bytes, if the bytes so far determine its row.
 pub fn settled_replies_stay()
     ensures { (book : Book) (table : List Offsets) (minute : ℤ) (request more reply : List ℕ) (row : Row)
         → IsRow request row → IsTrue (is_settled row)
         → IsReply book table minute request reply → IsReply book table minute (request ++ more) reply }
 {}
 
-/// The reply of a fixed row is the same over every book.
+/// The reply of a fixed row is the same over all harmonic constants.
 pub fn fixed_rows_reply()
     ensures { (book : Book) (table : List Offsets) (minute : ℤ) (request reply : List ℕ) (row : Row)
         → IsRow request row → fixed_of row ≡ Some reply → IsReply book table minute request reply }
 {}
 
-/// A query names no file of a zone.
+/// A query never names a zone's file.
 pub fn queries_name_no_file()
     ensures { (command : Option (List ℕ)) (items : List Item) (question : Question)
         → question_of record { origin = Origin.Query; command = command; items = items } ≡ Ok question
         → names_file question.zone ≡ false }
 {}
 
-/// Over files, a door, a sink and a clock in memory: if [`serve`](crate::serve) has listened, the door
-/// holds a reply for each request that was taken, in their order, each the reply to the bytes of its
-/// request at the clock's minute, unless a line has failed. If the server has ended with a read fault, so
-/// it is for all of them but the last one: if the clock failed for that one, its reply is empty.
+/// A server over files, a port, a sink and a clock in memory: if [`serve`](crate::serve) has
+/// listened, the port holds a reply for each request that was taken, in their order, each the reply
+/// to the bytes of its request at the clock's minute, unless a read or write failed. If the server
+/// ended with a read fault, this holds for all requests but the last one: if the clock failed for
+/// this one, its reply is empty.
 pub fn serve_in_memory()
     ensures { (words : List (List ℕ)) (status : Status) (before after : InMemory)
         → before.door.doorway.port ≡ None → ¬ (after.door.doorway.port ≡ None)

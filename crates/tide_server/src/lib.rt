@@ -1,9 +1,10 @@
-//! Tides over HTTP: requests, and the replies to them.
+//! Tides over HTTP: requests and their replies.
 //!
-//! [`enough`] tells when the bytes that came settle the reply, and [`reply`] makes it. [`fixed_reply`] makes the replies
-//! that need no answer of the predictor, as to a head that is no head or to a path that isn't known, and
-//! [`unavailable_reply`] the one that stands for another where memory is wanting. Neither takes memory. [`serve`] reads
-//! the words and the files, listens, and serves one connection after the other.
+//! [`enough`] returns true if the bytes of a request so far determine the reply, and [`reply`]
+//! makes it. [`fixed_reply`] makes the replies that need no prediction, such as to a malformed head
+//! or an unknown path, and [`unavailable_reply`] the one that replaces another if memory runs out;
+//! neither allocates. [`serve`] reads the arguments and the files, listens, and serves one
+//! connection after the other.
 #![tactic(auto)]
 
 mod completeness;

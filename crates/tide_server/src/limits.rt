@@ -1,6 +1,6 @@
-//! How long a request may be (this project).
+//! The greatest length of a request (this project).
 
 use http_rows::{MOST_BODY, MOST_HEAD};
 
-/// How many bytes the longest request has.
+/// The number of bytes of the longest request.
 pub const LONGEST: usize = MOST_HEAD + MOST_BODY;

@@ -1,6 +1,6 @@
-//! What ends a server.
+//! The failures that end a server.
 
-/// What ends a server: a part of the outside that has failed.
+/// A failure that ends a server.
 #[derive(Clone, Copy, Debug, PartialEq, Eq)]
 pub(crate) enum Outage {
     /// The door couldn't listen, or take a connection.

@@ -1,4 +1,4 @@
-//! What a path and a query say.
+//! The command and the pairs of a path and a query.
 
 ghost use Rattle.std.specs.Prelude.{◌≡◌, IfOk};
 ghost use Rattle.tide_server.specs.Queries.{item_of, items_of, pairs_of, said_by};
@@ -10,7 +10,7 @@ use http_rows::Asking;
 use question::{Item, Items, Origin, Pairs};
 use std::alloc::{AllocError, Global};
 
-/// The command and the items of what is asked.
+/// Returns the command and the pairs of keys and values of a request.
 pub(crate) fn pairs_of(alloc: Global, asking: &Asking<'_>) -> Result<Pairs, AllocError>
     ensures { IfOk result (λ pairs. pairs ≡ pairs_of (asking_seen asking.now)) }
 {
@@ -21,6 +21,7 @@ pub(crate) fn pairs_of(alloc: Global, asking: &Asking<'_>) -> Result<Pairs, Allo
     })
 }
 
+/// Returns the pairs of `query`, decoded.
 fn items_of(alloc: Global, query: &[u8]) -> Result<Vec<Item>, AllocError>
     ensures { IfOk result (λ items. items.items ≡ items_of query.now) }
 {
@@ -31,6 +32,7 @@ fn items_of(alloc: Global, query: &[u8]) -> Result<Vec<Item>, AllocError>
     Ok(items)
 }
 
+/// Returns the pair of `name` and `value`, decoded.
 fn item_of(alloc: Global, name: &[u8], value: &[u8]) -> Result<Item, AllocError>
     ensures { IfOk result (λ item. item ≡ item_of (name.now, value.now)) }
 {
@@ -40,7 +42,8 @@ fn item_of(alloc: Global, name: &[u8], value: &[u8]) -> Result<Item, AllocError>
     })
 }
 
-/// The text that a name or a value stands for.
+/// Returns `encoded`, a name or a value of a query, decoded: `+` is a space, and bytes that are no UTF-8
+/// become U+FFFD.
 #[tactic(auto, unfolding(crate::specs::Queries::said_by))]
 fn said_by(alloc: Global, encoded: &[u8]) -> Result<Text, AllocError>
     ensures { IfOk result (λ text. text ≡ said_by encoded.now) }

@@ -5,7 +5,8 @@ use std::alloc::{AllocError, Global};
 use std::marker::Model;
 use tide_edge::{Door, Failed, PIECE};
 
-/// The bytes of a request that came so far, in memory that was taken for the longest one.
+/// The bytes of a request so far, in memory that is allocated once for the longest one. Contracts
+/// see it as the bytes.
 #[derive(Debug, Drop)]
 pub(crate) struct Request {
     bytes: Vec<u8>,
@@ -31,7 +32,7 @@ impl Request {
     ghost use Rattle.tide_edge.specs.Doors.{door_after_read, first_or_empty};
     ghost use Rattle.tide_server.specs.declared.limits.TheConstants.{LONGEST};
 
-    /// No byte yet, with memory for the longest request.
+    /// Returns a request without a byte, and allocates for the longest one.
     pub(crate) fn new(alloc: Global) -> Result<Request, AllocError>
         ensures { IfOk result (λ request. request ≡ []) }
     {
@@ -41,21 +42,25 @@ impl Request {
         })
     }
 
-    /// The bytes that came so far.
+    /// Returns the bytes so far.
     pub(crate) fn as_slice(&self) -> &[u8]
         ensures { result.now ≡ self.now }
     {
         self.bytes.as_slice()
     }
 
-    /// Begins a new request.
+    /// Removes all bytes, for the next request.
     pub(crate) fn clear(&mut self)
         ensures { self.new ≡ [] }
     {
         self.bytes.clear();
     }
 
-    /// Reads the next bytes of the open connection behind those that came so far. It takes no memory.
+    /// Reads the next bytes of the open connection, at most a piece, and appends them. Returns
+    /// their number, which is 0 at the end of the connection. Doesn't allocate.
+    ///
+    /// # Errors
+    /// [`Failed`] if the read failed.
     pub(crate) fn read_more<D: Door>(&mut self, door: &mut D) -> Result<usize, Failed>
         requires short { length self.old < LONGEST }
         requires open { IsTrue (D.state door.old).doorway.is_open }

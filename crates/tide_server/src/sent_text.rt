@@ -1,4 +1,4 @@
-//! Sending a text.
+//! Texts sent over the open connection.
 
 ghost use Rattle.std.specs.Prelude.{IsTrue, is_err};
 ghost use Rattle.tide_server.specs.Workings.Connections.{SentBy};
@@ -6,10 +6,10 @@ ghost use Rattle.tide_server.specs.Workings.Connections.{SentBy};
 use http_rows::rest_from;
 use tide_edge::{Door, Failed};
 
-/// Sends all of a text over the open connection. It takes no memory.
+/// Sends all of `text` over the open connection. Doesn't allocate.
 ///
 /// # Errors
-/// [`Failed`] where a write failed. Nothing was sent after that one.
+/// [`Failed`] if a write failed. Nothing was sent after it.
 pub(crate) fn send<D: Door>(door: &mut D, text: &[u8]) -> Result<(), Failed>
     requires { IsTrue (D.state door.old).doorway.is_open }
     ensures { SentBy (is_err result) text.now (D.state door.old) (D.state door.new) }

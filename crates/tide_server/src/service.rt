@@ -1,4 +1,4 @@
-//! The server, from the words to the status.
+//! The server, from the arguments to the exit status.
 
 ghost use Rattle.std.specs.Prelude.{◌≡◌, ◌++◌, ◌≤◌, ◌+◌, Bool, false, true, IsTrue, [], IsOk, None, decimal};
 ghost use Rattle.arrayvec.specs.ArrayString.{array_string_len};
@@ -26,12 +26,20 @@ use std::alloc::Global;
 use tide_edge::{Clock, Door, Files, Sink};
 use tide_fault::Status;
 
-/// Serves the tables of the files that the words name, at the port that they name: reads words and
-/// files, takes the memory for the longest request, listens, and serves one connection after the
-/// other. It tells on `err` where it listens, and why it ends where something has failed; a failure
-/// there changes nothing. A failure of a connection's lines ends that connection alone. The clock is
-/// asked once for each connection that has a byte, and the reply is of that minute. Of a door that
-/// keeps pieces the connection taken last is read no further than its reply needs.
+/// Serves the answers over the files that the arguments `words` name, at the port that they name,
+/// of 127.0.0.1: reads arguments and files, allocates for the longest request, listens, and serves
+/// one connection after the other. Returns the exit status, 0 to 8.
+///
+/// It prints to `err` the port at which it listens, and the reason for which it ends if something
+/// failed; a failed write to `err` changes nothing. A failed read or write of a connection ends
+/// this connection alone. The clock is read once for each connection that has a byte, and the reply
+/// is of this minute. If the port keeps the pieces that a client sends apart, the last connection
+/// is read no further than its reply needs.
+///
+/// # Examples
+/// ```
+/// let status = serve(alloc, &words, &mut files, &mut door, &mut err, &mut clock);
+/// ```
 pub fn serve<F: Files, D: Door, E: Sink, K: Clock>(
     alloc: Global,
     words: &Words,
@@ -47,7 +55,7 @@ pub fn serve<F: Files, D: Door, E: Sink, K: Clock>(
     serve_words(alloc, words, files, door, err, clock)
 }
 
-// The same, promise by promise.
+// Does the same, with each promise as a clause of its own.
 fn serve_words<F: Files, D: Door, E: Sink, K: Clock>(
     alloc: Global,
     words: &Words,
@@ -88,7 +96,7 @@ fn serve_words<F: Files, D: Door, E: Sink, K: Clock>(
     }
 }
 
-// Listens, and serves what comes.
+// Listens, and serves each connection.
 fn serve_stock<D: Door, E: Sink, K: Clock>(
     alloc: Global,
     stock: &SoundStock,
@@ -109,7 +117,7 @@ fn serve_stock<D: Door, E: Sink, K: Clock>(
     }
 }
 
-// Serves what comes to the door, which listens.
+// Serves each connection of the port, which is listened to.
 fn serve_open<D: Door, E: Sink, K: Clock>(
     alloc: Global,
     stock: &SoundStock,
@@ -131,7 +139,7 @@ fn serve_open<D: Door, E: Sink, K: Clock>(
     }
 }
 
-// Tells where the server listens.
+// Prints the port at which the server listens.
 fn tell_port<E: Sink>(port: u16, err: &mut E)
     ensures { (failed : Bool) × Wrote (E.state err.old) (E.state err.new) failed (notice_of port) }
 {
@@ -140,6 +148,7 @@ fn tell_port<E: Sink>(port: u16, err: &mut E)
     refuse(err, Status::Done, line.as_str().as_bytes());
 }
 
+/// Appends the line of the port to `line`.
 fn write_notice(port: u16, line: &mut ArrayString<64>)
     requires { line.old.bytes ≡ [] }
     ensures { line.new.bytes ≡ notice_of port }
@@ -149,6 +158,7 @@ fn write_notice(port: u16, line: &mut ArrayString<64>)
     line.push_str("/\n");
 }
 
+/// Appends `port` in decimal.
 fn push_port(port: u16, line: &mut ArrayString<64>)
     requires { array_string_len line.old + 40 ≤ 64 }
     ensures bytes { line.new.bytes ≡ line.old.bytes ++ decimal port }

@@ -1,4 +1,4 @@
-//! What a server serves from.
+//! The data that a server serves.
 
 ghost use Rattle.std.specs.Prelude.{◌≡◌};
 ghost use Rattle.harmonics_text.specs.Books.{IsBook};
@@ -7,17 +7,17 @@ use harmonics_text::{Book, SoundBook};
 use station_table::OffsetTable;
 use std::marker::Model;
 
-/// What a server serves from.
+/// The data that a server serves, and its port.
 #[derive(Drop)]
 pub struct Stock {
     pub book: Book,
-    /// It has no row where no table is named.
+    /// The subordinate stations. It has no row if no table is named.
     pub table: OffsetTable,
-    /// Where it listens, at 127.0.0.1.
+    /// The port of 127.0.0.1 at which the server listens.
     pub port: u16,
 }
 
-/// A stock whose book is known to be sound. Contracts see it as the stock.
+/// The data of a server, whose harmonic constants are valid. Contracts see it as the data.
 #[derive(Drop)]
 pub struct SoundStock {
     stock: Stock,
@@ -35,7 +35,7 @@ impl Model for SoundStock {
 }
 
 impl SoundStock {
-    /// A stock as it is read.
+    /// Returns `stock`, whose harmonic constants are valid.
     pub fn new(stock: Stock) -> SoundStock
         requires { IsBook stock.book }
         ensures { result ≡ stock }
@@ -43,21 +43,21 @@ impl SoundStock {
         SoundStock { stock }
     }
 
-    /// The book, lent.
+    /// Returns the harmonic constants, borrowed.
     pub fn book(&self) -> SoundBook<'_>
         ensures { result ≡ self.now.book }
     {
         SoundBook::new(&self.stock.book)
     }
 
-    /// The table, lent.
+    /// Returns the table, borrowed.
     pub fn table(&self) -> &OffsetTable
         ensures { result.now ≡ self.now.table }
     {
         &self.stock.table
     }
 
-    /// Where it listens.
+    /// Returns the port at which the server listens.
     pub fn port(&self) -> u16
         ensures { result ≡ self.now.port }
     {

@@ -1,4 +1,4 @@
-//! What a server serves from.
+//! The data that a server serves, read from files.
 
 ghost use Rattle.std.specs.Prelude.{◌≡◌, [], IsOk, IsTrue, IfErr};
 ghost use Rattle.decimal_text.specs.Expected.{Gives};
@@ -22,8 +22,11 @@ use std::alloc::Global;
 use tide_edge::Files;
 use tide_fault::Fault;
 
-/// What the words ask to serve from, or the first fault on the way to it: the words, the harmonic
-/// constants, the table, of each file its reading before its form.
+/// Reads the data that the arguments `words` name: the harmonic constants, and then the table. Each
+/// file is read and its form checked before the next is opened.
+///
+/// # Errors
+/// The first reason: the arguments, the harmonic constants, the table.
 pub(crate) fn read_stock<F: Files>(
     alloc: Global,
     words: &Words,
@@ -43,7 +46,7 @@ pub(crate) fn read_stock<F: Files>(
     }
 }
 
-// What the files hold, of which the first has this name.
+// Reads the data of a request whose harmonics file is `name`.
 #[tactic(auto, unfolding(crate::specs::Openings::stock_named))]
 fn read_named<F: Files>(
     alloc: Global,
@@ -68,7 +71,7 @@ fn read_named<F: Files>(
     }))
 }
 
-// What the words ask of a server.
+// Returns the request to serve in the arguments `words`.
 #[tactic(auto, unfolding(crate::specs::Openings::service_of))]
 fn read_service(alloc: Global, words: &Words) -> Result<Question, Fault>
     ensures exact { Gives wants_memory (service_of words.now) result }
@@ -78,6 +81,7 @@ fn read_service(alloc: Global, words: &Words) -> Result<Question, Fault>
     Ok(question)
 }
 
+/// Returns the request to serve in the arguments `words`, or the fault of the arguments.
 fn service_in_words(alloc: Global, words: &Words) -> Result<Question, AskFault>
     ensures { Gives ask_wants_memory (service_in (pairs_of words.now)) result }
 {
@@ -88,7 +92,7 @@ fn service_in_words(alloc: Global, words: &Words) -> Result<Question, AskFault>
     read_question(alloc, &pairs)
 }
 
-/// Whether the words have another command than the server's. It takes no memory.
+/// Returns true if the command of `words` isn't `serve`. Doesn't allocate.
 pub(crate) fn names_another(words: &Words) -> bool
     ensures { result ≡ asks_another (pairs_of words.now) }
 {

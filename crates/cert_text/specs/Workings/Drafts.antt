@@ -1,4 +1,4 @@
--- The inner account of reading line by line: what a draft knows, and the draft after one more line (this project).
+-- The states of the parser of certificates, and the state after one more line (this project).
 use Rattle.std.specs.Prelude.{ℕ, ℤ, pos, Bool, true, false, if◌then◌else◌, List, [], ◌∷◌, ◌++◌, Option, Some, None, is_some, codes}
 use Rattle.std.specs.Option.{option_map}
 use Rattle.std.specs.Str.{bytes_eq}
@@ -12,7 +12,7 @@ use Rattle.cert_text.specs.Workings.LineReading.{version_of, station_of, moment_
 
 -- ---- the draft after one more line
 
--- before the first line
+-- the state before the first line
 abbrev pub start : Draft
 start = record {
   part = Title;
@@ -27,52 +27,64 @@ start = record {
   crossings = [];
 }
 
+-- the state after the title
 abbrev pub with_version : Draft → ℕ → Draft
 with_version d version = record d { part = Station; version = version }
 
+-- the state after the station
 abbrev pub with_station : Draft → List ℕ → Draft
 with_station d name = record d { part = Begin; station = name }
 
+-- the state after the span's first minute
 abbrev pub with_begin : Draft → ℤ → Draft
 with_begin d begin = record d { part = End; begin = begin }
 
+-- the state after the span's end
 abbrev pub with_end : Draft → ℤ → Draft
 with_end d end = record d { part = Mark; end = end }
 
+-- the state after the mark
 abbrev pub with_mark : Draft → Option ℤ → Draft
 with_mark d mark = record d { part = Heading; mark = mark }
 
+-- the state after the heading of the turn track
 abbrev pub after_heading : Draft → List ℕ → Option Draft
 after_heading d line = if bytes_eq line (codes "track turn") then Some (record d { part = Turn }) else None
 
+-- the state after the last line
 abbrev pub after_last : Draft → List ℕ → Option Draft
 after_last d line = if bytes_eq line (codes "done") then Some (record d { part = Done }) else None
 
--- where there is a mark its track comes next, and else the end
+-- the state after the line that follows the turn and slack tracks: the mark's heading if there is a mark,
+-- and otherwise the last line
 abbrev pub after_slack : Draft → List ℕ → Option Draft
 after_slack d line =
     if is_some d.mark
     then (if bytes_eq line (codes "track mark") then Some (record d { part = Crossings }) else None)
     else after_last d line
 
+-- the state after the line that follows the turn track
 abbrev pub after_turn : Draft → List ℕ → Option Draft
 after_turn d line =
     if bytes_eq line (codes "track slack") then Some (record d { part = Slack; has_slack = true })
     else after_slack d line
 
--- one more cell, or the line after the track's last
+-- the state after a cell of the turn track, or after the line that follows its last
 abbrev pub with_turn : Draft → List ℕ → Option Cell → Option Draft
 with_turn d line (Some cell) = Some (record d { turn = d.turn ++ cell ∷ [] })
 with_turn d line None = after_turn d line
 
+-- the state after a cell of the slack track, or after the line that follows its last
 abbrev pub with_slack : Draft → List ℕ → Option Cell → Option Draft
 with_slack d line (Some cell) = Some (record d { slack = d.slack ++ cell ∷ [] })
 with_slack d line None = after_slack d line
 
+-- the state after a cell of the mark's track, or after the line that follows its last
 abbrev pub with_crossing : Draft → List ℕ → Option Cell → Option Draft
 with_crossing d line (Some cell) = Some (record d { crossings = d.crossings ++ cell ∷ [] })
 with_crossing d line None = after_last d line
 
+-- the state after a line of a part
 abbrev pub next_at : Part → Draft → List ℕ → Option Draft
 next_at Title d line = option_map (with_version d) (version_of line)
 next_at Station d line = option_map (with_station d) (station_of line)
@@ -85,17 +97,18 @@ next_at Slack d line = with_slack d line (cell_of tracks.Slack line)
 next_at Crossings d line = with_crossing d line (cell_of tracks.Mark line)
 next_at Done d line = None
 
--- none where no certificate has the line there
+-- the state after one more line, or none if no certificate has the line there
 unfoldable pub next : Draft → List ℕ → Option Draft
 next d line = next_at d.part d line
 
 -- ---- to the end
 
+-- the cells of a track that is present
 abbrev pub if_there : Bool → List Cell → Option (List Cell)
 if_there true cells = Some cells
 if_there false cells = None
 
--- the certificate of what is read
+-- the certificate of a state
 abbrev pub certificate_in : Draft → Certificate
 certificate_in d = record {
   version = d.version;
@@ -106,6 +119,7 @@ certificate_in d = record {
   tracks = record { turn = d.turn; slack = if_there d.has_slack d.slack; mark = if_there (is_some d.mark) d.crossings };
 }
 
+-- the part after the last line
 abbrev pub is_done : Part → Bool
 is_done Title = false
 is_done Station = false
@@ -118,6 +132,6 @@ is_done Slack = false
 is_done Crossings = false
 is_done Done = true
 
--- the certificate, where the last line has come
+-- the certificate, if the last line was read
 abbrev pub whole : Draft → Option Certificate
 whole d = if is_done d.part then Some (certificate_in d) else None

@@ -1,4 +1,4 @@
--- What a line says, read from its bytes: the other direction of the lines' text (this project).
+-- The meaning of a line, read from its bytes: the inverse of the lines' text (this project).
 use Rattle.std.specs.Prelude.{ℕ, zero, suc, ℤ, pos, negsuc, unsigned_abs, ◌==◌, nat_lt, nat_le, Bool, ◌&&◌, if◌then◌else◌, List, length, take, drop, Option, Some, None, option_and_then, codes, slice_index}
 use Rattle.std.specs.List.{list_all}
 use Rattle.std.specs.Option.{option_map, option_or}
@@ -16,67 +16,81 @@ use Rattle.cert_text.specs.declared.track_name.TrackName.TheVariants.{Turn, Slac
 use Rattle.cert_text.specs.declared.numbers.TheConstants.{LEVEL_DIGITS}
 use Rattle.cert_text.specs.Lines.{front_of}
 
--- what follows a word at the front
+-- what follows the prefix `word` of a line
 unfoldable pub after : List ℕ → List ℕ → Option (List ℕ)
 after word line = if bytes_eq (take (length word) line) word then Some (drop (length word) line) else None
 
--- one digit or more, at most so many, and no 0 before others
+-- the number of 1 to `most` digits without leading zeros
 unfoldable pub size_of : ℕ → List ℕ → Option ℕ
 size_of most text = if nat_lt 1 (length text) && slice_index text 0 == 48 then None else digits_of most text
 
+-- a number below zero by its size
 abbrev pub negative : ℕ → Option ℤ
 negative zero = None
 negative (suc n) = Some (negsuc n)
 
--- the number of a text, and of what follows a minus, if one stands first
+-- the number of a text, or of the digits after its minus sign
 abbrev pub number_from : ℕ → Option (List ℕ) → List ℕ → Option ℤ
 number_from most None text = option_map pos (size_of most text)
 number_from most (Some digits) text = option_and_then negative (size_of most digits)
 
+-- the number of a text with or without a minus sign
 unfoldable pub number_of : ℕ → List ℕ → Option ℤ
 number_of most text = number_from most (after (codes "-") text) text
 
+-- the version of a title
 unfoldable pub version_of : List ℕ → Option ℕ
 version_of line =
     if bytes_eq line (codes "tide certificate 1") then Some 1
     else if bytes_eq line (codes "tide certificate 2") then Some 2
     else None
 
+-- the bytes are a station's name
 abbrev pub is_station_name : List ℕ → Bool
 is_station_name name =
     (nat_lt 0 (length name) && nat_le (length name) 400) && list_all is_name_byte name && is_utf8 name
 
+-- the bytes, if they are a station's name
 abbrev pub named : List ℕ → Option (List ℕ)
 named name = if is_station_name name then Some name else None
 
+-- the name of the station's line
 unfoldable pub station_of : List ℕ → Option (List ℕ)
 station_of line = option_and_then named (after (codes "station ") line)
 
+-- the moment after a word
 unfoldable pub moment_after : List ℕ → List ℕ → Option ℤ
 moment_after word line = option_and_then moment_of (after word line)
 
+-- a mark, if it is in range
 abbrev pub mark_within : ℤ → Option (Option ℤ)
 mark_within mark = if nat_le (unsigned_abs mark) 10000000000 then Some (Some mark) else None
 
+-- the mark of its line, which may be none
 unfoldable pub mark_of : List ℕ → Option (Option ℤ)
 mark_of line =
     if bytes_eq line (codes "mark none") then Some None
     else option_and_then mark_within (option_and_then (number_of LEVEL_DIGITS) (after (codes "mark ") line))
 
+-- a quiet cell of n minutes, if n is in range
 abbrev pub quiet_for : ℕ → Option Cell
 quiet_for n = if nat_le 2 n && nat_le n MOST_MINUTES then Some (cells.Quiet n) else None
 
+-- the cell of a line such as `q 1024`
 unfoldable pub quiet_of : List ℕ → Option Cell
 quiet_of line = option_and_then quiet_for (option_and_then (size_of LEVEL_DIGITS) (after (codes "q ") line))
 
+-- the cell of a line with an event of a kind
 unfoldable pub turn_of : Kind → List ℕ → Option Cell
 turn_of kind line = option_map (λ level. cells.Turn kind level) (option_and_then (number_of LEVEL_DIGITS) (after (front_of kind) line))
 
+-- the first kind of a track's events
 abbrev pub first_kind : TrackName → Kind
 first_kind Turn = High
 first_kind Slack = FloodBegins
 first_kind Mark = MarkRising
 
+-- the second kind of a track's events
 abbrev pub second_kind : TrackName → Kind
 second_kind Turn = Low
 second_kind Slack = EbbBegins

@@ -1,4 +1,5 @@
--- The inner account of reading a certificate of a highest water line by line: what a line says, and the draft after it (this project).
+-- The parser of certificates of a highest water: the meaning of a line, and the state after it (this
+-- project).
 use Rattle.std.specs.Prelude.{ℕ, ℤ, pos, nat_le, ◌&&◌, if◌then◌else◌, List, [], ◌∷◌, ◌++◌, Option, Some, None, option_and_then, codes}
 use Rattle.std.specs.Option.{option_map}
 use Rattle.std.specs.Str.{bytes_eq}
@@ -11,23 +12,27 @@ use Rattle.highest_water.specs.declared.part.Part.TheVariants.{Title, Station, B
 use Rattle.highest_water.specs.declared.peak_cell.PeakCell.{PeakCell}
 use Rattle.highest_water.specs.declared.peak_cell.PeakCell.TheVariants.{Under, Single}
 
--- ---- what a line says
+-- ---- the meaning of a line
 
+-- the value on its line
 unfoldable pub value_of : List ℕ → Option ℤ
 value_of line = option_and_then (number_of 37) (after (codes "value ") line)
 
+-- a cell of n minutes that is under, if n is in range
 abbrev pub under_for : ℕ → Option PeakCell
 under_for n = if nat_le 2 n && nat_le n MOST_MINUTES then Some (Under n) else None
 
+-- the cell of a line such as `u 1024`
 unfoldable pub under_of : List ℕ → Option PeakCell
 under_of line = option_and_then under_for (option_and_then (size_of 4) (after (codes "u ") line))
 
+-- the cell of a line
 unfoldable pub cell_of : List ℕ → Option PeakCell
 cell_of line = if bytes_eq line (codes "m") then Some Single else under_of line
 
--- ---- the draft after one more line
+-- ---- the state after one more line
 
--- before the first line
+-- the state before the first line
 abbrev pub start : Draft
 start = record {
   part = Title;
@@ -39,26 +44,32 @@ start = record {
   cells = [];
 }
 
+-- the state after the station
 abbrev pub with_station : Draft → List ℕ → Draft
 with_station d name = record d { part = Begin; station = name }
 
+-- the state after the span's first minute
 abbrev pub with_begin : Draft → ℤ → Draft
 with_begin d begin = record d { part = End; begin = begin }
 
+-- the state after the span's end
 abbrev pub with_end : Draft → ℤ → Draft
 with_end d end = record d { part = At; end = end }
 
+-- the state after the highest water's minute
 abbrev pub with_at : Draft → ℤ → Draft
 with_at d at = record d { part = Value; at = at }
 
+-- the state after the highest water's value
 abbrev pub with_value : Draft → ℤ → Draft
 with_value d value = record d { part = Cells; value = value }
 
--- one more cell, or the last line
+-- the state after a cell, or after the last line
 abbrev pub with_cell : Draft → List ℕ → Option PeakCell → Option Draft
 with_cell d line (Some cell) = Some (record d { cells = d.cells ++ cell ∷ [] })
 with_cell d line None = if bytes_eq line (codes "done") then Some (record d { part = Done }) else None
 
+-- the state after a line of a part
 abbrev pub next_at : Part → Draft → List ℕ → Option Draft
 next_at Title d line = if bytes_eq line (codes "peak certificate 1") then Some (record d { part = Station }) else None
 next_at Station d line = option_map (with_station d) (station_of line)
@@ -69,13 +80,13 @@ next_at Value d line = option_map (with_value d) (value_of line)
 next_at Cells d line = with_cell d line (cell_of line)
 next_at Done d line = None
 
--- none where no certificate has the line there
+-- the state after one more line, or none if no certificate has the line there
 unfoldable pub next : Draft → List ℕ → Option Draft
 next d line = next_at d.part d line
 
 -- ---- to the end
 
--- the certificate of what is read
+-- the certificate of a state
 abbrev pub certificate_in : Draft → PeakCertificate
 certificate_in d = record {
   station = d.station;
@@ -84,6 +95,7 @@ certificate_in d = record {
   peak = record { at = d.at; value = d.value; cells = d.cells };
 }
 
+-- the certificate of a state in a part
 abbrev pub whole_at : Part → Draft → Option PeakCertificate
 whole_at Title d = None
 whole_at Station d = None
@@ -94,6 +106,6 @@ whole_at Value d = None
 whole_at Cells d = None
 whole_at Done d = Some (certificate_in d)
 
--- the certificate, where the last line has come
+-- the certificate, if the last line was read
 abbrev pub whole : Draft → Option PeakCertificate
 whole d = whole_at d.part d

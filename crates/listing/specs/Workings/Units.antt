@@ -8,10 +8,10 @@ use Rattle.harmonics_text.specs.declared.book.Station.{Station}
 use Rattle.harmonics_text.specs.declared.book.Units.{Units}
 use Rattle.listing.specs.StationLists.{unit_in}
 
--- what a map has for a name
+-- the unit that a map has for a name
 abbrev pub unit_for : BTreeMap (Bor (List ℕ)) Units → List ℕ → Option Units
 unit_for units name = get_by (λ key. slice_cmp nat_cmp name key.now) units
 
--- a map has the unit of the first station of each name
+-- a map that has the unit of the first station of each name
 abbrev pub AreUnitsOf : List Station → BTreeMap (Bor (List ℕ)) Units → Type 0
 AreUnitsOf stations units = (name : List ℕ) → unit_for units name ≡ unit_in stations name

@@ -1,14 +1,14 @@
--- What a writer of records has written.
+-- The bytes that a writer of records has written.
 use Rattle.std.specs.Prelude.{◌≡◌, ℕ, false, List, ◌++◌}
 use Rattle.std.specs.Global.{Vec}
 use Rattle.csv.specs.Writing.{default_writer, fields_written, has_written, writer_pending, writer_setup, writer_under}
 use Rattle.csv.specs.declared.writer.Writer.{Writer}
 
--- a list of bytes, and what still waits to be added to it
+-- the bytes of its vector, and those that still wait to be added to it
 abbrev pub written : Writer (Vec ℕ) → List ℕ
 written writer = (writer_under writer).items ++ writer_pending writer
 
--- it has the defaults of its crate, and a record ends where it stands
+-- a writer with the defaults of its crate, at the end of a record
 pub record IsAtRecord (writer : Writer (Vec ℕ)) : Type 0 where
   pub fields : fields_written writer ≡ 0
   pub wrote : has_written writer ≡ false

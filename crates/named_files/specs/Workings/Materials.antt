@@ -1,10 +1,11 @@
--- What is known of what the files of a question hold.
+-- The invariant of a request's files.
 use Rattle.std.specs.Prelude.{◌≤◌, length}
 use Rattle.harmonics_text.specs.Books.{IsBook}
 use Rattle.zone_time.specs.Zones.{IsZone}
 use Rattle.named_files.specs.declared.materials.Materials.{Materials}
 use Rattle.decimal_text.specs.declared.limits.TheConstants.{MOST_BYTES}
 
+-- valid harmonic constants, a valid zone, and a certificate's text within its limit
 pub record AreMaterials (read : Materials) : Type 0 where
   pub book : IsBook read.book
   pub zone : IsZone read.zone

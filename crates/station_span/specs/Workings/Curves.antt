@@ -17,7 +17,7 @@ use Rattle.station_span.specs.Sites.{span_limit}
 use Rattle.station_span.specs.Workings.Spans.{HasLevels, IsBeside, IsNearSpan}
 use Rattle.station_span.specs.Workings.Telling.{tide_slack, tide_mark}
 
--- as the curves by every constituent of the book
+-- the curves that are followed, as those by every constituent of the harmonics file
 unfoldable pub followed_tide : Version → SiteTide → Option ℤ → Followed
 followed_tide version found mark = record {
   turn = turn_meaning version found.curve;
@@ -25,10 +25,12 @@ followed_tide version found mark = record {
   mark = tide_mark version found mark;
 }
 
+-- the events of a span by the tide
 abbrev pub tide_events : SiteTide → Asked → List Event
 tide_events found asked =
     station_events (followed_tide Second found asked.mark) found.basis asked.begin asked.end
 
+-- the number of cells of a span by the tide
 abbrev pub tide_cells : SiteTide → Asked → ℕ
 tide_cells found asked =
     cell_count (followed_tide Second found asked.mark) (widened_of found.basis asked.begin asked.end)
@@ -37,7 +39,8 @@ tide_cells found asked =
 abbrev pub InTide : Tide → ℤ → Type 0
 InTide tide minute = InDomain tide.first_year (length tide.years) minute
 
--- a span that the curves can be followed over: it isn't backward or too long, and the tide has the minutes that are looked at
+-- a span that the curves can be followed over: it isn't backward or too long, and the tide has the minutes
+-- that are evaluated
 pub record IsReady (asked : Asked) (found : SiteTide) : Type 0 where
   pub offsets : HasOffsets found.basis
   pub levels : HasLevels found.units
@@ -58,7 +61,7 @@ pub record HasMinutes (tide : Tide) (span : Span) : Type 0 where
   pub begins : InTide tide span.begin
   pub ends : InTide tide span.end
 
--- the events of the reference's curves over the minutes that are looked at
+-- the events of the reference's curves over the minutes that are evaluated
 abbrev pub AreMerged : Asked → SiteTide → List Event → Type 0
 AreMerged asked found events =
     let span = widened_of found.basis asked.begin asked.end in

@@ -1,4 +1,4 @@
--- What was found, in the words of the definitions.
+-- A station that was found, by the definitions of what it is.
 use Rattle.std.specs.Prelude.{◌≡◌, All, ℤ, ◌-ℤ◌, ◌≤ℤ◌, List, IsTrue, Result, Ok, Err}
 use Rattle.curve_law.specs.declared.event.Event.{Event}
 use Rattle.decimal_text.specs.Expected.{Excused}
@@ -23,28 +23,29 @@ use Rattle.tide_fault.specs.declared.refusal.Refusal.{Refusal}
 use Rattle.tide_fault.specs.Faults.{wants_memory_of_refusal}
 use Rattle.zone_time.specs.Zones.{InZoneYears}
 
+-- the station and the offsets of a station that was found
 abbrev pub site_of : Found → Site
 site_of found = site_with found.basis found.origin.station
 
--- by which its site is predicted
+-- the tide that predicts a station that was found
 abbrev pub tide_of_found : Found → SiteTide
 tide_of_found found = tide_with found.basis found.origin.station found.curve
 
--- ---- what is found
+-- ---- a station that was found
 
--- the expected site of the book, with the requested span
+-- the found station is the expected one of the harmonics file, with the span of the request
 pub record IsFoundIn (reach_for : Reach) (book_read : Book) (asked_for : Asked) (expected : Result Site Refusal) (found : Found) : Type 0 where
   pub site : expected ≡ Ok (site_of found)
   pub reach : found.reach ≡ reach_for
   pub book : found.origin.book ≡ book_read
   pub asked : found.asked ≡ asked_for
 
--- the expected site was found, or the expected refusal returned
+-- the expected station was found, or the expected refusal returned
 abbrev pub FindsIn : Reach → Book → Asked → Result Site Refusal → Result Found Refusal → Type 0
 FindsIn reach book asked expected (Ok found) = IsFoundIn reach book asked expected found
 FindsIn reach book asked expected (Err refusal) = Excused (wants_memory_of_refusal refusal) expected refusal
 
--- a station without a span: its curve predicts it
+-- a station without a span, whose curve predicts it
 pub record IsKnown (book : Book) (expected : Result Site Refusal) (known : Known) : Type 0 where
   pub site : Site
   pub is : expected ≡ Ok site
@@ -60,12 +61,12 @@ Knows book expected (Err refusal) = Excused (wants_memory_of_refusal refusal) ex
 
 -- ---- levels
 
--- a minute whose level is that of a reference's minute that is looked at
+-- a minute whose level is that of a reference's minute that may be evaluated
 pub record IsLooked (found : Found) (minute : ℤ) : Type 0 where
   pub from : found.span.begin ≤ℤ (minute -ℤ found.basis.high.add)
   pub until : (minute -ℤ found.basis.high.add) ≤ℤ found.span.end
 
--- each minute of the requested span up to its end
+-- each minute of the requested span up to its end has such a level
 abbrev pub AreLooked : Found → Type 0
 AreLooked found = (minute : ℤ) → found.asked.begin ≤ℤ minute → minute ≤ℤ found.asked.end → IsLooked found minute
 
@@ -76,7 +77,7 @@ pub record HasPeak (found : Found) : Type 0 where
 
 -- ---- events
 
--- those of a site, whose span has a local time by every clock
+-- the list of a station's events, whose span has a local time by every clock
 pub record IsSiteList (book : Book) (asked : Asked) (site : Site) (listed : FoundEvents) : Type 0 where
   pub units : listed.units ≡ site.station.units
   pub levels : HasLevels listed.units
@@ -87,11 +88,11 @@ pub record IsSiteList (book : Book) (asked : Asked) (site : Site) (listed : Foun
   pub begins : InZoneYears asked.begin
   pub ends : InZoneYears asked.end
 
--- the expected site's events were listed, or the expected refusal returned
+-- the expected station's events were listed, or the expected refusal returned
 abbrev pub Lists : Book → Asked → Result Site Refusal → Result FoundEvents Refusal → Type 0
 Lists book asked expected (Ok listed) = (site : Site) × (expected ≡ Ok site) × IsSiteList book asked site listed
 Lists book asked expected (Err refusal) = Excused (wants_memory_of_refusal refusal) expected refusal
 
--- the events of the reference's curves over the minutes that are looked at
+-- the events of the reference's curves over the minutes that are evaluated
 abbrev pub AreReferences : Found → List Event → Type 0
 AreReferences found events = events ≡ merged_of found.span.begin (tracks_of found.origin.book (site_of found) found.asked)

@@ -1,4 +1,4 @@
--- The levels of a site, by the tide that predicts it.
+-- The levels of a station, by the tide that predicts it.
 use Rattle.std.specs.Prelude.{ℤ, pos, ◌-ℤ◌, ◌≤ℤ◌, int_lt, Bool, length}
 use Rattle.event_list.specs.Shifts.{scaled}
 use Rattle.station_curve.specs.Levels.{slope_of, millionths_of}
@@ -8,14 +8,15 @@ use Rattle.station_span.specs.declared.asked.Asked.{Asked}
 use Rattle.station_span.specs.Workings.Tides.{SiteTide}
 use Rattle.station_span.specs.Workings.Curves.{InTide}
 
--- the reference's minute whose level is moved to a minute
+-- the reference's minute that the offset moves to a minute
 abbrev pub source_of : SiteTide → ℤ → ℤ
 source_of found minute = minute -ℤ found.basis.high.add
 
--- as those by every constituent of the book
+-- the station's level at a minute, as by every constituent of the harmonics file
 abbrev pub tide_level : SiteTide → ℤ → ℤ
 tide_level found minute = scaled found.basis.high (millionths_of found.curve (source_of found minute))
 
+-- the station's level rises at a minute
 abbrev pub is_tide_rising : SiteTide → ℤ → Bool
 is_tide_rising found minute = int_lt (pos 0) (slope_of found.curve (source_of found minute))
 

@@ -1,4 +1,4 @@
--- What is known of a station that was found.
+-- The invariant of a station that was found.
 use Rattle.harmonics_text.specs.declared.book.Book.{Book}
 use Rattle.harmonics_text.specs.declared.book.Station.{Station}
 use Rattle.station_curve.specs.Waves.{Tide}
@@ -9,13 +9,15 @@ use Rattle.station_span.specs.Sites.{Site}
 use Rattle.station_span.specs.Workings.Spans.{IsFound}
 use Rattle.station_span.specs.Workings.Tides.{SiteTide}
 
+-- a station with the offsets from it
 abbrev pub site_with : Basis → Station → Site
 site_with basis station = record { basis = basis; station = station }
 
+-- a tide with the offsets and the unit of its station
 abbrev pub tide_with : Basis → Station → Tide → SiteTide
 tide_with basis station curve = record { basis = basis; units = station.units; curve = curve }
 
--- the curve predicts the site over the minutes that are looked at
+-- the curve predicts the station over the minutes that are evaluated
 abbrev pub IsSound : Reach → Book → Asked → Basis → Station → Tide → Type 0
 IsSound reach book asked basis station curve =
     IsFound reach book asked (site_with basis station) (tide_with basis station curve)

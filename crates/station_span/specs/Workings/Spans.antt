@@ -1,4 +1,4 @@
--- What the steps of an answer hand on to each other.
+-- The facts that the steps of an answer pass on.
 use Rattle.std.specs.Prelude.{◌≡◌, ℤ, negsuc, pos, ◌-ℤ◌, ◌≤ℤ◌, ◌≤◌, unsigned_abs, length, Bool, true, false, IsTrue}
 use Rattle.std.specs.Option.{ForSome}
 use Rattle.event_list.specs.declared.span.Span.{Span}
@@ -16,13 +16,13 @@ use Rattle.station_span.specs.declared.reach.Reach.{Reach}
 use Rattle.station_span.specs.Workings.Tides.{SiteTide}
 use Rattle.station_span.specs.Sites.{Site, lacks_minute, reached, span_limit}
 
--- a span that a question, a certificate or a clock can name
+-- a span and a mark in the range that a request, a certificate or a clock can name
 pub record IsNear (asked : Asked) : Type 0 where
   pub begin : unsigned_abs asked.begin ≤ 20000000000
   pub end : unsigned_abs asked.end ≤ 20000000000
   pub mark : ForSome asked.mark (λ level. unsigned_abs level ≤ 10000000000)
 
--- a span that isn't backward or far from 1970
+-- a span that isn't backward, and whose minutes are in range
 pub record IsNearSpan (s : Span) : Type 0 where
   pub forward : s.begin ≤ℤ s.end
   pub begin : unsigned_abs s.begin ≤ 100000000000
@@ -38,7 +38,7 @@ pub record IsBeside (begin end : ℤ) (s : Span) : Type 0 where
   pub begins : unsigned_abs (s.begin -ℤ begin) ≤ 1440
   pub ends : unsigned_abs (s.end -ℤ end) ≤ 1440
 
--- a span that isn't backward, of which the book has the minutes that are looked at
+-- a span that isn't backward, and for which the harmonics file has the minutes that are needed
 pub record IsReached (reach : Reach) (book : Book) (basis : Basis) (begin end : ℤ) : Type 0 where
   pub forward : begin ≤ℤ end
   pub begins : InDomain book.first_year book.years (reached reach basis begin end).begin
@@ -47,13 +47,14 @@ pub record IsReached (reach : Reach) (book : Book) (basis : Basis) (begin end : 
   pub beside : IsBeside begin end (reached reach basis begin end)
   pub some : lacks_minute reach begin end ≡ false
 
--- any but a hydraulic current has levels
+-- a unit of levels: any but that of a hydraulic current
 abbrev pub has_levels : Units → Bool
 has_levels Feet = true
 has_levels Meters = true
 has_levels Knots = true
 has_levels KnotsSquared = false
 
+-- a unit of levels
 abbrev pub HasLevels : Units → Type 0
 HasLevels units = IsTrue (has_levels units)
 
@@ -62,13 +63,13 @@ pub record IsFileMinute (minute : ℤ) : Type 0 where
   pub least : negsuc 1035067679 ≤ℤ minute
   pub most : minute ≤ℤ pos 3855208320
 
--- a curve that predicts a site over the minutes that are looked at
+-- a curve that predicts a station over the minutes that are needed
 abbrev pub PredictsReached : Reach → Book → Asked → Site → SiteTide → Type 0
 PredictsReached reach book asked site found =
     let span = reached reach found.basis asked.begin asked.end in
     PredictsOver book site.station span.begin span.end found.curve
 
--- what was found of a site: its curve predicts it over the minutes that are looked at
+-- a tide that predicts a station over the minutes that are needed
 pub record IsFound (reach : Reach) (book : Book) (asked : Asked) (site : Site) (found : SiteTide) : Type 0 where
   pub basis : found.basis ≡ site.basis
   pub sound : IsBasis (length book.stations) found.basis

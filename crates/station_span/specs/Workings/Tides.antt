@@ -1,4 +1,4 @@
--- The tide by which a site is predicted.
+-- The tide that predicts a station.
 use Rattle.harmonics_text.specs.declared.book.Units.{Units}
 use Rattle.station_curve.specs.Waves.{Tide}
 use Rattle.station_table.specs.declared.basis.Basis.{Basis}

@@ -1,4 +1,4 @@
--- The certificate that is written of tracks, and what is said of the tracks of one that is read.
+-- The certificate of tracks, and the check of one that was read.
 use Rattle.std.specs.Prelude.{ℕ, List, Option, Result, Ok}
 use Rattle.cert_text.specs.declared.certificate.Certificate.{Certificate}
 use Rattle.curve_law.specs.declared.tracks.Tracks.{Tracks}
@@ -18,6 +18,7 @@ use Rattle.station_span.specs.Following.{followed_by}
 use Rattle.station_cells.specs.Rejections.{rejection_of}
 use Rattle.station_span.specs.Sites.{Site, site_in}
 
+-- the certificate of tracks, of version 2
 abbrev pub certificate_in : List ℕ → Asked → Tracks → Certificate
 certificate_in name asked tracks = record {
   version = 2;
@@ -28,7 +29,7 @@ certificate_in name asked tracks = record {
   tracks = tracks;
 }
 
--- what is wrong first with its tracks
+-- the first fault of a certificate's tracks
 abbrev pub rejection_in : Book → Site → Certificate → Option Rejection
 rejection_in book site cert =
     rejection_of (followed_by (version_of cert) book site cert.mark) (widened_of site.basis cert.begin cert.end) cert.tracks

@@ -1,4 +1,4 @@
--- What is answered of a highest water, by the tide that was found.
+-- The certificate of a highest water, and the check of one that was read.
 use Rattle.std.specs.Prelude.{ℕ, List, Result, Ok}
 use Rattle.decimal_text.specs.Expected.{◌>>=◌}
 use Rattle.harmonics_text.specs.declared.book.Book.{Book}
@@ -12,10 +12,11 @@ use Rattle.tide_answer.specs.declared.text.Answer.{Answer}
 use Rattle.tide_answer.specs.Answers.{peak_judged}
 use Rattle.tide_answer.specs.Asking.{asked_of_peak}
 
+-- the certificate of a highest water
 abbrev pub peak_certificate_in : List ℕ → Asked → Peak → PeakCertificate
 peak_certificate_in name asked peak = record { station = name; begin = asked.begin; end = asked.end; peak = peak }
 
--- the answer to a certificate that was read
+-- the answer to a certificate of a highest water that was read
 unfoldable pub peak_judged_in : Book → List Offsets → PeakCertificate → Result Answer Refusal
 peak_judged_in book table cert = do
   site ← highest_site book table cert.station (asked_of_peak cert)

@@ -1,4 +1,4 @@
--- The levels of a site, one each step, by the tide that predicts it.
+-- The rows of a station's levels, one each step.
 use Rattle.std.specs.Prelude.{◌≡◌, ℕ, ℤ, pos, ◌≤ℤ◌, List, All, map}
 use Rattle.std.specs.List.{range_with_len}
 use Rattle.listing.specs.declared.row.Row.{Row}
@@ -7,7 +7,7 @@ use Rattle.station_span.specs.Sites.{Site}
 use Rattle.zone_time.specs.Zones.{InZoneYears}
 use Rattle.tide_answer.specs.Answers.{row_at}
 
--- a step that a question can name
+-- a step that a request can name
 pub record IsStep (step : ℤ) : Type 0 where
   pub first : pos 1 ≤ℤ step
   pub last : step ≤ℤ pos 44640

@@ -1,4 +1,4 @@
--- What an answer that streams is made of.
+-- The parts of an answer that is streamed.
 use Rattle.std.specs.Prelude.{◌≡◌, ℕ, false, IsTrue, List, ◌++◌, All, IfSome, codes}
 use Rattle.cert_text.specs.Certificates.{IsCell, IsStationName}
 use Rattle.cert_text.specs.declared.track_name.TrackName.TheVariants.{Turn, Slack, Mark}
@@ -23,24 +23,26 @@ use Rattle.tide_answer.specs.Answers.{certificate_by}
 use Rattle.tide_answer.specs.declared.text.Answer.{Answer}
 use Rattle.station_span.specs.Workings.Spans.{AreMoments}
 
+-- the text of an answer of a form
 abbrev pub stream_text : Form → Book → Site → List ℕ → Asked → Zone → List ℕ
 stream_text Listing book site name asked zone = plain_events_of name site.station.units (events_of book site asked) zone
 stream_text Certificate book site name asked zone = certificate_text (certificate_by book site name asked)
 
--- a station's answer
+-- the answer of a form for a station
 abbrev pub stream_answer : Form → Book → Site → List ℕ → Asked → Zone → Answer
 stream_answer form book site name asked zone =
     record { text = stream_text form book site name asked zone; rejected = false; cells = cells_of book site asked }
 
--- that of a station that was found
+-- the answer of a form for a station that was found
 abbrev pub stream_of : Form → Found → List ℕ → Zone → Answer
 stream_of form found name zone = stream_answer form found.origin.book (site_of found) name found.asked zone
 
+-- the form of the answers of a command
 abbrev pub form_of : Command → Form
 form_of Certify = Certificate
 form_of _ = Listing
 
--- what it takes to write it
+-- the premises for writing an answer as it is found
 pub record IsStream (found : Found) (name : List ℕ) (zone : Zone) : Type 0 where
   pub reach : found.reach ≡ Events
   pub moments : AreMoments found.asked
@@ -50,16 +52,18 @@ pub record IsStream (found : Found) (name : List ℕ) (zone : Zone) : Type 0 whe
 
 -- ---- the parts of a certificate
 
+-- the lines of a certificate before its tracks
 abbrev pub head_text : List ℕ → Asked → List ℕ
 head_text name asked =
     codes "tide certificate 2\nstation " ++ name ++ codes "\n"
     ++ (ended (begin_line_of asked.begin) ++ ended (end_line_of asked.end) ++ ended (mark_line_of asked.mark))
 
+-- the lines of its tracks
 abbrev pub tracks_text : Tracks → List ℕ
 tracks_text tracks =
     joined (track_lines_of Turn tracks.turn) ++ joined (lines_if_there Slack tracks.slack) ++ joined (lines_if_there Mark tracks.mark)
 
--- cells that have lines
+-- tracks whose cells have lines
 pub record HasCells (tracks : Tracks) : Type 0 where
   pub turn : All IsCell tracks.turn
   pub slack : IfSome tracks.slack (All IsCell)

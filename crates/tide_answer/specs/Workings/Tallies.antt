@@ -1,7 +1,8 @@
--- How large what a trial counts can be.
+-- Bounds of a trial's counts.
 use Rattle.std.specs.Prelude.{ℕ, ◌≤◌}
 use Rattle.tide_answer.specs.declared.tally.Tally.{Tally}
 
+-- counts of at most `most` each
 pub record IsUpTo (most : ℕ) (tally : Tally) : Type 0 where
   pub minutes : tally.minutes ≤ most
   pub events : tally.events ≤ most

@@ -1,4 +1,4 @@
--- What is written for the words.
+-- Answers that can be written.
 use Rattle.std.specs.Prelude.{◌≡◌, ◌&&◌, not, Bool, true, false, [], Result, Ok, Err, is_some}
 use Rattle.question.specs.declared.question.Question.{Question}
 use Rattle.zone_time.specs.declared.zone.Zone.{Zone}
@@ -10,7 +10,7 @@ use Rattle.tide_answer.specs.Answers.{text_alone}
 use Rattle.tide_desk.specs.declared.body.Body.{Body}
 use Rattle.tide_desk.specs.declared.body.Body.TheVariants.{Text, Stream}
 
--- there is an answer that streams, and it rejects nothing
+-- there is an answer that is streamed, and it rejects nothing
 abbrev pub Streamed : Ready → Type 0
 Streamed ready = IsSomeAnd ready.stream (λ answer. answer.rejected ≡ false)
 
@@ -19,24 +19,26 @@ abbrev pub answer_in : Body → Answer
 answer_in (Text answer) = answer
 answer_in (Stream ready) = option_map_or (λ answer. answer) ready.stream (text_alone [])
 
+-- an answer in memory, or one that is streamed
 abbrev pub IsReply : Body → Type 0
 IsReply (Text answer) = Unit {0}
 IsReply (Stream ready) = Streamed ready
 
+-- the answer of a result
 abbrev pub answer_by : {E : Type 0} → Result Body E → Result Answer E
 answer_by (Ok body) = Ok (answer_in body)
 answer_by (Err fault) = Err fault
 
--- whether it is found while it is written
+-- the answer is written as it is found
 abbrev pub is_stream : Body → Bool
 is_stream (Text answer) = false
 is_stream (Stream ready) = true
 
--- a question's answer may be written as it is found, if the station has the events of its reference as they are
+-- a request whose answer is streamed if its station has no offsets
 abbrev pub may_stream : Question → Zone → Bool
 may_stream question zone = can_stream question.command && (is_plain_layout question.layout && not (is_zone_file zone))
 
--- what was prepared streams
+-- the prepared answer is streamed
 abbrev pub is_streaming : {E : Type 0} → Result Ready E → Bool
 is_streaming (Ok ready) = is_some ready.stream
 is_streaming (Err fault) = false

@@ -1,14 +1,15 @@
--- What is told that is neither want of memory nor a fault of reading.
+-- Reasons other than out of memory and a fault of reading.
 use Rattle.std.specs.Prelude.{ℤ, IsTrue, Result, Ok, Err}
 use Rattle.tide_edge.specs.declared.failed.Failed.{Failed}
 use Rattle.named_files.specs.declared.no_answer.NoAnswer.{NoAnswer}
 use Rattle.named_files.specs.NoAnswers.{status_of}
 use Rattle.tide_desk.specs.Outcomes.{is_settled}
 
+-- a reason other than out of memory and a fault of reading
 abbrev pub IsSettled : NoAnswer → Type 0
 IsSettled none = IsTrue (is_settled (status_of none))
 
--- what a reading of the clock gave, by what is made of it
+-- the result of reading the clock, from the result of the step that read it
 abbrev pub reading_of : {E : Type 0} → Result ℤ E → Result ℤ Failed
 reading_of (Ok minute) = Ok minute
 reading_of (Err fault) = Err record {}

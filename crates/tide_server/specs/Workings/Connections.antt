@@ -1,4 +1,4 @@
--- What goes over a connection.
+-- The bytes that are read and sent over a connection.
 use Rattle.std.specs.Prelude.{◌≡◌, ◌<◌, ℕ, ℤ, ◌⊎◌, Bool, true, false, IsTrue, List, [], ◌++◌, length, take, Option, Some, None, is_some, Ok}
 use Rattle.std.specs.List.{concat}
 use Rattle.tide_edge.specs.Clocks.{ClockState, clock_after, next_minute}
@@ -13,16 +13,17 @@ use Rattle.tide_server.specs.Serving.{Answers, AnswersUnlessCut, AsksUnlessCut, 
 
 -- ---- Reading
 
--- the last of the connections stands so
+-- the connections of a port with this one as the last
 abbrev pub with_latest : Connection → Connections → Connections
 with_latest connection all = record all { latest = Some connection }
 
--- these bytes came, and nothing was sent
+-- a connection of which these bytes were read, and to which nothing was sent
 abbrev pub read_as : Bool → List ℕ → Bool → Connection
 read_as failed bytes ended =
     record { came = bytes; is_ended = ended; sent = []; read_failed = failed; write_failed = false }
 
--- this is left of the open connection, which stands so, after a read that failed or none that did
+-- the port after the open connection was read to `left`, with the connection as it is then, and after a
+-- read that failed or none
 abbrev pub read_to : List (List ℕ) → Connection → Bool → DoorState → DoorState
 read_to left connection failed d = record d {
   connections = with_latest connection d.connections;
@@ -30,18 +31,18 @@ read_to left connection failed d = record d {
   line_faults = faults_after failed d.line_faults;
 }
 
--- of a connection's bytes so many were read: all of them, or enough of them
+-- a prefix of a connection's bytes that was read: all of them, or enough to determine the reply
 pub record IsRead (bytes request : List ℕ) : Type 0 where
   pub rest : List ℕ
   pub parts : bytes ≡ request ++ rest
   pub enough : (rest ≡ []) ⊎ IsEnough request
 
--- a connection without a byte has no row; of another one it is that of the bytes read
+-- the row of the bytes that were read; a connection without a byte has none
 abbrev pub IsReadAs : List ℕ → Option Row → Type 0
 IsReadAs bytes None = bytes ≡ []
 IsReadAs bytes (Some row) = (request : List ℕ) × IsRead bytes request × ¬ (request ≡ []) × IsRow request row
 
--- these bytes of the open connection were read, and no further than needed
+-- the request was read of the open connection, and no further than needed
 pub record HasRead (failed : Bool) (request : List ℕ) (before after : DoorState) : Type 0 where
   pub left : List (List ℕ)
   pub is_ended : Bool
@@ -51,11 +52,12 @@ pub record HasRead (failed : Bool) (request : List ℕ) (before after : DoorStat
 
 -- ---- Sending
 
--- a text was sent, after a write that failed or none that did
+-- the connection after a text was sent, and after a write that failed or none
 abbrev pub sending : List ℕ → Bool → Connection → Connection
 sending text false connection = record connection { sent = connection.sent ++ text }
 sending text true connection = record connection { sent = connection.sent ++ text; write_failed = true }
 
+-- the port after a text was sent over the open connection
 abbrev pub sent : List ℕ → Bool → DoorState → DoorState
 sent text failed d = record d {
   connections = change_latest (sending text failed) d.connections;
@@ -68,12 +70,13 @@ abbrev pub SentBy : Bool → List ℕ → DoorState → DoorState → Type 0
 SentBy false text before after = after ≡ sent text false before
 SentBy true text before after = (count : ℕ) × (count < length text) × (after ≡ sent (take count text) true before)
 
--- the reply of a row, or what stands for it where it isn't fixed
+-- the reply of a row, or the one that replaces it if it isn't fixed
 abbrev pub Replies : Stock → ℤ → Row → List ℕ → Type 0
 Replies stock minute row text =
     (text ≡ reply_of stock.book stock.table minute row) ⊎ ((fixed_of row ≡ None) × (text ≡ unavailable_of row))
 
--- The reply of a row was sent, at the minute that the clock has given. Or the clock has failed, and nothing was sent.
+-- The reply of a row was sent, at the minute that the clock returned; or the clock has failed, and nothing
+-- was sent.
 abbrev pub RowSent : Bool → Stock → Row → Exchange → Exchange → Type 0
 RowSent false stock row before after =
     (text : List ℕ) × (failed : Bool) × (minute : ℤ)
@@ -81,20 +84,20 @@ RowSent false stock row before after =
     × SentBy failed text before.door after.door × (after.clock ≡ clock_after (Ok minute) before.clock)
 RowSent true stock row before after = (after.door ≡ before.door) × (after.clock ≡ clock_failed before.clock)
 
--- ---- The whole of it
+-- ---- The whole connection
 
--- the clock after it gave a minute, or wasn't read
+-- the clock after it returned a minute, or wasn't read
 abbrev pub clock_given : Option ℤ → ClockState → ClockState
 clock_given None clock = clock
 clock_given (Some minute) clock = clock_after (Ok minute) clock
 
--- a minute that was given is this one
+-- a minute that the clock returned is the next one
 abbrev pub IsNextMinute : Option ℤ → ℤ → Type 0
 IsNextMinute None next = Unit {0}
 IsNextMinute (Some minute) next = minute ≡ next
 
--- what came of the open connection: what is left of its pieces, the reply, whether its lines failed, the minute that the clock gave
--- for it, and what passed over it
+-- the open connection at its end: what is left of its pieces, the reply, whether a read or write failed,
+-- the minute that the clock returned for it, and the connection
 pub record Talk : Type 0 where
   pub left : List (List ℕ)
   pub reply : List ℕ
@@ -102,6 +105,7 @@ pub record Talk : Type 0 where
   pub minute : Option ℤ
   pub connection : Connection
 
+-- the port after such a connection
 abbrev pub talked : Talk → DoorState → DoorState
 talked talk d = record d {
   connections = with_latest talk.connection d.connections;
@@ -109,7 +113,7 @@ talked talk d = record d {
   line_faults = faults_after talk.is_cut d.line_faults;
 }
 
--- the open connection was gone through
+-- the open connection was read and answered
 pub record Went (stock : Stock) (before after : Exchange) : Type 0 where
   pub talk : Talk
   pub door : after.door ≡ talked talk before.door
@@ -121,7 +125,7 @@ pub record Went (stock : Stock) (before after : Exchange) : Type 0 where
   pub asked : IsTrue before.door.is_observable → AsksUnlessCut talk.is_cut (concat before.door.traffic.rest) (is_some talk.minute)
   pub needed : IsTrue before.door.is_observable → IsTrue before.door.keeps_pieces → IsReadAsNeeded before.door.traffic.rest talk.left
 
--- the clock has failed for it: it has a byte, and nothing was sent
+-- the clock has failed for the open connection: it has a byte, and nothing was sent
 pub record Stopped (before after : Exchange) : Type 0 where
   pub left : List (List ℕ)
   pub connection : Connection
@@ -131,11 +135,12 @@ pub record Stopped (before after : Exchange) : Type 0 where
   pub byte : IsTrue before.door.is_observable → ¬ (concat before.door.traffic.rest ≡ [])
   pub needed : IsTrue before.door.is_observable → IsTrue before.door.keeps_pieces → IsReadAsNeeded before.door.traffic.rest left
 
+-- one of the two, by whether the clock has failed
 abbrev pub WentBy : Bool → Stock → Exchange → Exchange → Type 0
 WentBy false stock before after = Went stock before after
 WentBy true stock before after = Stopped before after
 
--- the same, and the connection was closed
+-- one of the two, and the connection was closed
 pub record Closed (failed : Bool) (stock : Stock) (before after : Exchange) : Type 0 where
   pub still : DoorState
   pub went : WentBy failed stock before record { door = still; clock = after.clock }

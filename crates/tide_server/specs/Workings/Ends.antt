@@ -1,4 +1,4 @@
--- How a server that has something to serve from ends.
+-- The end of a server that has data.
 use Rattle.std.specs.Prelude.{◌≡◌, false}
 use Rattle.tide_edge.specs.Clocks.{ClockState}
 use Rattle.tide_edge.specs.Doors.{DoorState}
@@ -11,19 +11,21 @@ use Rattle.tide_server.specs.declared.stock.Stock.{Stock}
 use Rattle.tide_server.specs.Openings.{EndedBy, Handed, HasListened, handed}
 use Rattle.tide_server.specs.Serving.{IsOver}
 
--- what is left once the files were read
+-- the states of the objects that are used after the files were read
 pub record Unread : Type 0 where
   pub door : DoorState
   pub err : SinkState
   pub clock : ClockState
 
+-- such states
 abbrev pub unread : DoorState → SinkState → ClockState → Unread
 unread door err clock = record { door = door; err = err; clock = clock }
 
+-- such states with those of the files
 abbrev pub with_files : FilesState → Unread → Handed
 with_files files left = handed files left.door left.err left.clock
 
--- over any files, which aren't read any more
+-- the end of a server, over any files, which aren't read any more
 pub record Ended (stock : Stock) (status : Status) (before after : Unread) : Type 0 where
   pub listened : (files left : FilesState) → HasListened stock status (with_files files before) (with_files left after)
   pub done : status ≡ Done → IsOver after.door.doorway

@@ -11,33 +11,38 @@ use Rattle.tide_server.specs.Conversations.{AreServed, IsLeft, IsServed}
 use Rattle.tide_server.specs.Serving.{AreHeld, Conversation, Exchange, IsHeld, IsLastReadAsNeeded, IsReadAsNeeded, RoseBy, clock_after_all, clock_failed}
 use Rattle.tide_server.specs.Workings.Connections.{IsNextMinute, Talk, clock_given, talked}
 
+-- the port failed
 abbrev pub is_door : Outage → Bool
 is_door outages.Door = true
 is_door outages.Clock = false
 
+-- the clock failed
 abbrev pub is_clock : Outage → Bool
 is_clock outages.Door = false
 is_clock outages.Clock = true
 
+-- the result is that the port failed
 abbrev pub is_door_outage : {T : Type 0} → Result T Outage → Bool
 is_door_outage (Ok value) = false
 is_door_outage (Err outage) = is_door outage
 
+-- the result is that the clock failed
 abbrev pub is_clock_outage : {T : Type 0} → Result T Outage → Bool
 is_clock_outage (Ok value) = false
 is_clock_outage (Err outage) = is_clock outage
 
 -- ---- One step
 
--- a connection was taken, gone through and closed
+-- the port after a connection was accepted, answered and closed
 abbrev pub door_with : Talk → DoorState → DoorState
 door_with talk d = door_after_close (talked talk (door_after_next (Ok true) d))
 
+-- the connection as the definitions see it
 abbrev pub conversation : List (List ℕ) → Talk → Conversation
 conversation request talk =
     record { request = request; reply = talk.reply; is_cut = talk.is_cut; is_asked = is_some talk.minute }
 
--- the first request that waits, and those behind it
+-- the first request that waits, and those after it
 pub record IsNext (door : DoorState) : Type 0 where
   pub request : List (List ℕ)
   pub more : List (List (List ℕ))
@@ -55,7 +60,7 @@ pub record ServedNext (stock : Stock) (before after : Exchange) : Type 0 where
       → IsHeld stock (next_minute before.clock) (conversation (next door).request talk)
   pub needed : (door : IsTrue before.door.is_observable) → IsTrue before.door.keeps_pieces → IsReadAsNeeded (next door).request talk.left
 
--- it was taken, has a byte and got no reply, since the clock has failed
+-- the next connection was accepted, has a byte and got no reply, since the clock has failed
 pub record LeftNext (before after : Exchange) : Type 0 where
   pub left : List (List ℕ)
   pub connection : Connection
@@ -67,25 +72,29 @@ pub record LeftNext (before after : Exchange) : Type 0 where
   pub byte : (door : IsTrue before.door.is_observable) → ¬ (concat (next door).request ≡ [])
   pub needed : (door : IsTrue before.door.is_observable) → IsTrue before.door.keeps_pieces → IsReadAsNeeded (next door).request left
 
+-- the port after no more connections came
 abbrev pub door_at_end : DoorState → DoorState
 door_at_end d = record d { doorway = after_next (Ok false) d.doorway }
 
+-- the port after it failed
 abbrev pub door_failed : DoorState → DoorState
 door_failed d = record d { faults = counted d.faults }
 
+-- one step: the next connection was served, or none came, or the port or the clock failed
 abbrev pub StepBy : Result Bool Outage → Stock → Exchange → Exchange → Type 0
 StepBy (Ok true) stock before after = ServedNext stock before after
 StepBy (Ok false) stock before after = (after.door ≡ door_at_end before.door) × (after.clock ≡ before.clock)
 StepBy (Err outages.Door) stock before after = (after.door ≡ door_failed before.door) × (after.clock ≡ before.clock)
 StepBy (Err outages.Clock) stock before after = LeftNext before after
 
--- ---- So many steps
+-- ---- Several steps
 
--- the doorway after so many
+-- the port after `taken` connections
 abbrev pub serving : ℕ → ℕ → Doorway
 serving port taken = record { port = Some port; listens = true; taken = taken; is_open = false; is_over = false }
 
--- What serving leaves as it is: what door and clock tell of themselves, and but for these their counts of faults.
+-- what serving leaves unchanged: that port and clock are observable, and their counts of faults except for
+-- the failures
 pub record IsKept (door_failed clock_failed : Bool) (before after : Exchange) : Type 0 where
   pub is_observable : after.door.is_observable ≡ before.door.is_observable
   pub pieces : after.door.keeps_pieces ≡ before.door.keeps_pieces
@@ -94,7 +103,7 @@ pub record IsKept (door_failed clock_failed : Bool) (before after : Exchange) : 
   pub asked : ℕ
   pub clock : after.clock ≡ record before.clock { given = given; asked = asked; faults = faults_after clock_failed before.clock.faults }
 
--- these were served
+-- this many connections were served
 pub record WereServed (stock : Stock) (count : ℕ) (before after : Exchange) : Type 0 where
   pub served : List Conversation
   pub requests : before.door.traffic.waiting ≡ map (λ c. c.request) served ++ after.door.traffic.waiting
@@ -105,7 +114,7 @@ pub record WereServed (stock : Stock) (count : ℕ) (before after : Exchange) : 
   pub cut : RoseBy (count_by (λ c. c.is_cut) served) before.door.line_faults after.door.line_faults
   pub clock : after.clock ≡ clock_after_all served before.clock
 
--- so far these connections were served, at these minutes
+-- these connections were served so far, at these minutes
 pub record HavePassed (stock : Stock) (before after : Exchange) : Type 0 where
   pub over : List Connection
   pub minutes : List ℤ

@@ -4,7 +4,7 @@ use Rattle.highest_water.specs.Covers.{all_minutes}
 use Rattle.highest_water.specs.Verdicts.{cells_verdict}
 use Rattle.highest_water.proofs.checking.first_finding.Given as goal
 
--- nothing was wrong so far, and the cells that are left lie from here on
+-- all cells so far are right, and the cells that are left begin here
 abbrev pub invariant-loop-cell : goal.invariant-loop-cell
 invariant-loop-cell g l =
     let meaning = g.C.Curve.meaning l.fn.curve in

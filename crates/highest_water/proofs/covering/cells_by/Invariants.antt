@@ -4,7 +4,7 @@ use Rattle.highest_water.specs.Covers.{peak_cover}
 use Rattle.highest_water.specs.Workings.Walk.{cells_ahead, Stands}
 use Rattle.highest_water.proofs.covering.cells_by.Given as goal
 
--- the cells so far and those that are ahead are all cells
+-- the cells so far and those ahead are all cells
 abbrev pub invariant-loop-found : goal.invariant-loop-found
 invariant-loop-found g l =
     let meaning = g.C.Curve.meaning l.fn.curve in

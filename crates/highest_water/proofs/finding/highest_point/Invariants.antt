@@ -5,7 +5,7 @@ use Rattle.highest_water.specs.Workings.Below.{IsHighestSoFar}
 use Rattle.highest_water.specs.Workings.Walk.{Stands}
 use Rattle.highest_water.proofs.finding.highest_point.Given as goal
 
--- no minute is higher as far as the walk has come
+-- no minute so far is higher
 abbrev pub invariant-loop-found : goal.invariant-loop-found
 invariant-loop-found g l =
     let meaning = g.C.Curve.meaning l.fn.curve in
