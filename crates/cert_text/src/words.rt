@@ -9,6 +9,8 @@ use crate::track_name::TrackName;
 use curve_law::Kind;
 
 /// The track that an event of the kind stands in.
+///
+/// The program doesn't call it.
 pub fn track_of(kind: Kind) -> TrackName
     ensures { result ≡ track_of kind }
 {

@@ -9,6 +9,8 @@ use std::alloc::{AllocError, Global};
 
 /// The events in cells of which the first begins at a minute from -10^12 to 10^12, and which have at
 /// most 6,000,000 minutes together.
+///
+/// The program doesn't call it: it lists the events of all tracks together.
 pub fn track_events(alloc: Global, cells: &Cells, begin: i64) -> Result<Events, AllocError>
     requires few { all_minutes cells.now ≤ 6000000 }
     requires begin { unsigned_abs begin ≤ 10 ^ 12 }

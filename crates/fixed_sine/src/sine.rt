@@ -31,6 +31,8 @@ pub fn isin(p: i64) -> i64
 }
 
 /// The cosine in billionths, from -1,000,000,000 to 1,000,000,000: the sine a quarter further on.
+///
+/// The program doesn't call it: it evaluates the sine at angles that are a quarter further on.
 pub fn icos(p: i64) -> i64
     requires { IsOnCircle p }
     ensures value { result ≡ icos_of (unsigned_abs p) }

@@ -95,6 +95,8 @@ impl BookReader {
 
     /// How many bytes the line that has not ended has so far: at most 4,096, and 0 within a comment
     /// or after a fault.
+    ///
+    /// The program doesn't call it.
     pub fn pending(&self) -> u32
         ensures exact { result ≡ (if is_none self.now.fault then pending_length self.now.bytes else 0) }
         ensures few { result ≤ 4096 }

@@ -12,6 +12,8 @@ use std::alloc::{AllocError, Global};
 /// The cells that show the highest water of the minutes from `begin` on and before `end`, which the
 /// curve tells. It is at the minute `at`, and `value` is the value there. The curve was asked for at
 /// most 2^62 values, and is asked for at most one a cell and one more.
+///
+/// The program doesn't call it: the search for the highest water makes these cells.
 pub fn peak_cover<C: Curve>(
     alloc: Global,
     curve: &mut C,

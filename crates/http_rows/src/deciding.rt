@@ -10,6 +10,8 @@ use crate::row::{Row, row_for};
 use arrayvec::ArrayString;
 
 /// Whether the bytes of a request that came so far settle its reply. It takes no memory.
+///
+/// The program doesn't call it: it finds the row once, by [`row_for`], and uses that.
 pub fn enough(request: &[u8]) -> bool
     ensures { (row : rows.Row) × IsRow request.now row × (result ≡ is_settled row) }
 {
@@ -17,6 +19,8 @@ pub fn enough(request: &[u8]) -> bool
 }
 
 /// Writes the reply to the whole of a request, if it is one that needs no answer of the predictor. It takes no memory.
+///
+/// The program doesn't call it: it finds the row once, by [`row_for`], and uses that.
 pub fn fixed_reply(request: &[u8], out: &mut ArrayString<256>) -> bool
     requires { out.old.bytes ≡ [] }
     ensures { (row : rows.Row) × IsRow request.now row
@@ -32,6 +36,8 @@ pub fn fixed_reply(request: &[u8], out: &mut ArrayString<256>) -> bool
 }
 
 /// Writes the reply that stands for another one where memory is wanting. It takes no memory.
+///
+/// The program doesn't call it: it finds the row once, by [`row_for`], and uses that.
 pub fn unavailable_reply(request: &[u8], out: &mut ArrayString<256>)
     requires { out.old.bytes ≡ [] }
     ensures { (row : rows.Row) × IsRow request.now row × (out.new.bytes ≡ unavailable_of row) }

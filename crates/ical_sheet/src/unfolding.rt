@@ -7,6 +7,8 @@ use decimal_text::Bytes;
 use std::alloc::{AllocError, Global};
 
 /// A text without each CR LF that has a space or a tab directly after it, and without that one.
+///
+/// The program doesn't call it: it writes calendars and reads none.
 pub fn unfold(alloc: Global, text: &[u8]) -> Result<Bytes, AllocError>
     ensures { IfOk result (λ line. line ≡ unfolded text.now) }
 {

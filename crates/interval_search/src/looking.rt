@@ -58,6 +58,8 @@ impl<C: Curve> Search<C> {
     }
 
     /// How many values the curve was asked for.
+    ///
+    /// The program doesn't call it.
     pub fn evaluations(&self) -> u64
         ensures count { result ≡ C.count self.now.curve }
         ensures most { result ≤ self.now.most }

@@ -38,6 +38,8 @@ impl<'a> MarkCurve<'a> {
 
     /// The level against a mark with rates in the plain part of one year alone, its numbers as in
     /// [`new`](MarkCurve::new).
+    ///
+    /// The program doesn't call it: it names the version in [`new`](MarkCurve::new).
     pub fn over(station: &'a StationCurve, times: i64, plus: i64, mark: i64, slack: bool) -> Self
         requires scale { IsScale times plus mark }
         requires slack { OnTrue slack (mark ≡ pos 0) }

@@ -182,7 +182,7 @@ impl StationCurve {
         self.years[year as usize].sums
     }
 
-    /// Nothing: it tells a proof that the curve is within the limits.
+    /// Does nothing, and exists for proofs: its clause says that the curve is within the limits.
     pub fn known(&self)
         ensures { IsGentle self.now }
     {

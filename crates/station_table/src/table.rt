@@ -47,7 +47,8 @@ impl OffsetTable {
         Ok(())
     }
 
-    /// Nothing: it tells a proof that the rows are few and in their ranges.
+    /// Does nothing, and exists for proofs: its clause says that there are fewer than 2^32 rows, each
+    /// in its ranges.
     pub fn known(&self)
         ensures { IsTable self.now }
     {

@@ -31,6 +31,8 @@ pub fn zones_only_label()
 {}
 
 /// The minute of universal time that a local time and its label mean.
+///
+/// The program doesn't call it.
 pub fn minute_of_local(local: Local) -> i64
     requires { IsLocal local }
     ensures { result ≡ minute_of local }

@@ -27,6 +27,8 @@ use zone_time::Zone;
 /// The reply to the whole of a request, over a book and a table, at the present minute. Bytes behind
 /// the request count for nothing.
 ///
+/// The program doesn't call it: it writes fixed replies without allocating, and makes the others.
+///
 /// # Errors
 /// [`AllocError`] says nothing of the request.
 pub fn reply(
