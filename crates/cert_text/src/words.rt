@@ -9,6 +9,8 @@ use crate::track_name::TrackName;
 use curve_law::Kind;
 
 /// Returns the track that holds events of `kind`.
+///
+/// The program doesn't call it.
 pub fn track_of(kind: Kind) -> TrackName
     ensures { result ≡ track_of kind }
 {

@@ -10,6 +10,8 @@ use std::alloc::{AllocError, Global};
 /// Returns the events in `cells`, of which the first begins at the minute `begin`, from -10^12 to 10^12,
 /// and which have at most 6,000,000 minutes together.
 ///
+/// The program doesn't call it: it lists the events of all tracks together.
+///
 /// # Errors
 /// [`AllocError`] if memory runs out.
 pub fn track_events(alloc: Global, cells: &Cells, begin: i64) -> Result<Events, AllocError>

@@ -39,6 +39,8 @@ pub fn isin(p: i64) -> i64
 
 /// Returns the cosine of the angle `p`, in units from 0 to `CIRCLE - 1`: in billionths, from
 /// -1,000,000,000 to 1,000,000,000. It is the sine of the angle plus 90 degrees.
+///
+/// The program doesn't call it: it evaluates the sine at angles that are a quarter further on.
 pub fn icos(p: i64) -> i64
     requires { IsOnCircle p }
     ensures value { result ≡ icos_of (unsigned_abs p) }

@@ -103,6 +103,8 @@ impl BookReader {
 
     /// Returns the number of bytes of the line that has not ended: at most 4,096, and 0 within a comment
     /// or after a fault.
+    ///
+    /// The program doesn't call it.
     pub fn pending(&self) -> u32
         ensures exact { result ≡ (if is_none self.now.fault then pending_length self.now.bytes else 0) }
         ensures few { result ≤ 4096 }

@@ -13,6 +13,8 @@ use std::alloc::{AllocError, Global};
 /// isn't one of them, and over which the curve is valid. The highest water is at minute `at`, and
 /// `value` is the value there. The curve was evaluated at most 2^62 times, and is evaluated at most
 /// once a cell and once more.
+///
+/// The program doesn't call it: the search for the highest water makes these cells.
 pub fn peak_cover<C: Curve>(
     alloc: Global,
     curve: &mut C,

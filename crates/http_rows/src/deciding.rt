@@ -11,6 +11,8 @@ use arrayvec::ArrayString;
 
 /// Returns true if the bytes received so far settle the reply: further bytes can't change it. It doesn't
 /// allocate.
+///
+/// The program doesn't call it: it finds the row once, by [`row_for`], and uses that.
 pub fn enough(request: &[u8]) -> bool
     ensures { (row : rows.Row) × IsRow request.now row × (result ≡ is_settled row) }
 {
@@ -19,6 +21,8 @@ pub fn enough(request: &[u8]) -> bool
 
 /// Writes the reply to `request`, the whole of a request, to the empty `out` and returns true; if the
 /// predictor has to answer it, returns false and writes nothing. It doesn't allocate.
+///
+/// The program doesn't call it: it finds the row once, by [`row_for`], and uses that.
 pub fn fixed_reply(request: &[u8], out: &mut ArrayString<256>) -> bool
     requires { out.old.bytes ≡ [] }
     ensures { (row : rows.Row) × IsRow request.now row
@@ -33,8 +37,10 @@ pub fn fixed_reply(request: &[u8], out: &mut ArrayString<256>) -> bool
     }
 }
 
-/// Writes the reply 503 that replaces any other one if memory runs out to the empty `out`. It doesn't
-/// allocate.
+/// Writes to the empty `out` the reply 503, which replaces any other reply if memory runs out. It
+/// doesn't allocate.
+///
+/// The program doesn't call it: it finds the row once, by [`row_for`], and uses that.
 pub fn unavailable_reply(request: &[u8], out: &mut ArrayString<256>)
     requires { out.old.bytes ≡ [] }
     ensures { (row : rows.Row) × IsRow request.now row × (out.new.bytes ≡ unavailable_of row) }

@@ -8,6 +8,8 @@ use std::alloc::{AllocError, Global};
 
 /// Returns `text` with a backslash before each backslash, semicolon and comma (RFC 5545, 3.3.11).
 /// `text` has no CR and no LF.
+///
+/// The program doesn't call it: a sheet appends to one text.
 pub fn escape(alloc: Global, text: &Text) -> Result<Bytes, AllocError>
     requires { All (λ octet. (octet ≢ 13) × (octet ≢ 10)) text.now }
     ensures { IfOk result (λ bytes. bytes ≡ escaped text.now) }

@@ -14,6 +14,8 @@ const MOST_OCTETS: usize = 75;
 /// Returns the content line `line` folded into physical lines of at most 75 octets, each but the
 /// first after a space, and each with a CR LF at its end. No character is split. `line` is text in
 /// UTF-8 without CR and LF, and begins with no space and no tab.
+///
+/// The program doesn't call it: a sheet appends to one text.
 pub fn fold(alloc: Global, line: &[u8]) -> Result<Bytes, AllocError>
     requires { IsContentLine line.now }
     ensures text { IfOk result (λ text. text ≡ folded line.now) }

@@ -8,6 +8,8 @@ use std::alloc::{AllocError, Global};
 
 /// Returns `text` without each CR LF that a space or a tab directly follows, and without this space
 /// or tab.
+///
+/// The program doesn't call it: it writes calendars and reads none.
 pub fn unfold(alloc: Global, text: &[u8]) -> Result<Bytes, AllocError>
     ensures { IfOk result (λ line. line ≡ unfolded text.now) }
 {

@@ -66,6 +66,8 @@ impl<C: Curve> Search<C> {
     }
 
     /// Returns the number of evaluations of the curve so far.
+    ///
+    /// The program doesn't call it.
     pub fn evaluations(&self) -> u64
         ensures count { result ≡ C.count self.now.curve }
         ensures most { result ≤ self.now.most }

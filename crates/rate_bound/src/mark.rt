@@ -38,6 +38,8 @@ impl<'a> MarkCurve<'a> {
 
     /// Returns the level less a mark with rates outside new-year blends only. The numbers are as of
     /// [`new`](MarkCurve::new).
+    ///
+    /// The program doesn't call it: it names the version in [`new`](MarkCurve::new).
     pub fn over(station: &'a StationCurve, times: i64, plus: i64, mark: i64, slack: bool) -> Self
         requires scale { IsScale times plus mark }
         requires slack { OnTrue slack (mark ≡ pos 0) }

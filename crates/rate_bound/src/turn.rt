@@ -29,6 +29,8 @@ impl<'a> TurnCurve<'a> {
     ghost use Rattle.rate_bound.specs.Meanings.{turn_meaning};
 
     /// Returns the slope with rates outside new-year blends only. It is not yet evaluated.
+    ///
+    /// The program doesn't call it: it names the version in [`new`](TurnCurve::new).
     pub fn over(station: &'a StationCurve) -> TurnCurve<'a>
         ensures meaning { ⟦<TurnCurve<'a> as Curve>⟧.meaning result ≡ turn_meaning First station.now }
         ensures count { ⟦<TurnCurve<'a> as Curve>⟧.count result ≡ 0 }
@@ -37,6 +39,8 @@ impl<'a> TurnCurve<'a> {
     }
 
     /// Returns the slope with rates across a new year too. It is not yet evaluated.
+    ///
+    /// The program doesn't call it: it names the version in [`new`](TurnCurve::new).
     pub fn blended(station: &'a StationCurve) -> TurnCurve<'a>
         ensures meaning { ⟦<TurnCurve<'a> as Curve>⟧.meaning result ≡ turn_meaning Second station.now }
         ensures count { ⟦<TurnCurve<'a> as Curve>⟧.count result ≡ 0 }

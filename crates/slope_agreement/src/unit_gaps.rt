@@ -15,6 +15,8 @@ pub const TWO_CUTS: u64 = 2 * RADIAN as u64;
 /// Returns a bound on the difference between the change of the cosine in a minute and its slope, both
 /// times the units of a radian and in billionths, for a wave of `w` units a minute, from 0 to
 /// 3,600,000,000.
+///
+/// The program doesn't call it: it bounds all waves of a year by their sums.
 pub fn unit_gap(w: i64) -> i128
     requires { IsSpeed w }
     ensures value { result ≡ pos (unit_gap_of (unsigned_abs w)) }

@@ -32,6 +32,8 @@ pub fn zones_only_label()
 
 /// Returns the minute of universal time that a local time with its label means, since
 /// 1970-01-01T00:00Z.
+///
+/// The program doesn't call it.
 pub fn minute_of_local(local: Local) -> i64
     requires { IsLocal local }
     ensures { result ≡ minute_of local }

@@ -28,6 +28,8 @@ use zone_time::Zone;
 /// offsets `table`, at the minute `now` since 1970-01-01T00:00Z. Bytes after the request are
 /// ignored.
 ///
+/// The program doesn't call it: it writes fixed replies without allocating, and makes the others.
+///
 /// # Errors
 /// [`AllocError`] if memory runs out.
 pub fn reply(
