@@ -100,7 +100,7 @@ fn pair(absent: bool, amplitude: i64, epoch: i64) -> (i64, i64)
 pub fn amplitude_and_epoch(name: &Text, text: &[u8]) -> Result<(i64, i64), Why>
     ensures { result ≡ pair_of name.now text.now }
 {
-    // As XTide's tools write an absent constituent.
+    // XTide's tools write an absent constituent like this.
     if text == b"x 0 0".as_slice() {
         return Ok((0, 0));
     }
