@@ -48,7 +48,8 @@ pub fn present_places(
 /// constituents with an amplitude.
 ///
 /// # Errors
-/// [`CurveFault::TooLarge`], then [`CurveFault::TooSteep`].
+/// [`CurveFault::TooLarge`] if the sizes of the amplitudes sum to more than 1,000,000,000 millionths; else
+/// [`CurveFault::TooSteep`] if the sizes times the speeds sum to more than 10^17.
 pub fn check_year(
     book: &SoundBook<'_>,
     station: &Station,
