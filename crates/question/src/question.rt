@@ -1,4 +1,4 @@
-//! A question.
+//! Questions: a command with the values of its keys.
 
 use crate::command::Command;
 use decimal_text::{Text, Words};
