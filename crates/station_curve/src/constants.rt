@@ -26,6 +26,9 @@ const MOST_AMOUNT: u64 = 1_000_000_000;
 const MOST_STEEPNESS: u128 = 100_000_000_000_000_000;
 
 /// Returns the indices of the constituents that have an amplitude at `station`.
+///
+/// # Errors
+/// [`AllocError`] if memory runs out.
 pub fn present_places(
     alloc: Global,
     book: &SoundBook<'_>,
@@ -112,7 +115,10 @@ fn sums(book: &SoundBook<'_>, station: &Station, present: &[usize], year: u32) -
     (amount, steepness)
 }
 
-/// Returns the waves of a year that is needed for the requested minutes, and none of another one.
+/// Returns the waves of year `year` if `is_asked` (it is needed for the requested minutes), else none.
+///
+/// # Errors
+/// [`AllocError`] if memory runs out.
 pub fn waves_if_asked(
     alloc: Global,
     book: &SoundBook<'_>,
