@@ -17,31 +17,31 @@ use Rattle.book_loading.specs.declared.loading.LoadFault.TheVariants.{Failed, To
 use Rattle.book_loading.specs.Loading.{loaded, fault_of_reading, source_of}
 use Rattle.book_loading.specs.Workings.Feeding.{bytes_fed}
 
--- reading failed
+-- the result if reading the file fails
 pub excuses_reading : (limit : ℕ) (firm : Type 0) (file : Option (List ℕ)) (fault : ReadAllFault) → Excuses (source_of_reading fault) firm (whole limit file) fault → Excuses (source_of (fault_of_reading fault)) firm (loaded limit file) (fault_of_reading fault)
 unfolding loaded
 excuses_reading limit firm file reading.Failed excused = λ s. rw (excused s) refl
 excuses_reading limit firm file reading.TooLong excused = rw excused refl
 excuses_reading limit firm file reading.NoMemory excused = tt
 
--- a read failed
+-- the bytes fed if a read fails
 pub failed_meets : (limit : ℕ) (reader : Fed) (file : Option (List ℕ)) (result : Result (Unit {0}) ReadAllFault) → file ≡ None
     → IsErrAnd result (λ it. it ≡ reading.Failed) → Meets source_of_reading (Unit {0}) (whole limit file) (bytes_fed reader result)
 failed_meets limit reader file (Err it) none is = rw (is, none) (λ firm. refl)
 failed_meets limit reader file (Ok done) none is = absurd is
 
--- a line is bad
+-- the result if a line is bad
 pub excuses_form : (limit : ℕ) (firm : Type 0) (file : Option (List ℕ)) (bytes : List ℕ) (fault : BookFault) → whole limit file ≡ Ok bytes → FailsBook fault (book_of bytes) → Excuses (source_of (Book fault)) firm (loaded limit file) (Book fault)
 unfolding loaded
 excuses_form limit firm file bytes form.NoMemory read fails = tt
 excuses_form limit firm file bytes (form.At line why) read fails = rw (read, fails) refl
 
--- neither failed
+-- the result if neither reading nor a line fails
 pub loaded_whole : (limit : ℕ) (file : Option (List ℕ)) (bytes : List ℕ) (book : TheBook) → whole limit file ≡ Ok bytes → book_of bytes ≡ Ok book → loaded limit file ≡ Ok book
 unfolding loaded
 loaded_whole limit file bytes book read gives = rw (read, gives) refl
 
--- no file was opened
+-- the result if no file was opened
 pub unopened : (limit : ℕ) (firm : Type 0) (file : Option (List ℕ)) → (firm → file ≡ None) → firm → loaded limit file ≡ Err Failed
 unfolding loaded
 unopened limit firm file absent = λ s. rw (absent s) refl
@@ -68,7 +68,7 @@ fed_passed P reading.TooLong (Err it) is passed = (λ e. passed.0 refl, λ p. rw
 fed_passed P reading.Failed (Err it) is passed = (λ e. absurd cc, λ p. absurd (let same = passed.1 p in cc))
 fed_passed P reading.NoMemory (Err it) is passed = (λ e. absurd cc, λ p. absurd (let same = passed.1 p in cc))
 
--- all was fed
+-- the result if all bytes were fed
 pub fed_unpassed : (P : Type 0) (result : Result TheBook LoadFault) → (result ≡ Err TooLong → ⊥) → (all_fed ≡ fed_fault reading.TooLong) ↔ P
     → (result ≡ Err TooLong) ↔ P
 fed_unpassed P result unlike passed = (λ e. absurd (unlike e), λ p. absurd (let same = passed.1 p in cc))

@@ -116,7 +116,7 @@ cover-minutes c a n = (cover-right c a n).whole
 pub cover-few : (c : Meaning) (a : ℤ) (n : ℕ) → length (cover c a n) ≤ n
 cover-few c a n = (cover-right c a n).few
 
--- a cover is accepted
+-- the cells of a span by the halving rule are accepted
 pub cover-accepted : (c : Meaning) (a : ℤ) (n : ℕ) → verdict c a n (cover c a n) ≡ Accepted
 unfolding verdict
 cover-accepted c a n =

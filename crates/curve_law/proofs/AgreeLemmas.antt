@@ -18,7 +18,7 @@ use Rattle.curve_law.specs.Verdicts.{same_kind, step_verdict, cell_verdict, cell
 use Rattle.curve_law.proofs.CoverLemmas.{by_test, split_within-step, cover_within-step}
 use Rattle.curve_law.proofs.TrackLemmas.{plain_list-zero, plain_list-one, plain_list-suc}
 
--- they agree over each part of the span
+-- curves that agree over a span agree over each part of it
 AgreeOver-part : (c d : Meaning) (a : ℤ) (n j k : ℕ) → j + k ≤ n → AgreeOver c d a n → AgreeOver c d (a +ℤ pos j) k
 AgreeOver-part c d a n j k within agree = record {
   rising = agree.rising;
@@ -28,7 +28,7 @@ AgreeOver-part c d a n j k within agree = record {
   rates = λ i l few some most. let at : a +ℤ pos j +ℤ pos i ≡ a +ℤ pos (j + i) = omega (arith, ints) in rw at (agree.rates (j + i) l (omega arith) some most);
 }
 
--- they agree at the first minute
+-- curves that agree over a span agree at its first minute
 value-here : (c d : Meaning) (a : ℤ) (n : ℕ) → AgreeOver c d a n → c.track.value a ≡ d.track.value a
 value-here c d a n agree = let here : a +ℤ pos 0 ≡ a = omega (arith, ints) in rw here at (agree.values 0 (omega arith))
 

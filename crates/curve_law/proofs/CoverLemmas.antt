@@ -11,7 +11,7 @@ use Rattle.curve_law.specs.Cover.{is_quiet, unit_cell, split_within, split, cove
 abbrev pub halved : Meaning → ℤ → ℕ → List Cell → List Cell
 halved c a n halves = cond (nat_le n 1) (unit_cell c.track a ∷ []) (cond (is_quiet c a n) (Quiet n ∷ []) halves)
 
--- a fact that a test decides
+-- a fact by cases of a test
 pub by_test : {P : Type 0} (b : Bool) → (b ≡ true → P) → (b ≡ false → P) → P
 by_test true is isn = is refl
 by_test false is isn = isn refl

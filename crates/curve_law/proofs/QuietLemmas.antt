@@ -62,7 +62,7 @@ same_side c a j i (pos r) some is keeps =
     let below = stays_below c.track.value a r j i steps in
     by_sides (c.track.value a) (c.track.value (a +ℤ pos (j + i))) (c.track.value (a +ℤ pos j)) (pos (r * (j + i))) above below keeps
 
--- the parts of the test
+-- the conditions of a quiet cell
 quiet_parts : (c : Meaning) (a : ℤ) (n : ℕ) → is_quiet c a n ≡ true → (2 ≤ n) × (n ≤ MOST_MINUTES) × (keeps_side (c.rate a n) n (c.track.value a) (c.track.value (a +ℤ pos n)) ≡ true)
 unfolding is_quiet
 quiet_parts c a n quiet = (grind (arith, nat_tests), grind (arith, nat_tests), grind arith)

@@ -48,7 +48,7 @@ wanted-is c begin end between =
 pub covered-is : (covered : ℤ) (n : ℕ) → covered ≡ pos (min n (2 ^ 63 - 1)) → to_z w64 (of_z w64 covered) ≡ covered
 covered-is covered n is = omega (arith, ints)
 
--- a count that is the span's
+-- a saturated count that equals the span's minutes is exact
 pub counted-whole : (c : Meaning) (begin end covered : ℤ) (n : ℕ) → IsBetween c begin end → covered ≡ pos (min n (2 ^ 63 - 1)) → of_z w64 covered ≡ of_z w64 (to_z w64 (of_z w64 end) -ℤ to_z w64 (of_z w64 begin)) → n ≡ unsigned_abs (end -ℤ begin)
 counted-whole c begin end covered n between is same =
     let minutes : covered ≡ end -ℤ begin = sym (covered-is covered n is) ∙ ap (to_z w64) (rw (ends-are c begin end between) at same) ∙ wanted-is c begin end between in

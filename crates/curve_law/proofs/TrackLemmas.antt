@@ -28,7 +28,7 @@ pub plain_list-suc : (t : Track) (a : ℤ) (n : ℕ) → plain_list t a (suc n) 
 plain_list-suc t a n =
     let more : suc n ≡ 1 + n = omega arith in rw more (plain_list-add t a 1 n)
 
--- the list of one minute
+-- the plain list of one minute
 pub plain_list-one : (t : Track) (a : ℤ) → plain_list t a 1 ≡ cond (has_event t a) (event_at t a ∷ []) []
 unfolding plain_list minutes
 plain_list-one t a = elim (has_event t a) as (λ v. map (event_at t) (cond v (a ∷ []) []) ≡ cond v (event_at t a ∷ []) []) [ true ↦ refl | false ↦ refl ]

@@ -30,7 +30,7 @@ digit_is b h = grind (arith, nat_tests)
 pub digit_at : (text : List ℕ) (i : ℕ) → list_all is_ascii_digit text ≡ true → i < length text → (48 ≤ get_or text i 0) × (get_or text i 0 ≤ 57)
 digit_at text i h lt = digit_is (get_or text i 0) (AllPass-from_list_all is_ascii_digit text h i 0 lt)
 
--- one more digit
+-- the number of a text's first digits after one more digit
 pub next_is : (text : List ℕ) (i : ℕ) → list_all is_ascii_digit text ≡ true → i < length text → digits_value 10 (take (i + 1) text) ≡ digits_value 10 (take i text) * 10 + (get_or text i 0 - 48)
 next_is text i h lt =
     rw (← digit_value_is (get_or text i 0) (AllPass-from_list_all is_ascii_digit text h i 0 lt)) (after_more 0 text i lt)

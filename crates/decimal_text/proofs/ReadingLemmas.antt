@@ -17,7 +17,7 @@ use Rattle.decimal_text.specs.Decimal.{Decimal, after_point, made_of, scaled, sc
 use Rattle.decimal_text.specs.Workings.Steps.{Stands}
 use Rattle.decimal_text.proofs.StepsLemmas.{ten_up}
 
--- the point
+-- the results of `after_point`
 pub after_point_none : (xs : List ℕ) → length xs ≡ 0 → Some xs ≡ after_point xs
 unfolding after_point
 after_point_none [] h = refl
@@ -33,7 +33,7 @@ unfolding after_point
 after_point_else [] h e = absurd (omega arith)
 after_point_else (x ∷ xs) h e = simp (ne_eqb x 46 e)
 
--- the whole digits
+-- the digits before the point: the longest run of digits that the text begins with
 pub whole_is : (xs : List ℕ) (n : ℕ) → n ≤ length xs → ((k : ℕ) → k < n → is_ascii_digit (get_or xs k 0) ≡ true) → (n < length xs → is_ascii_digit (get_or xs n 0) ≡ false) → take_while is_ascii_digit xs ≡ take n xs
 whole_is xs n in_list before at = ap (λ k. take k xs) (prefix_len_is is_ascii_digit xs n 0 in_list before at)
 
@@ -56,12 +56,12 @@ small_stays n value many h =
     let same : min (n + 1) 18 ≡ min n 18 = omega arith in
     rw same h
 
--- the digits on both sides as one number
+-- the number of two lists of digits, one after the other
 pub after_append : (n : ℕ) (xs ys : List ℕ) → digits_value_after 10 n (xs ++ ys) ≡ digits_value_after 10 (digits_value_after 10 n xs) ys
 after_append n [] ys = refl
 after_append n (c ∷ xs) ys = after_append (n * 10 + digit_value c) xs ys
 
--- the fraction in steps
+-- the digits of a fraction in steps of 1 / 10 ^ places, exact or too fine
 pub exact_total : (places count n : ℕ) (s : Steps) → Stands places count n s → s.exact ≡ true → n * 10 ^ places ≡ (s.value * 10 ^ s.left) * 10 ^ count + 0
 exact_total places count n s h e =
     let is = h.exact e in
@@ -129,14 +129,14 @@ scaled_exact places n d s h k stands e =
     let quotient : ((s.value * 10 ^ s.left) * unit + 0) / unit ≡ s.value * 10 ^ s.left = div-mul-add (s.value * 10 ^ s.left) unit 0 (omega arith) in
     simp (le-ltb 18 (length d.whole) h, number, total, rest, quotient)
 
--- the sign
+-- a number with its sign, from its size
 pub signed_true : (negative : Bool) (n : ℕ) → negative ≡ true → signed negative n ≡ neg_ℤ (pos n)
 signed_true negative n e = simp e
 
 pub signed_false : (negative : Bool) (n : ℕ) → negative ≡ false → signed negative n ≡ pos n
 signed_false negative n e = simp e
 
--- the text as a whole
+-- the decimal of a whole text, from the digits before the point
 pub whole_front : (body front : List ℕ) (count : ℕ) → count ≡ length (take_while is_ascii_digit body) → front ≡ take count body → front ≡ take_while is_ascii_digit body
 whole_front body front count e h = h ∙ ap (λ k. take k body) (e ∙ length-prefix_len is_ascii_digit body)
 

@@ -54,7 +54,7 @@ more_within places count n digit s some nine h =
     let none : h.extra ≡ 0 = elim h.one_side [ inl e ↦ e | inr z ↦ absurd (omega arith) ] in
     within places count n digit s.value s.left h.extra s.exact some none nine h.counted h.above h.fine h.below h.small
 
--- before the first digit
+-- the state before the first digit of the fraction
 pub none_yet : (places whole : ℕ) → places ≤ 9 → whole < 10 ^ 18 → Stands places 0 whole (record { value = whole; left = places; exact = true })
 none_yet places whole few short = record {
   extra = 0;

@@ -9,7 +9,7 @@ use mir.Val.{SFits}
 use Rattle.decimal_text.specs.Writing.{last_digits, minus_of, fraction_of, write_of}
 use Rattle.decimal_text.proofs.StepsLemmas.{ten_up}
 
--- one digit more
+-- the text after one more digit
 pub push_next : (out : List ℕ) (place n unit : ℕ) → 0 < place → unit ≡ 10 ^ (place - 1) → (out ++ (48 + n / unit % 10) ∷ []) ++ last_digits (place - 1) n ≡ out ++ last_digits place n
 unfolding last_digits
 push_next out zero n unit some is = absurd (omega arith)
@@ -23,7 +23,7 @@ unfolding last_digits
 append_none out zero n h = sym (append-nil out)
 append_none out (suc place) n h = absurd (omega arith)
 
--- digits before the point
+-- a bound on the length of the digits before the point
 pub whole_short : (size places : ℕ) → size < 10 ^ 19 → places ≤ 6 → length (decimal (size / 10 ^ places)) ≤ 19 - places
 whole_short size places small few =
     let all : 19 ≡ (19 - places) + places = omega arith in

@@ -61,7 +61,8 @@ fn whole_digits(body: &[u8]) -> (u64, usize)
     (value, body.len())
 }
 
-/// Returns the bytes after the point if `rest` begins with one, and no bytes if `rest` is empty.
+/// Returns the bytes after the point if `rest` begins with one, no bytes if `rest` is empty, and else
+/// `None`.
 fn after_point(rest: &[u8]) -> Option<&[u8]>
     ensures { option_copied result ≡ after_point rest.now }
 {
@@ -83,7 +84,8 @@ fn have_digit(whole: &[u8], fraction: &[u8]) -> bool
     !whole.is_empty() || !fraction.is_empty()
 }
 
-/// Returns the number of steps of `1 / 10^places`, where `value` is the number that the digits `whole` write.
+/// Returns the number of steps of `1 / 10^places`, from the digits before and after the point; `value`
+/// is the number that the digits `whole` write.
 fn read_parts(
     negative: bool,
     whole: &[u8],

@@ -15,7 +15,7 @@ use Rattle.curve_law.proofs.VerdictLemmas.{one_kind}
 use Rattle.event_list.specs.Order.{comes_before, with_event, ordered}
 use Rattle.event_list.specs.Workings.Coming.{IsAscending}
 
--- the order by three numbers
+-- the order of events as an order of three numbers
 abbrev before : ℤ → ℕ → ℤ → ℤ → ℕ → ℤ → Bool
 before m p l n q k = int_lt m n || (int_eq m n && (nat_lt p q || (p == q && int_lt l k)))
 

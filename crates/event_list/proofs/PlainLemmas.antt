@@ -43,7 +43,7 @@ no-slack : (o : Option Slack) → is_none o ≡ true → o ≡ None
 no-slack None is = refl
 no-slack (Some slack) is = cc
 
--- the offsets of such a basis
+-- the offsets of a basis that moves nothing
 pub record Plain (b : Basis) : Type 0 where
   pub high : b.high ≡ usual
   pub low : b.low ≡ usual

@@ -33,7 +33,7 @@ pub fn leading_of(turn: Option<Event>, slack: Option<Event>, mark: Option<Event>
     }
 }
 
-/// Returns true if `second`, if it is an event, doesn't come before `first`.
+/// Returns true unless `second` is an event that comes before `first`, or the only event of the two.
 fn leads(first: Option<Event>, second: Option<Event>) -> bool
     ensures { result ≡ leads first second }
 {

@@ -25,6 +25,9 @@ pub fn track_events(alloc: Global, cells: &Cells, begin: i64) -> Result<Events, 
 }
 
 /// Appends the events of a track's `cells`, which begin at the minute `begin`.
+///
+/// # Errors
+/// [`AllocError`] if memory runs out.
 pub fn add_track_events(
     events: &mut Vec<Event>,
     cells: &Cells,
@@ -57,6 +60,9 @@ fn add_event(events: &mut Vec<Event>, minute: i64, cell: Cell) -> Result<(), All
 }
 
 /// Appends the events of a track, if it is requested.
+///
+/// # Errors
+/// [`AllocError`] if memory runs out.
 pub fn add_followed_events(
     events: &mut Vec<Event>,
     cells: &Option<Cells>,

@@ -35,7 +35,7 @@ chord-row k h =
     let all = and_parts _ _ (agree_below_at is_row (λ _. true) 360 k refl h) in
     ((Decides-int_eq _ _).0 all.0, (Decides-int_eq _ _).0 all.1)
 
--- the rows fit their types
+-- the numbers of a row fit their types
 pub record Fits (s u : ℤ) : Type 0 where
   pub sine : unsigned_abs s ≤ 1000000000
   pub sine_kept : to_z w32 (of_z w32 s) ≡ s
@@ -282,7 +282,7 @@ chord-size turn in_turn =
     near-size : (z sine : ℤ) → unsigned_abs (z -ℤ sine) ≤ 38100 → unsigned_abs sine ≤ 1000000000 → unsigned_abs z ≤ 1000038100
     near-size z sine near most = omega (arith, ints, near, most)
 
--- the sum in the code
+-- the sum that the code computes fits 64 bits
 pub chord-sum : (here gain sine : ℤ) → here ≡ sine → unsigned_abs gain ≤ 17452406 → unsigned_abs sine ≤ 1000000000
     → to_z w64 (of_z w64 (to_z w64 (of_z w64 here) +ℤ to_z w64 (of_z w64 gain))) ≡ sine +ℤ gain
 chord-sum here gain sine is_here small most = omega (arith, ints)

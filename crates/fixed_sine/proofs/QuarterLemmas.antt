@@ -61,7 +61,7 @@ pub quarter_of-ninety : quarter_of 54000000000 ≡ pos 1000000000
 unfolding quarter_of scaled_between correction sine_at sines
 quarter_of-ninety = refl
 
--- the same gain by the slope at the begin of the degree
+-- the gain in terms of the slope at the begin of the degree
 pub by_slope : (r u c : ℕ) → r ≤ degree → r * ((2400000000 * u + 600000000 * c) - r * c) ≡ 2400000000 * r * u + r * (600000000 - r) * c
 by_slope r u c h =
     let q = 600000000 - r in

@@ -58,7 +58,7 @@ scaled-next k h =
     let up = (sines_rise k h).up in
     formula-end _ _ _ ∙ ap (λ n. 1440000000000000000 * n) (omega arith) ∙ sym (formula-begin _ _ _)
 
--- the formula at an angle
+-- the scaled formula at an angle of the first quarter
 pub num : ℕ → ℕ
 num p = scaled (p / 600000000) (p % 600000000)
 
@@ -108,7 +108,7 @@ num-between k r h small =
           num-at (600000000 * k + r) (k + 1) 0 (omega arith) (omega arith) ∙ sym (scaled-next k h) ∙ ap (scaled k) (sym last))
     ]
 
--- by the size of the correction, the next degree included
+-- the scaled formula in terms of the correction's size, the begin of the next degree included
 pub num-formula : (k r : ℕ) → k < 90 → r ≤ 600000000 → num (600000000 * k + r) ≡ formula (get_or sines k 0) (get_or sines (k + 1) 0 - get_or sines k 0) (unsigned_abs (correction k)) r
 unfolding scaled
 num-formula k r h small =

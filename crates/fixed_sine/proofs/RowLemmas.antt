@@ -149,6 +149,6 @@ gentle k r sine size slope h small row =
           })
     ]
 
--- the sum in the code
+-- the sum that the code computes fits 64 bits
 pub summed : (here gain z sine : ℤ) → here ≡ sine → sine +ℤ gain ≡ z → unsigned_abs gain ≤ 300000000 → unsigned_abs z ≤ 1000000000 → to_z w64 (of_z w64 (to_z w64 (of_z w64 here) +ℤ to_z w64 (of_z w64 gain))) ≡ z
 summed here gain z sine is_here sum small most = omega (arith, ints)

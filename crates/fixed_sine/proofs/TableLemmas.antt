@@ -76,7 +76,7 @@ sines_rise k h =
       gentle = leb-true _ _ last.1;
     }
 
--- the rows of the code
+-- the rows of the code are those of the table
 unfoldable is_row : ℕ → Bool
 is_row k =
     let row = get_or ROWS k (pos 0, 0, 0) in

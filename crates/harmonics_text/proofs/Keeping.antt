@@ -255,7 +255,7 @@ end_fails d n (b ∷ bs) piece last rest (lines.Bad why) none cut_is fails =
     let bad : after_line d (b ∷ bs ++ last) ≡ Err why = sym (held_line d (b ∷ bs ++ last)) ∙ rw fails refl in
     rw (cut_is.0, ← append_assoc (b ∷ bs) last (10 ∷ rest)) (line_is d n (b ∷ bs ++ last) rest (Err why) both bad)
 
--- the file ends in a line
+-- the result if the file ends within a line
 
 abbrev complete : Progress → Result Book At
 complete q = finished q.number (book_in q.draft)

@@ -50,6 +50,9 @@ impl Column {
     }
 
     /// Appends `value`.
+    ///
+    /// # Errors
+    /// [`AllocError`] if memory runs out.
     pub fn push(&mut self, value: i64) -> Result<(), AllocError>
         ensures { OnOk result (self.new ≡ self.old ++ value ∷ []) }
     {

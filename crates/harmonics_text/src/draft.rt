@@ -38,6 +38,10 @@ pub enum Draft {
 
 impl Draft {
     /// Reads the next line of the file.
+    ///
+    /// # Errors
+    /// [`LineFault::Bad`] with the first rule that the line breaks; [`LineFault::NoMemory`] if memory
+    /// runs out.
     #[tactic(auto, unfolding(crate::specs::Workings::Drafts::after_line))]
     pub fn add_line(&mut self, alloc: Global, line: &[u8]) -> Result<(), LineFault>
         requires { IsDraft self.old }

@@ -7,25 +7,40 @@ use std::alloc::AllocError;
 /// The reason why a line wasn't read.
 #[derive(Clone, Copy, Debug, PartialEq, Eq)]
 pub enum LineFault {
+    /// Out of memory.
     NoMemory,
+    /// The line breaks a rule: the first reason.
     Bad(Why),
 }
 
 /// The fault of a line. The file format numbers these reasons from 1 (docs/FORMATS.md).
 #[derive(Clone, Copy, Debug, PartialEq, Eq)]
 pub enum Why {
+    /// A number of constituents or years isn't from 1 to 500.
     BadCount,
+    /// A name has a bad byte or length, or is that of an earlier constituent.
     BadName,
+    /// A number is missing or isn't a decimal.
     BadNumber,
+    /// A number has more decimal places than its unit.
     TooFine,
+    /// A number is out of its range.
     OutOfRange,
+    /// The second table has another number of years than the first.
     YearsDiffer,
+    /// A line is of another constituent than the next one.
     WrongConstituent,
+    /// A table doesn't end with `*END*`.
     NoEnd,
+    /// A meridian or a zone is bad.
     BadMeridian,
+    /// The unit of a datum is missing or unknown.
     BadUnits,
+    /// The file ends too early.
     CutShort,
+    /// The file has more than 20,000 stations.
     TooManyStations,
+    /// A line other than a comment has more than 4,096 bytes.
     LineTooLong,
 }
 

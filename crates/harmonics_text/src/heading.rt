@@ -61,6 +61,10 @@ fn new_name(alloc: Global, earlier: &Constituents, token: &[u8]) -> Result<Text,
 }
 
 /// Returns the constituent of line `text`, after the constituents `earlier`.
+///
+/// # Errors
+/// [`Why::BadName`] if the name is bad or not new; else [`Why::BadNumber`], [`Why::TooFine`] or
+/// [`Why::OutOfRange`] for the speed; [`LineFault::NoMemory`] if memory runs out.
 #[tactic(auto, unfolding(crate::specs::Rules::constituent_of, crate::specs::Rules::constituent_from))]
 pub fn constituent(
     alloc: Global,

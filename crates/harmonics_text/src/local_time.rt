@@ -104,6 +104,9 @@ fn zone_name(alloc: Global, token: &[u8]) -> Result<Text, LineFault>
 }
 
 /// Returns the meridian and the zone of line `text`.
+///
+/// # Errors
+/// [`Why::BadMeridian`] if the line has another form; [`LineFault::NoMemory`] if memory runs out.
 #[tactic(auto, unfolding(crate::specs::Rules::local_time_of, crate::specs::Rules::local_time_from))]
 pub fn local_time_of_line(alloc: Global, text: &[u8]) -> Result<LocalTime, LineFault>
     ensures { Follows (λ p. p) result (local_time_of text.now) }

@@ -12,6 +12,9 @@ use decimal_text::Text;
 use std::alloc::{AllocError, Global};
 
 /// Returns the characters of `latin`, in ISO 8859-1, as UTF-8.
+///
+/// # Errors
+/// [`AllocError`] if memory runs out.
 pub fn utf8_of(alloc: Global, latin: &[u8]) -> Result<Text, AllocError>
     ensures { IfOk result (λ t. t ≡ encode_utf8_all latin.now) }
 {
@@ -36,6 +39,9 @@ fn is_printable(latin: &[u8]) -> bool
 }
 
 /// Returns the name in `latin`, of 1 to `most` bytes, as UTF-8.
+///
+/// # Errors
+/// [`Why::BadName`] if the length or a byte is bad; [`LineFault::NoMemory`] if memory runs out.
 #[tactic(auto, unfolding(crate::specs::Rules::name_of))]
 pub fn name_of(alloc: Global, latin: &[u8], most: usize) -> Result<Text, LineFault>
     ensures { Follows (λ t. t) result (name_of most latin.now) }

@@ -69,6 +69,10 @@ impl Pending {
     }
 
     /// Appends `more` to the line.
+    ///
+    /// # Errors
+    /// [`Why::LineTooLong`] if the line exceeds 4,096 bytes and isn't a comment; [`LineFault::NoMemory`]
+    /// if memory runs out.
     pub fn add(&mut self, more: &[u8]) -> Result<(), LineFault>
         ensures { Follows (λ _. self.new) result (held (self.old ++ more.now)) }
     {
@@ -85,6 +89,10 @@ impl Pending {
     }
 
     /// Appends `last`, the last bytes of the line, if there are any bytes before them.
+    ///
+    /// # Errors
+    /// [`Why::LineTooLong`] if the line exceeds 4,096 bytes and isn't a comment; [`LineFault::NoMemory`]
+    /// if memory runs out.
     pub fn end(&mut self, last: &[u8]) -> Result<(), LineFault>
         ensures { Follows (λ _. self.new) result (if is_filled self.old then held (self.old ++ last.now) else Ok []) }
     {

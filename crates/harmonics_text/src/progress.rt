@@ -49,6 +49,9 @@ impl Progress {
 
     /// Reads `piece`. Lines that begin and end in it are read without being copied. After a fault the
     /// state is somewhere in the piece, and must not be read on.
+    ///
+    /// # Errors
+    /// [`BookFault::At`] with the first bad line; [`BookFault::NoMemory`] if memory runs out.
     pub fn read_piece(&mut self, alloc: Global, piece: &[u8]) -> Result<(), BookFault>
         requires sound { IsProgress self.old }
         requires few { self.old.number + length piece.now < 2 ^ 32 }
@@ -79,6 +82,9 @@ impl Progress {
     }
 
     /// Ends the last line at the end of the file.
+    ///
+    /// # Errors
+    /// [`BookFault::At`] if the last line is bad; [`BookFault::NoMemory`] if memory runs out.
     #[tactic(auto, unfolding(crate::specs::Workings::Readers::ended))]
     pub fn end(&mut self, alloc: Global) -> Result<(), BookFault>
         requires sound { IsProgress self.old }
@@ -96,6 +102,9 @@ impl Progress {
     }
 
     /// Returns the book after the last line has ended.
+    ///
+    /// # Errors
+    /// [`BookFault::At`] with [`Why::CutShort`] if the file ends too early.
     pub fn into_book(self) -> Result<Book, BookFault>
         ensures { GivesAt result (finished self.number (book_in self.draft)) }
     {

@@ -77,6 +77,9 @@ fn parse_units(token: &[u8]) -> Result<Units, Why>
 }
 
 /// Returns the datum of line `text`, in millionths, and its unit.
+///
+/// # Errors
+/// [`Why::BadUnits`] if the line isn't a number and a known unit, else the fault of the number.
 #[tactic(auto, unfolding(crate::specs::Rules::datum_of))]
 pub fn datum(text: &[u8]) -> Result<(i64, Units), Why>
     ensures { result ≡ datum_of text.now }
@@ -96,11 +99,15 @@ fn pair(absent: bool, amplitude: i64, epoch: i64) -> (i64, i64)
 }
 
 /// Returns the amplitude and the epoch of the constituent `name` in line `text`.
+///
+/// # Errors
+/// [`Why::WrongConstituent`] if the line begins with another name, else the fault of the first bad
+/// number.
 #[tactic(auto, using(crate::proofs::Values::absent_pair), unfolding(crate::specs::Rules::pair_of, crate::specs::Rules::pair_from))]
 pub fn amplitude_and_epoch(name: &Text, text: &[u8]) -> Result<(i64, i64), Why>
     ensures { result ≡ pair_of name.now text.now }
 {
-    // As XTide's tools write an absent constituent.
+    // XTide's tools write an absent constituent like this.
     if text == b"x 0 0".as_slice() {
         return Ok((0, 0));
     }

@@ -92,6 +92,10 @@ fn check_name(name: &Text, text: &[u8]) -> Result<(), Why>
 }
 
 /// Returns `table`, which is incomplete, after its next line `text`.
+///
+/// # Errors
+/// [`Why::WrongConstituent`] if the line should name the next constituent and doesn't, else the fault of
+/// the first bad number; [`LineFault::NoMemory`] if memory runs out.
 #[tactic(auto, unfolding(crate::specs::Workings::Drafts::after_table_line, crate::specs::Workings::Drafts::after_name))]
 pub fn with_line(
     table: Table,

@@ -24,7 +24,7 @@ values_push name fields field =
     rw (filter-append (λ f. str_eq_ignore_ascii_case f.0 name) fields (field ∷ []))
     (pushed (str_eq_ignore_ascii_case field.0 name) (filter (λ f. str_eq_ignore_ascii_case f.0 name) fields) field)
 
--- one more field of the name
+-- the count after one more field of the name
 pub one_more : (bytes name : List ℕ) (fields : List HeaderSpan) (i : ℕ) (d : HeaderSpan) → i < length fields
     → str_eq_ignore_ascii_case (span_bytes bytes (get_or fields i d).name) name ≡ true
     → values_of name (map (header_bytes bytes) (take (i + 1) fields))
@@ -34,7 +34,7 @@ one_more bytes name fields i d within is =
     ∙ values_push name (map (header_bytes bytes) (take i fields)) (header_bytes bytes (get_or fields i d))
     ∙ rw is refl
 
--- a field of another name
+-- the count after a field of another name
 pub another : (bytes name : List ℕ) (fields : List HeaderSpan) (i : ℕ) (d : HeaderSpan) → i < length fields
     → str_eq_ignore_ascii_case (span_bytes bytes (get_or fields i d).name) name ≡ false
     → values_of name (map (header_bytes bytes) (take (i + 1) fields)) ≡ values_of name (map (header_bytes bytes) (take i fields))
@@ -54,7 +54,7 @@ length_push values value = grind (arith, common_steps)
 abbrev pub noted : ℕ → List ℕ → Occurs
 noted count first = record { count = count; first = first }
 
--- after the last field
+-- the count after the last field
 pub all_named : (bytes name : List ℕ) (fields : List HeaderSpan) (i : ℕ) (seen : Occurs) → length fields ≤ i
     → seen.count ≡ length (values_of name (map (header_bytes bytes) (take i fields)))
     → seen.first ≡ first_or_empty (values_of name (map (header_bytes bytes) (take i fields)))

@@ -11,11 +11,11 @@ pub enum Rejection {
     BadRequest,
     /// The server has no such path.
     NotFound,
-    /// The path is for GET and HEAD.
+    /// The path is for GET and HEAD, and the method is another one.
     WantsGet,
-    /// The path is for POST.
+    /// The path is for POST, and the method is another one.
     WantsPost,
-    /// The length of the body is missing or unclear.
+    /// A POST has no Content-Length.
     LengthRequired,
     /// The body is longer than 4,194,304 bytes.
     BodyTooLarge,

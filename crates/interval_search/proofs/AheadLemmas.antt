@@ -59,7 +59,7 @@ begun-stands c values count end at p some is near stands =
       few = omega arith;
     }
 
--- the same in terms of a call's result
+-- beginning a block doesn't change the cells, in terms of a call's result
 pub begun-at : (c : Meaning) (values : ℤ → ℤ) (count more : ℕ) (end : ℤ) (at : Point) (b : ℤ) (p : Point) (old new : List Point) → at.minute <ℤ end → b ≡ at.minute +ℤ pos (min (minutes_to at.minute end) MOST_MINUTES) → p.minute ≡ b → p.value ≡ values b → more ≡ count + 1 → old ≡ [] → new ≡ []
     → Stands c values count end at old → Stands c values more end at (p ∷ new) × (cells_ahead c end at.minute (p ∷ new) ≡ cells_ahead c end at.minute old)
 begun-at c values count more end at b p old new some is minute near counted empty none stands =
@@ -80,7 +80,7 @@ pieces-end values end a (p ∷ ps) pieces =
     let rest = pieces-end values end p.minute ps pieces.3 in
     omega (arith, ints)
 
--- a power is at least 1
+-- a piece is at most MOST_MINUTES long, since a power is at least 1
 one_or_more : (k n : ℕ) → n * 2 ^ k ≤ MOST_MINUTES → n ≤ MOST_MINUTES
 one_or_more k n few = let p = pow_pos k in let q = mul-le-mul_left n p in omega (arith, q)
 
@@ -203,7 +203,7 @@ cell-minutes c a b cell some one =
     let same = rw one at whole in
     omega (arith, ints)
 
--- a cell is returned
+-- the cells left after a cell is returned
 pub given-cells : (c : Meaning) (end a : ℤ) (p : Point) (ps : List Point) (cell : Cell) → split c a (minutes_to a p.minute) ≡ cell ∷ [] → cells_ahead c end a (p ∷ ps) ≡ cell ∷ cells_ahead c end p.minute ps
 unfolding cells_ahead
 given-cells c end a p ps cell one = rw one refl

@@ -42,7 +42,7 @@ pub with_item-good : (origin : Origin) (command : Command) (place : ℕ) (item :
 unfolding with_item
 with_item-good origin command place item said text k h named new good = rw (h, ← named, new, good)
 
--- no item is left
+-- the texts if no item is left
 with_items-none : (origin : Origin) (command : Command) (place : ℕ) (items : List Item) (i : ℕ) (said : Said) → length items ≤ i
     → with_items origin command place (drop i items) said ≡ Ok said
 unfolding with_items
@@ -86,7 +86,7 @@ with_items-step origin command items i item whole lt is e h =
     let longer : take (i + 1) items ≡ take i items ++ item ∷ [] = take_more items i item lt ∙ ap (λ x. take i items ++ x ∷ []) (sym is) in
     e ∙ more ∙ ap (λ first. with_items origin command (i + 1 + 1) (drop (i + 1) items) (said_by first)) (sym longer)
 
--- after the last item
+-- the texts after the last item
 pub with_items-end : (origin : Origin) (command : Command) (items : List Item) (i : ℕ) (whole : Result Said AskFault) → length items ≤ i
     → whole ≡ with_items origin command (i + 1) (drop i items) (said_by (take i items)) → whole ≡ Ok (said_by items)
 with_items-end origin command items i whole ge e =

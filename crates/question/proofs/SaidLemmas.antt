@@ -14,7 +14,7 @@ use Rattle.question.specs.Keys.{all_keys, name_of, has_key, key_named}
 use Rattle.question.specs.Questions.{also}
 use Rattle.question.specs.Workings.Said.{text_after, said_by}
 
--- an item more
+-- the text for a key after one more item
 text_after-end : (items : List Item) (item : Item) (k : Key) (earlier : Option (List ℕ))
     → text_after (items ++ item ∷ []) k earlier ≡ (if bytes_eq (name_of k) item.key then item.value else text_after items k earlier)
 text_after-end [] item k earlier = refl

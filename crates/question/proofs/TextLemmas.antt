@@ -14,7 +14,7 @@ use Rattle.question.specs.declared.question.ZoneWord.{ZoneWord}
 use Rattle.question.specs.Forms.{after, offset_of, file_zone, zone_of}
 use Rattle.question.specs.Words.{is_equals_sign, item_of}
 
--- the first byte
+-- the rest of a text after its first byte
 after_none : (c : ℕ) (bs : List ℕ) → ((rest : List ℕ) → bs ≢ c ∷ rest) → None ≡ after c bs
 after_none c [] h = refl
 after_none c (b ∷ rest) h =

@@ -10,31 +10,31 @@ use crate::origin::Origin;
 pub enum Command {
     /// The events of a station over a span.
     Predict,
-    /// A certificate of these events.
+    /// A certificate of the events of a station over a span.
     Certify,
-    /// The check of such a certificate.
+    /// The check of a certificate of events.
     Check,
-    /// The levels at even steps.
+    /// The levels of a station at even steps of time.
     Heights,
-    /// The events day by day.
+    /// The events of a station day by day.
     Calendar,
     /// The next events of a station from now on.
     Clock,
     /// The stations of a file.
     Stations,
-    /// A file made from a seed.
+    /// A sample file drawn from a seed.
     Sample,
-    /// A trial of the program on such a file.
+    /// A trial of the program on a sample file.
     Trial,
     /// The web server.
     Serve,
     /// Several sheets of one list of events.
     Report,
-    /// The highest water of a span.
+    /// The highest water of a station over a span.
     Highest,
     /// A certificate of a highest water.
     Peak,
-    /// The check of such a certificate.
+    /// The check of a certificate of a highest water.
     PeakCheck,
     /// The facts about a station.
     About,

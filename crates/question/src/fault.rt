@@ -8,7 +8,9 @@ use std::alloc::AllocError;
 pub enum AskFault {
     /// Out of memory.
     NoMemory,
+    /// The command is missing.
     NoCommand,
+    /// A question of this origin can't request such a command.
     UnknownCommand,
     /// The item with this number has no value.
     NotAPair(u64),

@@ -1,4 +1,4 @@
-//! A question.
+//! Questions: a command with the values of its keys.
 
 use crate::command::Command;
 use decimal_text::{Text, Words};
@@ -35,6 +35,7 @@ pub struct Question {
     pub offsets: Option<Text>,
     /// The name of the certificate's file.
     pub certificate: Option<Text>,
+    /// The name of the station.
     pub station: Option<Text>,
     /// The begin of the span, in minutes since 1970-01-01T00:00Z, of the years from 1 to 9999.
     pub begin: Option<i64>,
@@ -44,8 +45,11 @@ pub struct Question {
     pub mark: Option<i64>,
     /// The step between heights in minutes, from 1 to 44,640: 60 if it isn't given.
     pub step: i64,
+    /// The zone in which times are shown: universal time if it isn't given.
     pub zone: ZoneWord,
+    /// The layout of a listing: text in columns if it isn't given.
     pub layout: Layout,
+    /// The seed of a sample file.
     pub seed: Option<u64>,
     /// The port of the web server, from 1 to 65,535: 8080 if it isn't given.
     pub port: u16,

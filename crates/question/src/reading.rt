@@ -20,10 +20,11 @@ use std::alloc::Global;
 /// Returns the question of `pairs`.
 ///
 /// # Errors
-/// The first of these: the command is missing or unknown; then for each item, from the left, it has no
-/// value, a key that the command doesn't have in a question of this origin, the key of an earlier item,
-/// or a value without the key's form; then the first key of the table that the command requires is
-/// missing. [`AskFault::NoMemory`] if memory runs out.
+/// The first of these: [`AskFault::NoCommand`] or [`AskFault::UnknownCommand`]; then for each item, from
+/// the left, [`AskFault::NotAPair`], [`AskFault::UnknownKey`] (the command doesn't have the key in a
+/// question of this origin), [`AskFault::RepeatedKey`] or [`AskFault::BadValue`]; then
+/// [`AskFault::MissingKey`] with the first key of the table that the command requires.
+/// [`AskFault::NoMemory`] if memory runs out.
 ///
 /// # Examples
 /// ```

@@ -53,6 +53,9 @@ fn texts(alloc: Global, words: &[&str]) -> Result<Vec<Text>, AllocError>
 
 /// Returns the parts of `text` between single commas, if each is the name of a sheet and none occurs
 /// twice.
+///
+/// # Errors
+/// [`AllocError`] if memory runs out.
 #[tactic(auto, unfolding(crate::specs::Forms::sheets_of))]
 pub fn sheets(alloc: Global, text: &str) -> Result<Option<Words>, AllocError>
     ensures { IfOk result (λ words. words ≡ sheets_of text.now) }

@@ -34,6 +34,9 @@ impl Form {
     ghost use Rattle.question.specs.Forms.{meets};
 
     /// Returns true if `text` has this form in a question of this origin.
+    ///
+    /// # Errors
+    /// [`AllocError`] if memory runs out.
     #[tactic(auto, unfolding(crate::specs::Forms::some_text))]
     pub fn is_met(self, alloc: Global, origin: Origin, text: &str) -> Result<bool, AllocError>
         ensures { IfOk result (λ met. met ≡ meets self origin text.now) }
@@ -59,6 +62,9 @@ const MARK_PLACES: u32 = 6;
 const GREATEST_MARK: u128 = 10_000_000_000;
 
 /// Returns `text`, or `None` if it is empty.
+///
+/// # Errors
+/// [`AllocError`] if memory runs out.
 #[tactic(auto, unfolding(crate::specs::Forms::some_text))]
 pub fn some_text(alloc: Global, text: &str) -> Result<Option<Text>, AllocError>
     ensures { IfOk result (λ value. value ≡ some_text text.now) }

@@ -60,6 +60,9 @@ fn file_zone(alloc: Global, origin: Origin, name: &str) -> Result<Option<ZoneWor
 }
 
 /// Returns the zone of `UTC`, of an offset, or in a command line of `@` with the name of a zone file.
+///
+/// # Errors
+/// [`AllocError`] if memory runs out.
 #[tactic(auto, unfolding(crate::specs::Forms::zone_of))]
 pub fn zone(alloc: Global, origin: Origin, text: &str) -> Result<Option<ZoneWord>, AllocError>
     ensures { IfOk result (λ zone. zone ≡ zone_of origin text.now) }

@@ -6,7 +6,7 @@ use Rattle.std.proofs.lemmas.Int.{ints, clamps, fits_signed_from_abs}
 use mir.Syntax.{w128}
 use Rattle.station_curve.proofs.Products.{cast_small, abs_times, abs_plus}
 
--- two numbers' sum
+-- the sum of two numbers fits 128 bits
 sum_is : (x y : ℤ) (m n : ℕ) → unsigned_abs x ≤ m → unsigned_abs y ≤ n → m + n < 2 ^ 127 → to_z w128 (of_z w128 (x +ℤ y)) ≡ x +ℤ y
 sum_is x y m n h k fits = cast_small w128 (x +ℤ y) (m + n) (abs_plus x y m n h k) fits
 
@@ -38,7 +38,7 @@ plus_fits p q x y m n first second fits =
     let most = abs_plus x y m n first.size second.size in
     rw (first.same, second.same) (fits_signed_from_abs w128 (x +ℤ y) (omega (arith, most, fits)))
 
--- the greater of two
+-- a bound on the greater of two numbers
 max_size : (a b : ℤ) (m : ℕ) → unsigned_abs a ≤ m → unsigned_abs b ≤ m → unsigned_abs (int_max a b) ≤ m
 max_size a b m first second = omega (arith, ints, clamps, first, second)
 

@@ -1,4 +1,4 @@
-//! The whole file.
+//! The whole sample file.
 
 ghost use Rattle.std.specs.Prelude.{◌≡◌, ◌≤◌, ◌++◌, codes, decimal, length, IfOk, OnOk};
 ghost use Rattle.sample_tides.specs.File.{heading, file, sample_of};

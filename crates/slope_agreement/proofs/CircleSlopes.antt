@@ -5,7 +5,7 @@ use Rattle.std.proofs.lemmas.Int.{ints}
 use Rattle.fixed_sine.proofs.RateLemmas.{num, half_num, half_num-first, half_num-second, half_num-begin, half_num-end, signed_num, signed_num-first, signed_num-second}
 use Rattle.slope_agreement.proofs.DegreeSlopes.{IsSlope, num-slope, num-slope_back}
 
--- both ends of each quarter included
+-- the sine on each quarter of the circle, both ends included
 half_num-quarter : (i : ℕ) → i ≤ 54000000000 → half_num i ≡ num i
 half_num-quarter i h =
     elim (cases_lt i 54000000000) [

@@ -35,7 +35,7 @@ formula-at s u c r p sum =
     let bent : r * (600000000 - r) * c ≡ r * p * c = ap (λ n. r * n * c) (let e : 600000000 - r ≡ p = omega arith in e) in
     omega arith
 
--- its rise over one unit, with q units left after it
+-- the rise of the formula over one unit, with q units left after it
 formula-unit : (s u c r q : ℕ) → r + q + 1 ≡ 600000000 → formula s u c (r + 1) + (r + 1) * c ≡ formula s u c r + 2400000000 * u + (q + 1) * c
 formula-unit s u c r q sum =
     omega (arith, formula-at s u c r (q + 1) (omega arith), formula-at s u c (r + 1) q (omega arith))
@@ -72,7 +72,7 @@ num-slope i h =
     rw (here, there, back)
     (slope_inside r p _ _ _ _ (unsigned_abs (correction (89 - k))) _ _ _ (omega arith) (near_cosine k (omega arith)) (near_cosine (89 - k) (omega arith)).small rise cosine)
 
--- the same back from 90 degrees
+-- the bound on the first quarter, counted back from 90 degrees
 pub num-slope_back : (i : ℕ) → i < 54000000000 → IsSlope 103680000000000000000000 (num (54000000000 - i)) (num (54000000000 - (i + 1))) (num i)
 num-slope_back i h =
     let j = 54000000000 - (i + 1) in

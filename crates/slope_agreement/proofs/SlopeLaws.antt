@@ -9,7 +9,7 @@ use Rattle.fixed_sine.proofs.RateLemmas.{signed_num, isin_of-num, rate_law}
 use Rattle.slope_agreement.specs.UnitGaps.{unit_gap_of, SlopeLaw, SlopeLawBefore}
 use Rattle.slope_agreement.proofs.CircleSlopes.{slope_gap, signed_num-slope}
 
--- a product with one more
+-- the product of n + 1 and a number
 times-suc : (n : ℕ) (c : ℤ) → pos (suc n) *ℤ c ≡ (pos n *ℤ c) +ℤ c
 times-suc n (pos c) = omega (arith, ints)
 times-suc n (negsuc c) = omega (arith, ints)
@@ -18,7 +18,7 @@ times-suc n (negsuc c) = omega (arith, ints)
 one_more : (x y z s c t : ℤ) (far gap m : ℕ) → slope_gap x y s ≤ far → unsigned_abs (s -ℤ c) ≤ gap → slope_gap y z t ≤ m → slope_gap x z (t +ℤ c) ≤ m + (far + gap)
 one_more x y z s c t far gap m here near before = omega (arith, ints, here, near, before)
 
--- no unit more
+-- over no units the sine doesn't change
 none : (x c : ℤ) → slope_gap x x (pos 0 *ℤ c) ≤ 0
 none (pos x) (pos c) = omega (arith, ints)
 none (pos x) (negsuc c) = omega (arith, ints)

@@ -8,7 +8,7 @@ use Rattle.fixed_sine.specs.Table.{sines, sine_at, rise, correction}
 use Rattle.fixed_sine.proofs.TableLemmas.{correction-size, sines_rise}
 use Rattle.fixed_sine.proofs.QuarterLemmas.{sine_at-entry, rise-entries}
 
--- at the begin of a degree
+-- the gap at the begin of a degree
 unfoldable pub begin_gap : ℕ → ℕ
 begin_gap k =
     unsigned_abs ((pos radian *ℤ ((pos 4 *ℤ rise k) -ℤ correction k)) -ℤ (pos (4 * degree) *ℤ sine_at (pos (90 - k))))
@@ -20,7 +20,7 @@ pub begin_gap_bound : (k : ℕ) → k < 90 → begin_gap k ≤ 4 * degree * 3000
 unfolding begins_near begin_gap correction sine_at sines
 begin_gap_bound k h = leb-true _ _ (agree_below_at begins_near (λ _. true) 90 k refl h)
 
--- at the end of a degree
+-- the gap at the end of a degree
 unfoldable pub end_gap : ℕ → ℕ
 end_gap k =
     unsigned_abs ((pos radian *ℤ ((pos 4 *ℤ rise k) +ℤ correction k)) -ℤ (pos (4 * degree) *ℤ sine_at (pos (89 - k))))

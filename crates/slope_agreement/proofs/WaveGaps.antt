@@ -67,7 +67,7 @@ height_gap_before t h =
     rw (later h.phase h.speed t)
     (wave_slope h.amplitude (icos_of ((p + h.speed) % circle)) (icos_of p) (isin_of ((p + h.speed) % circle)) h.speed (unit_gap_of h.speed) slope)
 
--- the waves of a year
+-- the gap of the sum of a year's waves
 regrouped : (a x b y c z : ℤ) → (pos 34377467708 *ℤ ((a +ℤ x) -ℤ (b +ℤ y))) +ℤ (c +ℤ z) ≡ ((pos 34377467708 *ℤ (a -ℤ b)) +ℤ c) +ℤ ((pos 34377467708 *ℤ (x -ℤ y)) +ℤ z)
 regrouped a x b y c z = omega (arith, ints)
 
@@ -80,7 +80,7 @@ sums_gap t u each (h ∷ hs) a b c d near =
     (rw (regrouped a more b less c (fall_at u h))
     (abs_plus ((pos 34377467708 *ℤ (a -ℤ b)) +ℤ c) ((pos 34377467708 *ℤ (more -ℤ less)) +ℤ fall_at u h) d (wave_gap h) near (each h)))
 
--- by the sums of the year
+-- the gap in terms of the sums of the year
 gap_parts : (a b c : ℕ) (h : Harmonic) → (a + 100000 * b + 68754935416 * c) + wave_gap h ≡ (a + fall_rate_of h) + 100000 * (b + unsigned_abs h.amplitude * h.speed) + 68754935416 * (c + unsigned_abs h.amplitude)
 unfolding unit_gap_of
 gap_parts a b c h = omega arith

@@ -21,7 +21,7 @@ use Rattle.rate_bound.specs.Rates.{tide_sums, book_sums}
 use Rattle.slope_agreement.specs.Agreements.{gap_before, gap_of, predicted_gap, predicted_gap_before, IsPlainMinute, year_agreement, greatest, agreement_of, predicted_agreement}
 use Rattle.slope_agreement.proofs.WaveGaps.{heights_gap, heights_gap_before}
 
--- by one year's constants, with the mean level
+-- the gap of the level by one year's constants, with the mean level
 year_slope_from : (mean a b falls : ℤ) (m : ℕ) → unsigned_abs ((pos 34377467708 *ℤ (a -ℤ b)) +ℤ falls) ≤ m → unsigned_abs ((pos 34377467708 *ℤ ((mean +ℤ a) -ℤ (mean +ℤ b))) -ℤ neg_ℤ falls) ≤ m
 year_slope_from mean a b falls m near = omega (arith, ints, near)
 
@@ -49,7 +49,7 @@ year_level_gap_before tide m year begun =
     rw (minutes_onward (start_of tide.first_year year) m begun)
     (year_slope_from (pos (10 ^ 9) *ℤ tide.datum) (heights_of (t + 1) hs) (heights_of t hs) (falls_of (t + 1) hs) (year_gap tide year) (heights_gap_before t hs))
 
--- times the total weight
+-- the gap times the total weight
 weighted_gap : (a b s : ℤ) (m : ℕ) → unsigned_abs ((pos 34377467708 *ℤ (a -ℤ b)) -ℤ s) ≤ m → unsigned_abs ((pos 34377467708 *ℤ ((pos total_weight *ℤ a) -ℤ (pos total_weight *ℤ b))) -ℤ ((pos total_weight *ℤ s) +ℤ pos 0)) ≤ total_weight * m
 weighted_gap a b s m near = omega (arith, ints, near)
 
@@ -65,7 +65,7 @@ plain_gap_before tide m year begun here there =
     rw (there, here)
     (weighted_gap (year_level tide (m +ℤ pos 1) year) (year_level tide m year) (year_slope tide (m +ℤ pos 1) year) (year_gap tide year) (year_level_gap_before tide m year begun))
 
--- the greatest of the years
+-- the greatest bound of the years
 pub greatest-next : (value : ℕ → ℤ) (n : ℕ) → greatest value (n + 1) ≡ int_max (greatest value n) (value n)
 unfolding greatest
 greatest-next value n = ap (greatest value) (let e : n + 1 ≡ suc n = omega arith in e)

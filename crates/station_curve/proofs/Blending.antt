@@ -28,7 +28,7 @@ slope_plain tide m year slope value at is_slope is_value =
     is_value ∙ ap (λ l. pos total_weight *ℤ l) is_slope ∙ no_drift (pos total_weight *ℤ year_slope tide m year)
     ∙ ap (λ p. blended (year_slope tide m) p +ℤ drift (year_level tide m) p) at
 
--- the mean level is the same in both years
+-- the mean level cancels in the difference of two years' levels
 cancels : (d a b : ℤ) → a -ℤ b ≡ (d +ℤ a) -ℤ (d +ℤ b)
 cancels d a b = omega (arith, ints)
 
@@ -42,7 +42,7 @@ unfolding slope_of
 slope_blend tide m year x earlier later weight change value drifted at is_earlier is_later is_weight is_change is_drifted is_value =
     simp (is_value, is_drifted, is_earlier, is_later, is_weight, is_change) (ap (λ p. blended (year_slope tide m) p +ℤ drift (year_level tide m) p) at)
 
--- sizes
+-- bounds on the size of sums and products
 abs_plus : (x y : ℤ) → unsigned_abs (x +ℤ y) ≤ unsigned_abs x + unsigned_abs y
 abs_plus x y = omega (arith, ints)
 

@@ -31,7 +31,7 @@ book_factor b place h in_table =
     let w = h.factors place (pos 0) (omega (arith, h.all_factors, in_table)) in
     abs_within (get_or b.factors place (pos 0)) 0 (10 ^ 7) w.least w.most
 
--- no amplitude at all
+-- an amplitude of 0 makes no wave
 zero_times : (z : ℤ) → pos 0 *ℤ z ≡ pos 0
 zero_times (pos n) = ap pos (omega arith)
 zero_times (negsuc n) = omega (arith, ints)
@@ -42,7 +42,7 @@ no_amplitude b s year k e =
     sym (ap (λ z. rounded_of (z *ℤ get_or b.factors (k * b.years + year) (pos 0)) 1000000) e
     ∙ ap (λ z. rounded_of z 1000000) (zero_times (get_or b.factors (k * b.years + year) (pos 0))))
 
--- the speeds
+-- the speed of a constituent
 pub constituent_speed : (b : Book) (c : Constituent) (k : ℕ) → k < length b.constituents → c ≡ get_or b.constituents k c → c.speed ≡ speed_of b k
 constituent_speed b c k in_list at = ap (λ c. c.speed) at ∙ sym (get_or-map (λ c. c.speed) b.constituents k c (pos 0) in_list)
 

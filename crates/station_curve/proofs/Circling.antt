@@ -15,7 +15,7 @@ use Rattle.station_curve.specs.Levels.{minutes_into}
 use Rattle.station_curve.specs.Schureman.{speed_of, angle_of, phase_of}
 use Rattle.station_curve.proofs.Products.{pos_abs}
 
--- a product over a sum
+-- the product of a number and a sum
 pub times_plus : (v t : ℕ) (a : ℤ) → pos v *ℤ (a +ℤ pos t) ≡ (pos v *ℤ a) +ℤ pos (v * t)
 times_plus v t (pos n) = ap pos (omega arith)
 times_plus v t (negsuc n) =
@@ -58,7 +58,7 @@ rem_onward z n j some =
     carried : (m j n : ℕ) → (m % n + j) % n ≡ (m + j) % n
     carried m j n = add-mod (m % n) j n ∙ ap (λ r. (r + j % n) % n) (mod-mod m n) ∙ sym (add-mod m j n)
 
--- the angle t minutes on
+-- the angle of a wave t minutes later
 hours : (start m meridian : ℤ) (t : ℕ) → pos t ≡ (m -ℤ start) +ℤ pos 60 → (m -ℤ start) +ℤ meridian ≡ (((start -ℤ pos 60) -ℤ start) +ℤ meridian) +ℤ pos t
 hours start m meridian t h = omega (arith, ints, h)
 

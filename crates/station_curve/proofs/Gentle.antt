@@ -68,7 +68,7 @@ no_fault b s (suc years) k h below =
           rw (← same) parts.1
     ]
 
--- the years of the tide
+-- the number of a tide's years, and the waves of each
 pub length-tide_over : (b : Book) (s : Station) (first last : ℤ) → length (tide_over b s first last).years ≡ b.years
 unfolding tide_over
 length-tide_over b s first last = length-map-range_with_len (waves_over b s first last) 0 b.years

@@ -9,7 +9,7 @@ use Rattle.year_blend.specs.Weights.{IsNearNewYear}
 use Rattle.year_blend.proofs.YearLemmas.{year_length}
 use Rattle.station_curve.specs.Workings.Nearness.{IsNear, IsNearPlace}
 
--- from one year's start to the next
+-- the step from one year's start to the next
 pub record IsStep (a b : ℤ) : Type 0 where
   pub least : (a +ℤ pos 525600) ≤ℤ b
   pub most : b ≤ℤ (a +ℤ pos 527040)
@@ -34,7 +34,7 @@ not_past first_year years m year (inr e) =
     let at = rw all at e.1 in
     omega (arith, ints, at)
 
--- in the plain part of a year
+-- a minute in the plain part of a year is at most an hour from the year
 near_plain : (first_year : ℤ) (years : ℕ) (m : ℤ) (year : ℕ) → pos 2 ≤ℤ first_year → IsInYear first_year years m year → IsNear first_year year m
 near_plain first_year years m year low h =
     let step = next_start first_year year low in
@@ -42,7 +42,7 @@ near_plain first_year years m year low h =
     let until = not_past first_year years m year h.ongoing in
     record { least = omega (arith, ints, h.begun); most = omega (arith, ints, step.most, until) }
 
--- in the blend at the start of the later year
+-- a minute in the blend at the start of the later year is at most an hour from both years
 near_later : (first_year : ℤ) (years : ℕ) (m : ℤ) (year : ℕ) (x : ℤ) → IsInBlend first_year years m year x → IsNear first_year year m
 near_later first_year years m year x h =
     record { least = omega (arith, ints, h.distance, h.above); most = omega (arith, ints, h.distance, h.below) }

@@ -42,7 +42,7 @@ pub record IsAround (tide : Tide) (m : ℤ) (k : ℕ) (x : ℤ) : Type 0 where
   pub distance : x ≡ m -ℤ start_of tide.first_year (suc k)
   pub near : IsNearNewYear x
 
--- it is in the blend or at one of its ends
+-- a minute at most an hour from a new year is in the blend or at one of its ends
 abbrev IsPlacedAround : Tide → ℤ → ℕ → ℤ → Type 0
 IsPlacedAround tide m k x =
     (place_in_tide tide m ≡ Blend (suc k) x)

@@ -24,7 +24,7 @@ use Rattle.station_curve.proofs.Products.{cast_small, abs_below, abs_plus, abs_t
 use Rattle.station_curve.proofs.Turning.{sine_after, cosine_ahead, turn_after-below, turn_ahead-below}
 use Rattle.station_curve.proofs.YearChanges.{same_mean}
 
--- waves by chords
+-- the error of sums over waves by chords
 sums_near : (most : ℕ) (f g : Harmonic → ℤ) (size : Harmonic → ℕ) → ((h : Harmonic) → unsigned_abs (f h -ℤ g h) ≤ size h * most) → (hs : List Harmonic) (a b : ℤ) (c : ℕ)
     → unsigned_abs (a -ℤ b) ≤ most * c
     → unsigned_abs (fold (λ sum h. sum +ℤ f h) a hs -ℤ fold (λ sum h. sum +ℤ g h) b hs) ≤ most * fold (λ sum h. sum + size h) c hs
@@ -66,7 +66,7 @@ year_slope_near tide m year near =
     turned_gap (near_falls_of t hs) (falls_of t hs) (chord_error * steepness_of hs)
     (sums_near chord_error (near_fall_at t) (fall_at t) (λ h. unsigned_abs h.amplitude * h.speed) (near_fall_gap t (few_minutes tide m year near)) hs (pos 0) (pos 0) 0 (omega arith))
 
--- by the position of a minute
+-- approximate level and slope by the position of a minute
 pub near_level_of-plain : (tide : Tide) (m : ℤ) (year : ℕ) → Plain year ≡ place_in_tide tide m → near_level_of tide m ≡ pos total_weight *ℤ near_year_level tide m year
 unfolding near_level_of
 near_level_of-plain tide m year at = ap (sooner (near_year_level tide m) (level_of tide m)) (sym at)

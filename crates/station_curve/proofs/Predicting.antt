@@ -64,7 +64,7 @@ no_fall t a h e =
     ap (λ z. a +ℤ ((z *ℤ pos h.speed) *ℤ isin_of (phase_at h t))) e ∙ ap (λ z. a +ℤ (z *ℤ isin_of (phase_at h t))) (zero_times (pos h.speed))
     ∙ ap (λ z. a +ℤ z) (zero_times (isin_of (phase_at h t))) ∙ omega (arith, ints)
 
--- the sums of a year
+-- the sums over the waves of a year are those over all constituents
 heights_same : (b : Book) (s : Station) (year : ℕ) (m : ℤ) → IsBook b → IsNear b.first_year year m → heights_of (minutes_into b.first_year year m) (filter is_present (waves_of b s year)) ≡ fold (λ sum k. sum +ℤ (amplitude_of b s year k *ℤ icos_of (phase_of b s year m k))) (pos 0) (constituents_of b)
 unfolding waves_of
 heights_same b s year m book near =

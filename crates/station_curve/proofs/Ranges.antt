@@ -40,7 +40,7 @@ are_ends first_year years are =
       late = omega (arith, ints, high);
     }
 
--- by one year's constants
+-- bounds on level and slope by one year's constants
 year_level_small : (tide : Tide) (m : ℤ) (year : ℕ) → IsGentle tide → unsigned_abs (year_level tide m year) ≤ 11 * 10 ^ 18
 year_level_small tide m year gentle =
     let size = year_level_size tide m year in
@@ -63,7 +63,7 @@ change_small tide m year other gentle =
     let there : amount_of (waves_in tide other) ≤ 10 ^ 9 = (gentle_sums tide other gentle).amount in
     omega (arith, size, here, there)
 
--- by the position of a minute
+-- bounds on level and slope by the position of a minute
 blended_small : (value : ℕ → ℤ) (first_year : ℤ) (years : ℕ) (m : ℤ) (p : Place) (most : ℕ) → ((year : ℕ) → unsigned_abs (value year) ≤ most) → IsNearPlace first_year years m p → unsigned_abs (blended value p) ≤ total_weight * most
 blended_small value first_year years m (Plain year) most small near = abs_times (pos total_weight) (value year) total_weight most (omega arith) (small year)
 blended_small value first_year years m (Blend year x) most small near =

@@ -32,7 +32,7 @@ near_start y start reach is =
     let size = year_start_of_size y reach in
     rw (start_cast y start reach is) (omega (arith, size))
 
--- the first fault
+-- the first fault of the years so far and of one more
 pub none_more : (b : Book) (s : Station) (year : ℕ) → first_fault b s year ≡ None → year_fault b s year ≡ None → first_fault b s (year + 1) ≡ None
 unfolding first_fault
 none_more b s year before here = rw add-one (simp (before, here))

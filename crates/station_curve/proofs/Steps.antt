@@ -7,7 +7,7 @@ use Rattle.station_curve.proofs.Products.{abs_times, abs_plus}
 use Rattle.year_blend.specs.Weights.{total_weight}
 use borrow.Author.Differences.{up, down}
 
--- a product over a difference
+-- the product of a number and a difference
 difference_is : (b c : ℤ) → up (b -ℤ c) + down b + up c ≡ down (b -ℤ c) + up b + down c
 difference_is b c = omega (arith, ints)
 
@@ -29,7 +29,7 @@ mixed_step t w v a b c d =
     rw (times_minus (t -ℤ v) c a, minus_times t v c, minus_times t w a, minus_times t v a, times_minus v d b, times_minus (v -ℤ w) b a, minus_times v w b, minus_times v w a)
     (regrouped (t *ℤ c) (v *ℤ c) (v *ℤ d) (t *ℤ a) (w *ℤ a) (w *ℤ b) (v *ℤ a) (v *ℤ b))
 
--- from the values a and b by the weight w to c and d by the weight v
+-- the change of a mixture, from the values a and b with weight w to c and d with weight v
 pub mixed_gap : (w v a b c d : ℤ) (most rise far : ℕ) → pos 0 ≤ℤ v → v ≤ℤ pos total_weight → unsigned_abs (c -ℤ a) ≤ most → unsigned_abs (d -ℤ b) ≤ most → unsigned_abs (v -ℤ w) ≤ rise → unsigned_abs (b -ℤ a) ≤ far → unsigned_abs ((((pos total_weight -ℤ v) *ℤ c) +ℤ (v *ℤ d)) -ℤ (((pos total_weight -ℤ w) *ℤ a) +ℤ (w *ℤ b))) ≤ total_weight * most + rise * far
 mixed_gap w v a b c d most rise far least below first second moved apart =
     rw (mixed_step (pos total_weight) w v a b c d)
@@ -49,7 +49,7 @@ product_gap p q a c large change bend far high moved bent size =
     rw (product_step p q a c)
     (abs_plus (q *ℤ (c -ℤ a)) ((q -ℤ p) *ℤ a) (large * change) (bend * far) (abs_times q (c -ℤ a) large change high moved) (abs_times (q -ℤ p) a bend far bent size))
 
--- sums whose parts change
+-- the change of a sum whose parts change
 pub sum_gap : (x y p q : ℤ) (m n : ℕ) → unsigned_abs (p -ℤ x) ≤ m → unsigned_abs (q -ℤ y) ≤ n → unsigned_abs ((p +ℤ q) -ℤ (x +ℤ y)) ≤ m + n
 sum_gap x y p q m n first second = omega (arith, ints, first, second)
 

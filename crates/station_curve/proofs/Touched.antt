@@ -33,7 +33,7 @@ touched_in b first last m year from until in_year =
     ] in
     touched b first last year (omega (arith, ints)) (omega (arith, ints))
 
--- both years beside a new year at most an hour from a minute
+-- both years beside a new year are needed for a minute at most an hour from it
 pub touched_after : (b : Book) (first last m : ℤ) (year : ℕ) (x : ℤ) → pos 2 ≤ℤ b.first_year → first ≤ℤ m → m ≤ℤ last → IsInBlend b.first_year b.years m year x → is_touched b first last year ≡ true
 touched_after b first last m year x low from until blend =
     let above = blend.above in
@@ -50,7 +50,7 @@ touched_before b first last m year x low from until blend =
     let steps = start_of-later b.first_year year (suc year) low (omega arith) in
     touched b first last year (omega (arith, ints)) (omega (arith, ints))
 
--- the years of a position
+-- the years of a position are needed for its minute
 abbrev pub AreTouched : Book → ℤ → ℤ → Place → Type 0
 AreTouched b first last (Plain year) = is_touched b first last year ≡ true
 AreTouched b first last (Blend year x) = (is_touched b first last year ≡ true) × (is_touched b first last (year - 1) ≡ true)

@@ -22,7 +22,7 @@ pub get_or-waves_of : (b : Book) (s : Station) (year k : ℕ) (d : Harmonic) →
 unfolding waves_of
 get_or-waves_of b s year k d in_list = get_or-map-range_with_len (wave_of b s year) 0 (length b.constituents) k k d in_list (omega arith)
 
--- the limits
+-- the fault of a year beyond a limit
 pub fault_large : (b : Book) (s : Station) (year : ℕ) → most_amount < amount_of (waves_of b s year) → year_fault b s year ≡ Some (TooLarge (b.first_year +ℤ pos year))
 unfolding year_fault
 fault_large b s year large = simp (lt-ltb most_amount (amount_of (waves_of b s year)) large)
@@ -62,7 +62,7 @@ wave_steepness b s year k in_list none =
     ap (λ h. unsigned_abs h.amplitude * h.speed) (get_or-waves_of b s year k d in_list) in
     omega (arith, one, is, (none_fault b s year none).1)
 
--- a wave by its parts
+-- a wave from its amplitude, speed and phase
 pub is_wave : (b : Book) (s : Station) (year k : ℕ) (wave : Harmonic) (amplitude : ℤ) (speed phase : ℕ) → wave ≡ record { amplitude = amplitude; speed = speed; phase = phase } → amplitude ≡ amplitude_of b s year k → pos speed ≡ speed_of b k → phase ≡ phase_of b s year (start_of b.first_year year -ℤ pos 60) k → wave ≡ wave_of b s year k
 is_wave b s year k wave amplitude speed phase is is_amplitude is_speed is_phase =
     let speed_is : speed ≡ unsigned_abs (speed_of b k) = ap unsigned_abs is_speed in

@@ -15,7 +15,7 @@ use Rattle.station_curve.proofs.Gentle.{same_list, length-tide_over, waves_in-ti
 use Rattle.station_curve.proofs.Predicting.{predicts_over}
 use Rattle.station_curve.proofs.Touched.{touched}
 
--- from the first minute of these years to the one after the last
+-- all minutes of a book's years: from the first to the one after the last
 abbrev pub first_of : Book → ℤ
 first_of b = year_start_of b.first_year
 

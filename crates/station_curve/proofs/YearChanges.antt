@@ -16,7 +16,7 @@ use Rattle.station_curve.specs.Levels.{minutes_into, waves_in, year_level, year_
 use Rattle.station_curve.proofs.Gaps.{turned_gap, scaled_gap, sums_gap, sums_size}
 use Rattle.station_curve.proofs.Products.{abs_times, abs_plus, abs_minus}
 
--- one wave, a minute later
+-- the change of one wave in a minute
 onward : (n w : ℕ) → (n + w) % circle ≡ (n % circle + w) % circle
 onward n w = omega arith
 
@@ -47,7 +47,7 @@ height_gap t h =
     rw turn (rate_law h.speed p (mod_below (phase_at h t + circle / 4) circle (lit< tt))) in
     scaled_gap h.amplitude (icos_of (phase_at h (t + 1))) (icos_of (phase_at h t)) (step_of h.speed) cosine
 
--- the sums of a year's waves
+-- the change of the sums over a year's waves in a minute
 falls_gap : (t : ℕ) (hs : List Harmonic) → unsigned_abs (falls_of (t + 1) hs -ℤ falls_of t hs) ≤ far_of hs
 falls_gap t hs = sums_gap (fall_at (t + 1)) (fall_at t) fall_rate_of (fall_gap t) hs (pos 0) (pos 0) 0 (omega arith)
 
@@ -78,7 +78,7 @@ year_level_gap tide m year since =
     let hs = waves_in tide year in
     rw (minutes_onward (start_of tide.first_year year) m since, same_mean (pos (10 ^ 9) *ℤ tide.datum) (heights_of (t + 1) hs) (heights_of t hs)) (heights_gap t hs)
 
--- sizes
+-- bounds on the size of heights and falls
 height_size : (t : ℕ) (h : Harmonic) → unsigned_abs (height_at t h) ≤ 10 ^ 9 * unsigned_abs h.amplitude
 height_size t h =
     let cosine = icos_of_size (phase_at h t) (mod_below (h.phase + h.speed * t) circle (lit< tt)) in

@@ -26,6 +26,9 @@ const MOST_AMOUNT: u64 = 1_000_000_000;
 const MOST_STEEPNESS: u128 = 100_000_000_000_000_000;
 
 /// Returns the indices of the constituents that have an amplitude at `station`.
+///
+/// # Errors
+/// [`AllocError`] if memory runs out.
 pub fn present_places(
     alloc: Global,
     book: &SoundBook<'_>,
@@ -48,7 +51,8 @@ pub fn present_places(
 /// constituents with an amplitude.
 ///
 /// # Errors
-/// [`CurveFault::TooLarge`], then [`CurveFault::TooSteep`].
+/// [`CurveFault::TooLarge`] if the sizes of the amplitudes sum to more than 1,000,000,000 millionths; else
+/// [`CurveFault::TooSteep`] if the sizes times the speeds sum to more than 10^17.
 pub fn check_year(
     book: &SoundBook<'_>,
     station: &Station,
@@ -111,7 +115,10 @@ fn sums(book: &SoundBook<'_>, station: &Station, present: &[usize], year: u32) -
     (amount, steepness)
 }
 
-/// Returns the waves of a year that is needed for the requested minutes, and none of another one.
+/// Returns the waves of year `year` if `is_asked` (it is needed for the requested minutes), else none.
+///
+/// # Errors
+/// [`AllocError`] if memory runs out.
 pub fn waves_if_asked(
     alloc: Global,
     book: &SoundBook<'_>,

@@ -207,7 +207,7 @@ impl StationCurve {
         let _first_year = self.first_year;
     }
 
-    /// Returns the level at minute `m`, from the first to the last.
+    /// Returns the level at minute `m`, from [`first`](StationCurve::first) to [`last`](StationCurve::last).
     pub fn level(&self, m: i64) -> i128
         requires { InDomain self.now.first_year (length self.now.years) m }
         ensures value { result ≡ level_of self.now m }
@@ -223,7 +223,7 @@ impl StationCurve {
         }
     }
 
-    /// Returns the slope at minute `m`, from the first to the last.
+    /// Returns the slope at minute `m`, from [`first`](StationCurve::first) to [`last`](StationCurve::last).
     pub fn slope(&self, m: i64) -> i128
         requires { InDomain self.now.first_year (length self.now.years) m }
         ensures value { result ≡ slope_of self.now m }
@@ -242,7 +242,7 @@ impl StationCurve {
         }
     }
 
-    /// Returns an approximation of the level at minute `m`, from the first to the last, within
+    /// Returns an approximation of [`level`](StationCurve::level) at minute `m`, within
     /// [`level_error`](StationCurve::level_error) of it. It is faster than the level: by chords of the
     /// sine outside blends, and exact in a blend.
     pub fn near_level(&self, m: i64) -> i128
@@ -257,7 +257,7 @@ impl StationCurve {
         }
     }
 
-    /// Returns an approximation of the slope at minute `m`, from the first to the last, within
+    /// Returns an approximation of [`slope`](StationCurve::slope) at minute `m`, within
     /// [`slope_error`](StationCurve::slope_error) of it. It is faster than the slope: by chords of the
     /// sine outside blends, and exact in a blend.
     pub fn near_slope(&self, m: i64) -> i128
@@ -298,8 +298,8 @@ impl StationCurve {
         rounded(self.level(m), TOTAL_WEIGHT as u64 * 1_000_000_000) as i64
     }
 
-    /// Returns the stretch of the minutes from `m` to `m + n`, both included and from the first to the
-    /// last: the plain part of one year, or across one new year. `n` is at most
+    /// Returns the stretch of the minutes from `m` to `m + n`, both included: the plain part of one year,
+    /// or across one new year. The minutes are of the book's years, and `n` is at most
     /// [`LONGEST_SPAN`](year_blend::LONGEST_SPAN).
     pub fn stretch(&self, m: i64, n: u32) -> Stretch
         requires first { InDomain self.now.first_year (length self.now.years) m }

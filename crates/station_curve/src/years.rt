@@ -55,6 +55,10 @@ impl Year {
 
 /// Returns each year with its waves, if all years are within the limits. A year that isn't needed for the
 /// minutes of `reach` has no waves.
+///
+/// # Errors
+/// The fault of the first year beyond a limit, in which [`CurveFault::TooLarge`] precedes
+/// [`CurveFault::TooSteep`]; [`CurveFault::NoMemory`] if memory runs out.
 pub fn years_of(
     alloc: Global,
     book: &SoundBook<'_>,

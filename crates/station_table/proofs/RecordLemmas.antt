@@ -93,7 +93,7 @@ records_all cfg s2 xs ys rows h none =
 
 -- ---- a reader
 
--- one more record
+-- the reader has returned one more record
 pub given_more : (text : List ℕ) (rows : List (List (List ℕ))) (a b : Records) (fields : List (List ℕ)) → HasGiven text rows a
     → ReadRecord held a.rdr b.rdr true fields → b.rdr.first ≡ true → 0 < b.left → HasGiven text (rows ++ fields ∷ []) b
 given_more text rows a b fields h read first turns =
@@ -108,13 +108,13 @@ given_more text rows a b fields h read first turns =
       reached = more.2;
     }
 
--- no further one
+-- the reader has returned all records
 pub given_all : (text : List ℕ) (rows : List (List (List ℕ))) (a b : Records) → HasGiven text rows a
     → ReadRecord held a.rdr b.rdr false [] → records default_config (strip_bom text) ≡ rows
 given_all text rows a b h read =
     records_all default_config a.rdr.state (strip_bom text) h.rest rows h.reached (rows-end held a.rdr b.rdr [] default_config h.rest h.config h.source read)
 
--- some records may follow
+-- the records that the reader has returned are the first of the text's
 pub given_front : (text : List ℕ) (rows : List (List (List ℕ))) (a : Records) → HasGiven text rows a
     → (more : List (List (List ℕ))) × (records default_config (strip_bom text) ≡ rows ++ more)
 given_front text rows a h = (_, records_begin default_config a.rdr.state (strip_bom text) h.rest rows h.reached)

@@ -13,7 +13,7 @@ use Rattle.station_table.specs.Table.{at_row, header_of, offsets_of, rows_from, 
 use Rattle.station_table.specs.Workings.Records.{Records, HasGiven, GivesHeader}
 use Rattle.station_table.proofs.RecordLemmas.{given_front}
 
--- both steps succeeded
+-- both steps of a sequence succeeded
 bind_ok : {A B E : Type 0} (r : Result A E) (next : A → Result B E) (y : B) → (r >>= next) ≡ Ok y → (x : A) × (r ≡ Ok x) × (next x ≡ Ok y)
 bind_ok (Ok x) next y e = (x, refl, e)
 bind_ok (Err fault) next y e = absurd (cc e)

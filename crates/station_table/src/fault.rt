@@ -5,13 +5,21 @@ use std::alloc::AllocError;
 /// The fault of a row. The file format numbers these reasons from 1 (docs/FORMATS.md).
 #[derive(Clone, Copy, Debug, PartialEq, Eq)]
 pub enum OffsetWhy {
+    /// The first record is no header, or the file is empty.
     BadHeader,
+    /// The row has another number of fields than the header.
     FieldCount,
+    /// A number isn't of its form.
     BadNumber,
+    /// A number has more than six decimal places.
     TooFine,
+    /// A number is out of its range.
     OutOfRange,
+    /// A field isn't UTF-8.
     NotUtf8,
+    /// A name is empty, longer than 400 bytes, or has a control byte.
     BadName,
+    /// Only one of the times of slack water is given.
     HalfSlack,
 }
 

@@ -26,6 +26,9 @@ fn text(field: &[u8]) -> Result<&str, OffsetWhy>
 }
 
 /// Returns the name in `field`: from 1 to 400 bytes of UTF-8 without control bytes.
+///
+/// # Errors
+/// [`OffsetWhy::NotUtf8`], else [`OffsetWhy::BadName`].
 #[tactic(auto, unfolding(crate::specs::Fields::name_of, crate::specs::Fields::name_in))]
 pub fn name(field: &[u8]) -> Result<&str, OffsetWhy>
     ensures exact { Reads (λ t. t.now) (name_of field.now) result }
@@ -81,6 +84,10 @@ fn millionths(least: i64, most: i64, text: &[u8]) -> Result<i64, OffsetWhy>
 }
 
 /// Returns the minutes in `field` that are added to a time, from -1440 to 1440: 0 for an empty field.
+///
+/// # Errors
+/// The first of [`OffsetWhy::NotUtf8`], [`OffsetWhy::BadNumber`] and [`OffsetWhy::OutOfRange`] that
+/// applies.
 #[tactic(auto, unfolding(crate::specs::Fields::add_of, crate::specs::Fields::value_of))]
 pub fn add(field: &[u8]) -> Result<i32, OffsetWhy>
     ensures exact { result ≡ add_of field.now }
@@ -94,6 +101,10 @@ pub fn add(field: &[u8]) -> Result<i32, OffsetWhy>
 }
 
 /// Returns the factor in `field`, in millionths, from 1 to 100,000,000: 1,000,000 for an empty field.
+///
+/// # Errors
+/// The first of [`OffsetWhy::NotUtf8`], [`OffsetWhy::BadNumber`], [`OffsetWhy::TooFine`] and
+/// [`OffsetWhy::OutOfRange`] that applies.
 #[tactic(auto, unfolding(crate::specs::Fields::times_of, crate::specs::Fields::value_of))]
 pub fn times(field: &[u8]) -> Result<i64, OffsetWhy>
     ensures exact { result ≡ times_of field.now }
@@ -108,6 +119,10 @@ pub fn times(field: &[u8]) -> Result<i64, OffsetWhy>
 
 /// Returns the level in `field` that is added to a level, in millionths, from -10,000,000,000 to
 /// 10,000,000,000: 0 for an empty field.
+///
+/// # Errors
+/// The first of [`OffsetWhy::NotUtf8`], [`OffsetWhy::BadNumber`], [`OffsetWhy::TooFine`] and
+/// [`OffsetWhy::OutOfRange`] that applies.
 #[tactic(auto, unfolding(crate::specs::Fields::plus_of, crate::specs::Fields::value_of))]
 pub fn plus(field: &[u8]) -> Result<i64, OffsetWhy>
     ensures exact { result ≡ plus_of field.now }

@@ -88,6 +88,9 @@ fn slack(fields: &ByteRecord, header: Header) -> Result<Option<Slack>, OffsetWhy
 
 impl Row<'_> {
     /// Returns the row as a station that owns its names.
+    ///
+    /// # Errors
+    /// [`AllocError`] if memory runs out.
     pub fn to_offsets(&self, alloc: Global) -> Result<Offsets, AllocError>
         ensures { IfOk result (λ offsets. offsets ≡ offsets_in self.now) }
     {

@@ -61,7 +61,7 @@ unopened_within T failed limit name s = record {
   faults = refl;
 }
 
--- nothing was read
+-- reading nothing is within each allowance
 pub read_none : (allowed : Allowance) (s : FilesState) → ReadWithin allowed false s s
 read_none allowed s = record { store = refl; opens = omega arith; ends = omega arith; bytes = omega arith; faults = refl }
 
@@ -93,7 +93,7 @@ pub too_long_came : (limit : ℕ) (name bytes : List ℕ) (is_ended : Bool) → 
 too_long_came limit name bytes true over = rw (lt-leb (length bytes) limit over) refl
 too_long_came limit name bytes false over = rw (le-leb (suc limit) (length bytes) over) (rw (lt-leb (length bytes) limit over) refl)
 
--- a piece past the limit
+-- the bytes after one more piece, which exceed the limit
 pub too_long_on : (limit count : ℕ) (room name bytes : List ℕ) (is_ended : Bool) → count ≤ length room → length bytes ≤ limit
     → limit - length bytes < count
     → whole limit (as_came limit (record { name = name; is_open = true; bytes = bytes ++ take count room; is_ended = is_ended })) ≡ Err TooLong
@@ -128,7 +128,7 @@ opened_once source expected limit name before between after result opened (other
     let named : other ≡ name = ap (λ latest. option_map_or (λ it. it.name) latest []) (sym fresh) ∙ ap name_of opened in
     inr (opening, named, come ∙ ap next opened, meets)
 
--- a file couldn't be opened
+-- the result if the file couldn't be opened
 pub unopened_once : {T E : Type 0} (source : E → Source) (expected : Option (List ℕ) → Result T E) (limit : ℕ) (name : List ℕ)
     (before after : Openings) (result : Result T E) → after ≡ openings_after_open false name before
     → Meets source (Unit {0}) (expected None) result → OpenedOnce source expected limit name before after result
@@ -180,7 +180,7 @@ ended_came limit name bytes within = rw (append-nil bytes, le-leb (length bytes)
 
 -- ---- more than the limit was read
 
--- a piece past the limit
+-- one more piece exceeds the limit
 pub passed_on : (limit count : ℕ) (room name bytes : List ℕ) (initial now after : Openings)
     → now ≡ record initial { latest = Some (record { name = name; is_open = true; bytes = bytes; is_ended = false }) }
     → after ≡ openings_after_read count room now → count ≤ length room → length bytes ≤ limit → limit - length bytes < count → IsPassed limit after

@@ -3,7 +3,7 @@ use Rattle.std.proofs.Common.{◌≡◌, ℕ, ◌+◌, List, [], ◌++◌, take,
 use Rattle.std.proofs.Math.Seq.{take-add}
 use Rattle.tide_edge.specs.SinkStates.{SinkState, put}
 
--- nothing more
+-- writing no byte changes nothing
 pub put_none : (s : SinkState) → put [] s ≡ s
 put_none s = ap (λ taken. record s { taken = taken }) (append-nil s.taken)
 
@@ -11,7 +11,7 @@ put_none s = ap (λ taken. record s { taken = taken }) (append-nil s.taken)
 pub put_put : (first second : List ℕ) (s : SinkState) → put second (put first s) ≡ put (first ++ second) s
 put_put first second s = ap (λ taken. record s { taken = taken }) (append_assoc s.taken first second)
 
--- after one more piece
+-- the bytes accepted after one more piece
 pub sent_on : (bytes : List ℕ) (sent count : ℕ) (before now after : SinkState) → now ≡ put (take sent bytes) before
     → after ≡ put (take count (drop sent bytes)) now → after ≡ put (take (sent + count) bytes) before
 sent_on bytes sent count before now after so_far next =

@@ -15,16 +15,16 @@ pub record Doorway : Type 0 where
   pub is_open : Bool
   pub is_over : Bool
 
--- the state before `listen`
+-- the port of a door before `listen`
 abbrev pub unasked : Doorway
 unasked = record { port = None; listens = false; taken = 0; is_open = false; is_over = false }
 
--- the state after `listen`
+-- the port of a door after `listen`
 abbrev pub asked : ℕ → Bool → Doorway
 asked port listens =
     record { port = Some port; listens = listens; taken = 0; is_open = false; is_over = false }
 
--- the state after `next` has returned
+-- the port of a door after `next`: one more connection, or no more will come
 abbrev pub after_next : Result Bool Failed → Doorway → Doorway
 after_next (Ok true) d =
     record { port = d.port; listens = d.listens; taken = counted d.taken; is_open = true; is_over = d.is_over }
@@ -32,7 +32,7 @@ after_next (Ok false) d =
     record { port = d.port; listens = d.listens; taken = d.taken; is_open = d.is_open; is_over = true }
 after_next (Err failed) d = d
 
--- the state after `close`
+-- the port of a door after `close`
 abbrev pub closed : Doorway → Doorway
 closed d =
     record { port = d.port; listens = d.listens; taken = d.taken; is_open = false; is_over = d.is_over }

@@ -18,8 +18,8 @@ use std::rt;
 /// The most connections in a row that may have failed before they are accepted.
 const GONE_IN_A_ROW: u32 = u32::MAX;
 
-/// Linux's numbers of the errors of a connection that `ErrorKind` has no variant for: ENONET, EPROTO,
-/// ENOPROTOOPT, EOPNOTSUPP and EHOSTDOWN.
+/// Linux's numbers of the errors of a connection that `ErrorKind` has no variant of its own for: ENONET,
+/// EPROTO, ENOPROTOOPT, EOPNOTSUPP and EHOSTDOWN.
 const CONNECTION_ERRORS: [i32; 5] = [64, 71, 92, 95, 112];
 
 /// A TCP port of the machine, at 127.0.0.1 only. The bytes read and written over each connection are

@@ -14,7 +14,7 @@ const REQUEST_SECONDS: u64 = 60;
 /// The seconds that a peer has to receive its whole reply, counted from the first write.
 const REPLY_SECONDS: u64 = 60;
 
-/// The seconds that a peer has after its reply to end what it sends.
+/// The seconds that a peer has after its reply to close its side of the connection.
 const FAREWELL_SECONDS: u64 = 2;
 
 /// The shortest timeout of a socket, in milliseconds: a timeout of 0 means that it waits without limit.

@@ -10,7 +10,7 @@ use Rattle.year_blend.specs.Weights.{weight_of, weight_slope_of, total_weight, I
 abbrev pub weight_after : ℕ → ℕ
 weight_after t = t * t * t * (t * t + 24000 - 300 * t)
 
--- the change of the weight a minute there
+-- the change of the weight a minute, t minutes after the begin
 abbrev pub slope_after : ℕ → ℕ
 slope_after t = 5 * (t * (120 - t) * (t * (120 - t)))
 

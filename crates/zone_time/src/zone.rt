@@ -1,4 +1,4 @@
-//! Zones.
+//! The zones in which local times are shown: universal time, a fixed offset, or a zone file.
 
 ghost use Rattle.std.specs.Prelude.{◌≡◌};
 ghost use Rattle.zone_time.specs.Locals.{IsLocal};
