@@ -27,8 +27,8 @@ use zone_time::{MINUTES_OF_DAY, Zone, ZoneClock, write_clock, write_date};
 ///
 /// # Examples
 /// ```
-/// let zone = Zone::Utc;
-/// let text = calendar_text(alloc, &name, Units::Feet, &events, &zone, 15791040, 15792480)?;
+/// let (begin, end) = (15_791_040, 15_792_480);
+/// let dates = calendar_text(alloc, name, units, events, &Zone::Utc, begin, end)?;
 /// ```
 pub fn calendar_text(
     alloc: Global,

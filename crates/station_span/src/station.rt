@@ -44,8 +44,14 @@ const SPAN_LIMIT: i64 = 5_270_400;
 ///
 /// # Examples
 /// ```
+/// let asked = Asked {
+///     begin: 15_791_040,
+///     end: 15_792_480,
+///     mark: None,
+/// };
 /// let found = find_station(alloc, &book, &table, Reach::Events, &name, &asked)?;
 /// let listed = find_events(alloc, &found)?;
+/// assert_eq!(rt; listed.events.as_slice().len(), 4);
 /// ```
 #[tactic(auto, unfolding(crate::specs::Sites::site_in))]
 pub fn find_station(

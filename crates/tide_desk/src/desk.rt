@@ -30,7 +30,16 @@ use tide_fault::Status;
 ///
 /// # Examples
 /// ```
-/// let status = run(alloc, &words, &mut files, &mut out, &mut err, &mut clock, sheets);
+/// let words = words_of(alloc, line)?;
+/// let mut files = MemoryFiles::new(vec![in alloc; pier]?, Vec::new(alloc));
+/// let mut out = MemorySink::new(alloc, 4_096, 1_000_000, Vec::new(alloc))?;
+/// let mut err = MemorySink::new(alloc, 4_096, 4_096, Vec::new(alloc))?;
+/// let mut clock = FixedClock::new(15_791_220, Vec::new(alloc));
+/// let sheets = Vec::new(alloc);
+/// let status = run(
+///     alloc, &words, &mut files, &mut out, &mut err, &mut clock, sheets,
+/// );
+/// assert_eq!(rt; status, Status::Done);
 /// ```
 pub fn run<F: Files, O: Sink, E: Sink, K: Clock>(
     alloc: Global,
