@@ -107,7 +107,7 @@ fn each_write_may_fail(rt: HostRuntime) -> Result<(), Fail> {
             }
             assert_eq!(rt; outcome.status.number(), 7);
             assert!(rt; out.len() < text.len() && text.as_bytes().starts_with(out));
-            // what the writes before have taken, each at most ten bytes
+            // the bytes of the writes before, each at most ten
             assert!(rt; failing == 1 || out.len() > most && out.len() - most <= 10);
             assert_eq!(rt; outcome.err.as_slice(), b"write fault\n".as_slice());
             most = out.len();

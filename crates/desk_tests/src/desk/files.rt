@@ -83,7 +83,7 @@ pub const FILE_CASES: &[FileCase] = &[
         line_told: "zone: bad zone file\n",
         ..CASE
     },
-    // the table before the zone
+    // the table is read before the zone
     FileCase {
         offsets: Some(SHORT),
         words: BOTH,
@@ -106,7 +106,7 @@ pub const FILE_CASES: &[FileCase] = &[
         clock_fails: 1,
         ..CASE
     },
-    // the clock before the station
+    // the clock is read before the station is found
     FileCase {
         line: 13,
         text: "Quay",

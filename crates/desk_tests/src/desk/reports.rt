@@ -91,7 +91,7 @@ fn a_report_is_refused_in_its_order(rt: HostRuntime) -> Result<(), Fail> {
             "",
             "refused: no sheet graph\n",
         ),
-        // before the file is read
+        // the sheet is refused before the file is read
         (
             0,
             "",
@@ -119,7 +119,7 @@ fn a_report_is_refused_in_its_order(rt: HostRuntime) -> Result<(), Fail> {
             "",
             "read fault\n",
         ),
-        // the clock before the station
+        // the clock is read before the station is found
         (
             13,
             "Quay",
