@@ -39,8 +39,7 @@ const SPAN_LIMIT: i64 = 5_270_400;
 ///
 /// # Errors
 /// The first [`Refusal`] in this order: the station, its unit, the span, the bounds on its
-/// constants, the mark. [`Refusal::NoMemory`] may be returned in place of any result from the curve
-/// on.
+/// constants, the mark. [`Refusal::NoMemory`] may be returned in place of any result.
 ///
 /// # Examples
 /// ```

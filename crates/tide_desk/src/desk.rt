@@ -56,7 +56,7 @@ pub fn run<F: Files, O: Sink, E: Sink, K: Clock>(
     write_answer(alloc, words, files, out, err, clock, sheets)
 }
 
-// Does the same, with each promise as a clause of its own.
+// Does the same as [`run`], with each promise as a clause of its own.
 fn write_answer<F: Files, O: Sink, E: Sink, K: Clock>(
     alloc: Global,
     words: &Words,

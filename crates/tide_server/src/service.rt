@@ -61,7 +61,7 @@ pub fn serve<F: Files, D: Door, E: Sink, K: Clock>(
     serve_words(alloc, words, files, door, err, clock)
 }
 
-// Does the same, with each promise as a clause of its own.
+// Does the same as [`serve`], with each promise as a clause of its own.
 fn serve_words<F: Files, D: Door, E: Sink, K: Clock>(
     alloc: Global,
     words: &Words,
