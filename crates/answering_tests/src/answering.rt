@@ -40,19 +40,19 @@ const TABLE: &[u8] =
     Dock,Pier,0:30,-0:10,1.1,0.9,0.1,0,,\nOuter,Pier,0:30,0:30,2,2,0.5,0.5,,\n\
     Lost,Nowhere,0:00,0:00,1,1,0,0,,\nGate,Flow,0:30,-0:10,1.1,0.9,0.1,0,0:05,-0:05\n";
 
-/// A pier and a stream of half a day, from 1999 to 2001.
+/// Returns a pier and a current of half a day, from 1999 to 2001.
 fn pier(alloc: Global) -> Result<Book, BookFault>
     ensures { IfOk result IsBook }
 {
     read_book(alloc, PIER)
 }
 
-/// Places that follow them.
+/// Returns subordinate stations of both.
 fn table(alloc: Global) -> Result<OffsetTable, OffsetFault> {
     read_offsets(alloc, TABLE)
 }
 
-/// A question over both.
+/// Returns a request about both.
 fn pier_case(alloc: Global, line: &str, certificate: &str) -> Result<Case, Fail>
     ensures book { IfOk result (λ case. IsBook case.book) }
     ensures question { IfOk result (λ case. IsAsked case.question) }
@@ -67,7 +67,7 @@ fn pier_case(alloc: Global, line: &str, certificate: &str) -> Result<Case, Fail>
     )
 }
 
-// The answer's text, or the line of its refusal.
+// Returns the answer's text, or the line of its refusal.
 fn told(alloc: Global, line: &str, certificate: &str) -> Result<Bytes, Fail> {
     pier_case(alloc, line, certificate)?.told(alloc)
 }
@@ -81,7 +81,7 @@ fn questions_have_their_answers(rt: HostRuntime) -> Result<(), Fail> {
     Ok(())
 }
 
-// The events that a question asks for its sheets.
+// Returns the events of a request for a report.
 fn listed(alloc: Global, line: &str) -> Result<Listed, Fail> {
     let case = pier_case(alloc, line, "")?;
     match station_events(alloc, &case.book, &case.table, &case.question, &case.given) {
@@ -100,7 +100,7 @@ fn a_report_has_the_events_of_a_question(rt: HostRuntime) -> Result<(), Fail> {
     Ok(())
 }
 
-// What a sink took of an answer that is written as it is found, and how much where a write failed.
+// Returns the sink of a streamed answer and, if a write failed, the number of bytes sent before it.
 fn streamed(
     alloc: Global,
     line: &str,

@@ -18,17 +18,18 @@ use harmonics_text::Units;
 use std::alloc::{AllocError, Global};
 use zone_time::{MINUTES_OF_DAY, Zone, ZoneClock, write_clock, write_date};
 
-/// Returns the station's `name`, and a line such as `2000-01-10  06:00 -1.00 Low Tide  11:59 1.00
-/// High Tide` for each date in the zone's local time, from the least to the greatest date of
-/// `begin`, `end - 1` and the events. An empty span has no date.
+/// Returns the station's `name`, and a line such as
+/// `2000-01-10  06:00 -1.00 Low Tide  11:59 1.00 High Tide` for each date in the zone's local time,
+/// from the least to the greatest date of `begin`, `end - 1` and the events. An empty span has no
+/// date.
 ///
 /// `begin` isn't after `end`. Each event has a [`word`] in `units`. Each minute is since
 /// 1970-01-01T00:00Z, in the years 2 to 9300 or on the day before them.
 ///
 /// # Examples
 /// ```
-/// let zone = Zone::Utc;
-/// let text = calendar_text(alloc, &name, Units::Feet, &events, &zone, 15791040, 15792480)?;
+/// let (begin, end) = (15_791_040, 15_792_480);
+/// let dates = calendar_text(alloc, name, units, events, &Zone::Utc, begin, end)?;
 /// ```
 pub fn calendar_text(
     alloc: Global,

@@ -56,7 +56,7 @@ HasUsualLevel (cells.Quiet n) = Unit {0}
 HasUsualLevel cells.Still = Unit {0}
 HasUsualLevel (cells.Turn kind level) = unsigned_abs level ≤ 11000000000
 
--- a certificate whose cells all have such levels
+-- a certificate whose cells all have a level of at most 11,000 units in size
 pub record HasUsualLevels (c : Certificate) : Type 0 where
   pub turn : All HasUsualLevel c.tracks.turn
   pub slack : IfSome c.tracks.slack (All HasUsualLevel)

@@ -81,7 +81,7 @@ Spells c (version ∷ station ∷ []) = ⊥
 Spells c (version ∷ []) = ⊥
 Spells c [] = ⊥
 
--- ---- the text of a certificate, and where bytes are none's
+-- ---- the text of a certificate, and the line at which bytes stop being one
 
 -- the bytes are the text of the certificate
 abbrev pub IsTextOf : Certificate → List ℕ → Type 0

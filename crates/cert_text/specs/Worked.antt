@@ -51,7 +51,7 @@ pub record Change : Type 0 where
   pub text : List ℕ
   pub at : ℕ
 
--- such a change
+-- a text in place of one line of Pier's, and the line of the fault that follows, as one record
 abbrev pub change : ℕ → List ℕ → ℕ → Change
 change line text at = record { line = line; text = text; at = at }
 

@@ -20,6 +20,13 @@ use std::alloc::Global;
 /// first, counted from 1, such that no certificate begins with the lines up to it, each with its
 /// LF: a last piece without LF is no line, and if the bytes end too early the line is one past the
 /// last. [`CertFault::NoMemory`] may be returned in place of any result.
+///
+/// # Examples
+/// ```
+/// let cert = read_certificate(alloc, CERTIFICATE.as_bytes())?;
+/// assert_eq!(rt; cert.station.as_str(), "Pier");
+/// assert_eq!(rt; cert.tracks.turn.as_slice().len(), 4);
+/// ```
 pub fn read_certificate(alloc: Global, bytes: &[u8]) -> Result<Certificate, CertFault>
     requires { length bytes.now ≤ MOST_BYTES }
     ensures exact { Gives wants_memory (certificate_of bytes.now) result }

@@ -100,6 +100,13 @@ fn push_track_if_there(
 }
 
 /// Returns the text of `cert`, whose parts are within their ranges.
+///
+/// # Examples
+/// ```
+/// let cert = read_certificate(alloc, CERTIFICATE.as_bytes())?;
+/// let written = write_certificate(alloc, &cert)?;
+/// assert_eq!(rt; written.as_slice(), CERTIFICATE.as_bytes());
+/// ```
 #[tactic(auto, unfolding(crate::specs::Lines::certificate_text))]
 pub fn write_certificate(alloc: Global, cert: &Certificate) -> Result<Bytes, AllocError>
     requires { IsCertificate cert.now }

@@ -33,7 +33,7 @@ use Rattle.zone_time.specs.declared.zone.Zone.{Zone}
 abbrev pub unit_of_bound : ℕ
 unit_of_bound = radian * (total_weight * 10 ^ 15)
 
--- the rise of the level from a minute to the next one, as such a number
+-- the rise of the level from a minute to the next one, in the unit of the bound
 abbrev pub rise_in : Book → Station → ℤ → ℤ
 rise_in book station m =
     pos radian *ℤ (predicted_level book station (m +ℤ pos 1) -ℤ predicted_level book station m)
@@ -42,11 +42,11 @@ rise_in book station m =
 abbrev pub IsOutsideBlends : Book → ℤ → Type 0
 IsOutsideBlends book m = (year : ℕ) × IsPlainMinute book.first_year book.years m year
 
--- the level rises by at most the bound in a minute outside these hours
+-- the level rises by at most the bound in a minute outside the hours around a new year
 abbrev pub RisesAtMost : Book → Station → ℤ → ℤ → Type 0
 RisesAtMost book station bound m = IsOutsideBlends book m → rise_in book station m ≤ℤ bound
 
--- the level falls by at most the bound in a minute outside these hours
+-- the level falls by at most the bound in a minute outside the hours around a new year
 abbrev pub FallsAtMost : Book → Station → ℤ → ℤ → Type 0
 FallsAtMost book station bound m = IsOutsideBlends book m → neg_ℤ bound ≤ℤ rise_in book station m
 
@@ -57,7 +57,8 @@ pub record IsBoundedHigh (book : Book) (station : Station) (bound m : ℤ) : Typ
   pub rises_later : RisesAtMost book station bound (m +ℤ pos 1)
   pub falls : FallsAtMost book station bound m
 
--- the same for a low water, with rises and falls exchanged
+-- A low water is between the listed minute and the next one: the level keeps to the bound as at a high
+-- water, with rises and falls exchanged.
 pub record IsBoundedLow (book : Book) (station : Station) (bound m : ℤ) : Type 0 where
   pub falls : FallsAtMost book station bound m
   pub falls_later : FallsAtMost book station bound (m +ℤ pos 1)

@@ -44,7 +44,7 @@ pub record PrintsLevels (folder : Folder) (question : Question) (answer : Answer
   pub printed : answer ≡ text_alone (heights_text question.layout name site.station.units rows zone)
   pub levels : AreLevels book site asked.begin asked.end question.step rows
 
--- each answer of `heights` has such a text
+-- each answer of `heights` is the text of the levels of its station and span
 abbrev pub HeightsAreLevels : Type 0
 HeightsAreLevels = (sheets : List SheetMeaning) (folder : Folder) (minute : ℤ) (words : List (List ℕ))
     (question : Question) (answer : Answer) →

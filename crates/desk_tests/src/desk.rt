@@ -18,7 +18,7 @@ use tide_answer::Status;
 use tide_desk::run;
 use tide_edge::{FixedClock, MemoryFiles, MemorySink, NamedFile};
 
-// What a run left: its status, what was written to `out` and to `err`.
+// The result of a run: its status, and what it wrote to `out` and to `err`.
 #[derive(Debug, Drop)]
 struct Outcome {
     status: Status,
@@ -26,7 +26,8 @@ struct Outcome {
     err: Bytes,
 }
 
-// The pier's file with one line changed: lines are counted from 1, and line 0 changes nothing.
+// Returns the pier's file with one line changed; lines are counted from 1, and line 0 changes
+// nothing.
 fn pier_with(alloc: Global, line: usize, text: &str) -> Result<Bytes, AllocError> {
     let mut bytes = Vec::new(alloc);
     for (i, old) in PIER.lines().enumerate() {
@@ -66,7 +67,7 @@ fn named(alloc: Global, name: &str, bytes: Bytes) -> Result<NamedFile, AllocErro
     })
 }
 
-// Where a run writes, and its clock.
+// The outputs of a run, and its clock.
 #[derive(Drop)]
 struct Ends {
     out: MemorySink,
@@ -102,7 +103,7 @@ fn run_over(
     run_over_all(alloc, held, line, most, fails)
 }
 
-// Runs over files without any sheet.
+// Runs over files, without a sheet.
 fn run_over_all(
     alloc: Global,
     held: Vec<NamedFile>,

@@ -1,10 +1,12 @@
 //! Tests of whole runs, over files, a clock and sinks in memory.
 //!
-//! They see only what is public of the crates below. They stand here because a crate with tests is proved
-//! twice: with and without them.
+//! They use only the public items of the crates below. They are in a crate of their own because a
+//! crate with tests is proved twice: with and without them.
 #![tactic(auto)]
 
 #[cfg(test)]
 mod desk;
+#[cfg(test)]
+mod examples;
 #[cfg(test)]
 mod stamp;

@@ -9,7 +9,7 @@ use decimal_text::{Bytes, Text};
 use report_sheets::{Collected, Head, Sheet, Taken};
 use std::alloc::{AllocError, Global};
 
-/// Tells of how many events it has, and when.
+/// A sheet whose text is the number of its events and the minute of the report.
 #[derive(Drop)]
 pub struct Stamp {
     collected: Collected,

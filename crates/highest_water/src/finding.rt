@@ -60,8 +60,8 @@ pub fn highest_point<C: Curve>(curve: &mut C, begin: i64, end: i64) -> Point
     ensures count { C.count curve.new ≤ C.count curve.old + 2 * unsigned_abs (end -ℤ begin) + 1 }
     ensures same { C.meaning curve.new ≡ C.meaning curve.old }
 {
-    // A cell that the curve's rate keeps under the highest point so far is passed over, so that few
-    // values are asked for.
+    // Cells that the curve's rate keeps under the highest point so far are skipped, so that the
+    // curve is evaluated seldom.
     let mut highest = highest_block(curve, begin, end);
     let mut walk = walk_from(curve, begin, end);
     while let Some(found) = next_cell(curve, &mut walk, highest) {

@@ -10,6 +10,6 @@ is_special octet = (octet == 92) || (octet == 59) || (octet == 44)
 abbrev pub escaped_octet : ℕ → List ℕ
 escaped_octet octet = if is_special octet then 92 ∷ octet ∷ [] else octet ∷ []
 
--- a text with a backslash before each of these
+-- a text with a backslash before each backslash, semicolon and comma
 abbrev pub escaped : List ℕ → List ℕ
 escaped text = flat_map escaped_octet text

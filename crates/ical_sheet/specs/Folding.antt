@@ -35,8 +35,8 @@ greatest passes (suc n) = if passes (suc n) then suc n else greatest passes n
 abbrev pub prefix_length : (most : ℕ) → List ℕ → ℕ
 prefix_length most text = greatest (ends_at text) most
 
--- the pieces of a text after the first: each is the longest such prefix of at most 74 octets; `more` bounds
--- their number
+-- the pieces of a text after the first: each is the longest prefix of at most 74 octets that splits no
+-- character; `more` bounds their number
 unfoldable pub cut_up : (more : ℕ) → List ℕ → List (List ℕ)
 cut_up more [] = []
 cut_up zero (octet ∷ rest) = []
@@ -47,7 +47,7 @@ cut_up (suc more) (octet ∷ rest) =
 abbrev pub further_pieces : List ℕ → List (List ℕ)
 further_pieces rest = cut_up (length rest) rest
 
--- the pieces of a line: the first is the longest such prefix of at most 75 octets
+-- the pieces of a line: the first is the longest prefix of at most 75 octets that splits no character
 abbrev pub pieces_of : List ℕ → List (List ℕ)
 pieces_of line = let n = prefix_length 75 line in take n line ∷ further_pieces (drop n line)
 
@@ -68,7 +68,7 @@ pub record IsLongestPrefix (most : ℕ) (text : List ℕ) (n : ℕ) : Type 0 whe
 abbrev pub is_fold : ℕ → ℕ → ℕ → Bool
 is_fold a b c = (a == 13) && (b == 10) && ((c == 32) || (c == 9))
 
--- a text without each of these
+-- a text without its folds: each CR LF before a space or a tab, and this character
 unfoldable pub unfolded : List ℕ → List ℕ
 unfolded (a ∷ b ∷ c ∷ rest) = if is_fold a b c then unfolded rest else a ∷ unfolded (b ∷ c ∷ rest)
 unfolded (a ∷ b ∷ []) = a ∷ b ∷ []

@@ -14,8 +14,8 @@ use harmonics_text::Units;
 use std::alloc::{AllocError, Global};
 use zone_time::{Zone, ZoneClock};
 
-/// Returns the station's `name`, a line such as `Now 2000-01-10 03:00 UTC       0.00 feet
-/// Falling`, and the line of each event, as [`event_line`](crate::event_line) writes it.
+/// Returns the station's `name`, a line such as `Now 2000-01-10 03:00 UTC       0.00 feet Falling`,
+/// and the line of each event, as [`event_line`](crate::event_line) writes it.
 ///
 /// `now` is in minutes since 1970-01-01T00:00Z and `level` in millionths of `units`. Each event has
 /// a [`word`](event_text::word) in this unit, and each minute is in the years 2 to 9300 or on the

@@ -10,14 +10,6 @@
 //!   the facts of one station.
 //!
 //! `specs/` has the layouts.
-//!
-//! # Examples
-//! ```
-//! let name = Text::from_str(alloc, "Pier")?;
-//! let low = Event { minute: 15791400, kind: Kind::Low, level: -1000000 };
-//! let events = Events::from_vec(vec![in alloc; low]?);
-//! let text = plain_events(alloc, &name, Units::Feet, &events, &Zone::Utc)?;
-//! ```
 #![tactic(auto)]
 
 mod about;

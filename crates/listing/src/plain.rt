@@ -21,6 +21,12 @@ use zone_time::{Zone, ZoneClock};
 ///
 /// Each event has a [`word`](event_text::word) in `units`, and a minute in the years 2 to 9300 or
 /// on the day before them.
+///
+/// # Examples
+/// ```
+/// let lines = plain_events(alloc, name, units, events, &Zone::Utc)?;
+/// assert_eq!(rt; lines.as_slice(), DAY.as_bytes());
+/// ```
 #[tactic(auto, unfolding(crate::specs::Listings::plain_events_of))]
 pub fn plain_events(
     alloc: Global,

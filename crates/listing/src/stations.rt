@@ -12,8 +12,8 @@ use station_table::{OffsetTable, Offsets};
 use std::alloc::{AllocError, Global};
 use std::collections::BTreeMap;
 
-/// Returns a line such as `Ref feet Pier` for each station of `book`, and then one such as `Sub
-/// feet Dock (Pier)` for each row of `table`. A row has the unit of the first station of its
+/// Returns a line such as `Ref feet Pier` for each station of `book`, and then one such as
+/// `Sub feet Dock (Pier)` for each row of `table`. A row has the unit of the first station of its
 /// reference's name, or `-` if `book` has no such station.
 #[tactic(auto, unfolding(crate::specs::StationLists::stations_text_of))]
 pub fn stations_text(alloc: Global, book: &Book, table: &OffsetTable) -> Result<Bytes, AllocError>

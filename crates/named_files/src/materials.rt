@@ -8,6 +8,7 @@ use zone_time::Zone;
 /// The contents of a request's files.
 #[derive(Drop)]
 pub struct Materials {
+    /// The harmonic constants.
     pub book: Book,
     /// The subordinate stations. It has no row if no table is named.
     pub table: OffsetTable,

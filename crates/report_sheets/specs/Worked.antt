@@ -17,7 +17,7 @@ tides =
     ∷ (record { minute = pos 15792120; kind = Low; level = negsuc 999999 })
     ∷ (record { minute = pos 15792479; kind = High; level = pos 999962 }) ∷ []
 
--- the station of these tides
+-- the station of the tides of a day
 abbrev pub pier : Head
 pier = record { name = codes "Pier"; units = Feet; now = pos 15791220 }
 

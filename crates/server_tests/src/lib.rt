@@ -1,8 +1,10 @@
 //! Tests of requests over HTTP, their replies, and the server.
 //!
-//! They see only what is public of the crates below. They stand here because a crate with tests is proved
-//! twice: with and without them.
+//! They use only the public items of the crates below. They are in a crate of their own because a
+//! crate with tests is proved twice: with and without them.
 #![tactic(auto)]
 
+#[cfg(test)]
+mod examples;
 #[cfg(test)]
 mod server;

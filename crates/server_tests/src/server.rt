@@ -12,7 +12,7 @@ use std::test::Fail;
 use tide_edge::{FixedClock, MemoryDoor, MemoryFiles, MemorySink};
 use tide_server::{enough, fixed_reply, servers_are_complete, unavailable_reply, worked_servers};
 
-/// A request for the stations with so many fields, of which the first is the host's.
+/// Returns a request for the stations with `count` fields, of which the first is the host's.
 fn with_fields(alloc: Global, count: u32) -> Result<Vec<u8>, AllocError> {
     let mut request = b"GET /stations HTTP/1.1\r\nHost: a\r\n".to_vec(alloc)?;
     for _ in 1..count {
@@ -54,7 +54,7 @@ fn fixed_rows_are_told_by_their_bytes(rt: HostRuntime) -> Result<(), Fail> {
     Ok(())
 }
 
-/// Requests that a fixed row answers, whether they are enough, and the row's status.
+/// Requests with a fixed reply, whether they are enough, and the status of the reply.
 const FIRST_ROWS: [(&str, bool, &str); 16] = [
     ("", false, "400"),
     ("GET /clock HTTP/1.1\r\nHost: a\r\n\r", false, "400"),

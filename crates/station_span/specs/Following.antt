@@ -58,6 +58,6 @@ events_of book site asked = station_events (followed book site asked) site.basis
 unfoldable pub tracks_of : Book → Site → Asked → Tracks
 tracks_of book site asked = covers_of (followed book site asked) (widened_of site.basis asked.begin asked.end)
 
--- the number of these cells
+-- the number of cells of all curves over the minutes of the reference that are evaluated
 unfoldable pub cells_of : Book → Site → Asked → ℕ
 cells_of book site asked = cell_count (followed book site asked) (widened_of site.basis asked.begin asked.end)

@@ -76,7 +76,7 @@ has_minute book minute =
     int_le (year_start_of book.first_year) minute
     && int_le minute (year_start_of (book.first_year +ℤ pos book.years))
 
--- the first minute of a span and the one after its last are such minutes
+-- the first minute of a span and the one after its last are in the file's years or at their end
 abbrev pub has_span : Book → Span → Bool
 has_span book span = has_minute book span.begin && has_minute book span.end
 

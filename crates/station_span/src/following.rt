@@ -66,6 +66,7 @@ pub fn list_station(
 /// ```
 /// let found = find_station(alloc, &book, &table, Reach::Events, &name, &asked)?;
 /// let listed = find_events(alloc, &found)?;
+/// assert_eq!(rt; listed.events.as_slice().len(), 4);
 /// ```
 pub fn find_events(alloc: Global, found: &Found) -> Result<FoundEvents, AllocError>
     requires { found.now.reach ≡ Reach.Events }

@@ -29,6 +29,14 @@ use tide_fault::Refusal;
 /// # Errors
 /// The first [`Refusal`] in this order: the station, its unit, the span, the bounds on its
 /// constants, the mark, a level at each minute.
+///
+/// # Examples
+/// ```
+/// let found = find_level(alloc, &book, &table, &name, &asked)?;
+/// let minute = moved_minute(&found, highest_minute(&found));
+/// let level = level_at(&found, minute);
+/// assert_eq!(rt; (minute, level), (15_791_040, 1_000_000));
+/// ```
 #[tactic(auto, unfolding(crate::specs::Peaks::highest_site))]
 pub fn find_level(
     alloc: Global,

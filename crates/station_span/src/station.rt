@@ -39,13 +39,18 @@ const SPAN_LIMIT: i64 = 5_270_400;
 ///
 /// # Errors
 /// The first [`Refusal`] in this order: the station, its unit, the span, the bounds on its
-/// constants, the mark. [`Refusal::NoMemory`] may be returned in place of any result from the curve
-/// on.
+/// constants, the mark. [`Refusal::NoMemory`] may be returned in place of any result.
 ///
 /// # Examples
 /// ```
+/// let asked = Asked {
+///     begin: 15_791_040,
+///     end: 15_792_480,
+///     mark: None,
+/// };
 /// let found = find_station(alloc, &book, &table, Reach::Events, &name, &asked)?;
 /// let listed = find_events(alloc, &found)?;
+/// assert_eq!(rt; listed.events.as_slice().len(), 4);
 /// ```
 #[tactic(auto, unfolding(crate::specs::Sites::site_in))]
 pub fn find_station(

@@ -30,7 +30,7 @@ pub record World (F D O E K : Type 0) : Type 0 where
   pub err : E
   pub clock : K
 
--- such objects
+-- the objects of the program as one record
 abbrev pub world : {F D O E K : Type 0} → F → D → O → E → K → World F D O E K
 world files door out err clock = record { files = files; door = door; out = out; err = err; clock = clock }
 
@@ -42,7 +42,7 @@ pub record WorldStates (F D O E K : Type 0) : Type 0 where
   pub err : E → SinkState
   pub clock : K → ClockState
 
--- such states
+-- the states of the program's objects as one record
 abbrev pub world_states : {F D O E K : Type 0} → (F → FilesState) → (D → DoorState) → (O → SinkState) → (E → SinkState) → (K → ClockState)
     → WorldStates F D O E K
 world_states files door out err clock = record { files = files; door = door; out = out; err = err; clock = clock }

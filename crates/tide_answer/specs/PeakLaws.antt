@@ -26,8 +26,8 @@ pub record IsMovedInto (site : Site) (asked : Asked) (m : ℤ) : Type 0 where
   pub from : asked.begin ≤ℤ (m +ℤ site.basis.high.add)
   pub before : (m +ℤ site.basis.high.add) <ℤ asked.end
 
--- the first of these minutes with their greatest level; and the station's own level is nowhere in the span
--- higher than where this minute is moved to
+-- the first of the reference's minutes moved into the span that have their greatest level; and the
+-- station's own level is nowhere in the span higher than where this minute is moved to
 pub record IsHighestWater (book : Book) (site : Site) (asked : Asked) (at : ℤ) : Type 0 where
   pub inside : IsMovedInto site asked at
   pub greatest : (m : ℤ) → IsMovedInto site asked m → predicted_level book site.station m ≤ℤ predicted_level book site.station at

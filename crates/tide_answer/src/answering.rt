@@ -42,8 +42,24 @@ use zone_time::ZoneClock;
 ///
 /// # Examples
 /// ```
-/// let given = Given { zone: Zone::Utc, certificate: Bytes::empty(alloc), now: 0 };
+/// let given = Given {
+///     zone: Zone::Utc,
+///     certificate: Bytes::from_vec(Vec::new(alloc)),
+///     now: 0,
+/// };
 /// let answered = answer(alloc, &book, &table, &question, &given)?;
+/// assert_eq!(rt; answered.text.as_slice(), DAY.as_bytes());
+/// ```
+///
+/// ```
+/// let question = request(alloc, "check|file=f|certificate=c")?;
+/// let given = Given {
+///     zone: Zone::Utc,
+///     certificate: Bytes::from_vec(CERTIFICATE.as_bytes().to_vec(alloc)?),
+///     now: 0,
+/// };
+/// let checked = answer(alloc, &book, &table, &question, &given)?;
+/// assert!(rt; !checked.rejected);
 /// ```
 #[tactic(auto, unfolding(crate::specs::Answers::answered))]
 pub fn answer(

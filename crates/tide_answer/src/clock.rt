@@ -18,12 +18,12 @@ use tide_fault::Refusal;
 use zone_time::{MINUTES_OF_DAY, ZoneClock};
 
 /// Returns the answer of `clock` at minute `now` for the station `name`: the level, whether it
-/// rises, and the events of the 1,440 minutes from `now` on. `now` is -9,999,999,999 or later,
-/// minutes since 1970-01-01T00:00Z, and at most 10,000,000,000.
+/// rises, and the events of the 1,440 minutes from `now` on. `now` is in minutes since
+/// 1970-01-01T00:00Z, from -10,000,000,000 to 10,000,000,000.
 ///
 /// # Errors
-/// The first [`Refusal`] in the order of `predict`, and then that of a
-/// station without a level at each minute.
+/// The first [`Refusal`] in the order of `predict`, and then that of a station without a level at
+/// each minute.
 #[tactic(auto, unfolding(crate::specs::Answers::on_clock))]
 pub fn tell_now(
     alloc: Global,

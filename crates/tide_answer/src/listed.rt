@@ -37,6 +37,13 @@ pub struct Listed {
 /// # Errors
 /// The first [`Refusal`] in the order of `specs/Answers.antt`, which is that of `predict`.
 /// [`Refusal::NoMemory`] may be returned in place of any result.
+///
+/// # Examples
+/// ```
+/// let listed = station_events(alloc, &book, &table, &question, &given)?;
+/// let (name, units, events) = (&listed.name, listed.units, &listed.events);
+/// let lines = plain_events(alloc, name, units, events, &Zone::Utc)?;
+/// ```
 #[tactic(auto, unfolding(crate::specs::Answers::listed))]
 pub fn station_events(
     alloc: Global,

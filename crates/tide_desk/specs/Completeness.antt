@@ -59,7 +59,7 @@ pub record NothingFailed {F O E K : Type 0} (s : States F O E K) (sheets : List 
   pub firm : IsFirm (AsksClock (asked_of sheets words)) (sources_of s before) (sources_of s after)
   pub written : ¬ (Rose (s.out before.out).faults (s.out after.out).faults)
 
--- ---- The end of such a run
+-- ---- The end of a run over objects that don't fail
 
 -- the status of an answer, or of the reason for which there is none
 abbrev pub status_with : Result Answer NoAnswer → Status

@@ -36,12 +36,12 @@ pub record Subject : Type 0 where
   pub end : Option ℤ
   pub mark : Option ℤ
 
--- those of a request
+-- the station, the span and the mark of a request
 abbrev pub subject_of : Question → Subject
 subject_of question =
     record { station = question.station; begin = question.begin; end = question.end; mark = question.mark }
 
--- those of a certificate
+-- the station, the span and the mark of a certificate
 abbrev pub subject_in : Certificate → Subject
 subject_in certificate = record {
   station = Some certificate.station;

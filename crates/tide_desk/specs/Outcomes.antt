@@ -69,7 +69,7 @@ pub record Outputs : Type 0 where
   pub out : SinkState
   pub err : SinkState
 
--- such states
+-- the states of `out` and `err` as one record
 abbrev pub outputs : SinkState → SinkState → Outputs
 outputs out err = record { out = out; err = err }
 
@@ -87,7 +87,7 @@ pub record Sources : Type 0 where
   pub files : FilesState
   pub clock : ClockState
 
--- such states
+-- the states of files and clock as one record
 abbrev pub sources : FilesState → ClockState → Sources
 sources files clock = record { files = files; clock = clock }
 

@@ -46,8 +46,8 @@ ChecksWhatWasCertified {F} {O} {E} {K} {G} {P} {D} {L} s t = (sheets : List Shee
     zone_named (folder_held t first) check.zone ≡ Ok zone →
     EndsAccepting t (AcceptsWithListing sheets (folder_held t first) check (subject_of certify)) status first last
 
--- A `peakcheck` over such objects, whose certificate is what a done run of `peak` left, is done and accepts
--- it with the highest water, or runs out of memory.
+-- A `peakcheck` over objects that don't fail, whose certificate is what a done run of `peak` left, is done
+-- and accepts it with the highest water, or runs out of memory.
 abbrev pub ChecksWhatPeakCertified : {F O E K G P D L : Type 0} → States F O E K → States G P D L → Type 0
 ChecksWhatPeakCertified {F} {O} {E} {K} {G} {P} {D} {L} s t = (sheets : List SheetMeaning) (words more : List (List ℕ))
     (peak check : Question) (before after : Objects F O E K) (status : Status) (first last : Objects G P D L) →

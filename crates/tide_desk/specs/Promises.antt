@@ -18,7 +18,7 @@ pub record Objects (F O E K : Type 0) : Type 0 where
   pub err : E
   pub clock : K
 
--- such objects
+-- the objects of a run as one record
 abbrev pub objects : {F O E K : Type 0} → F → O → E → K → Objects F O E K
 objects files out err clock = record { files = files; out = out; err = err; clock = clock }
 
@@ -29,7 +29,7 @@ pub record States (F O E K : Type 0) : Type 0 where
   pub err : E → SinkState
   pub clock : K → ClockState
 
--- such states
+-- the states of a run's objects as one record
 abbrev pub states : {F O E K : Type 0} → (F → FilesState) → (O → SinkState) → (E → SinkState) → (K → ClockState) → States F O E K
 states files out err clock = record { files = files; out = out; err = err; clock = clock }
 

@@ -22,8 +22,8 @@ pub fn runs_are_complete<F: Files, O: Sink, E: Sink, K: Clock>()
     ensures { IsComplete (states F.state O.state E.state K.state) }
 {}
 
-/// `check` over such objects is done with a valid certificate, whoever wrote it, or out of memory;
-/// and it accepts no other.
+/// `check` over objects that don't fail is done with a valid certificate, whoever wrote it, or out
+/// of memory; and it accepts no other.
 pub fn valid_certificates_are_accepted<F: Files, O: Sink, E: Sink, K: Clock>()
     ensures valid { AcceptsValid (states F.state O.state E.state K.state) }
     ensures no_other { IsValidIfAccepted }
@@ -31,8 +31,8 @@ pub fn valid_certificates_are_accepted<F: Files, O: Sink, E: Sink, K: Clock>()
     what_check_accepts_is_true();
 }
 
-/// `peakcheck` over such objects is done with a valid certificate of a highest water, whoever wrote
-/// it, or out of memory; and it accepts no other.
+/// `peakcheck` over objects that don't fail is done with a valid certificate of a highest water,
+/// whoever wrote it, or out of memory; and it accepts no other.
 pub fn valid_peaks_are_accepted<F: Files, O: Sink, E: Sink, K: Clock>()
     ensures valid { AcceptsValidPeaks (states F.state O.state E.state K.state) }
     ensures no_other { IsValidPeakIfAccepted }

@@ -30,7 +30,16 @@ use tide_fault::Status;
 ///
 /// # Examples
 /// ```
-/// let status = run(alloc, &words, &mut files, &mut out, &mut err, &mut clock, sheets);
+/// let words = words_of(alloc, line)?;
+/// let mut files = MemoryFiles::new(vec![in alloc; pier]?, Vec::new(alloc));
+/// let mut out = MemorySink::new(alloc, 4_096, 1_000_000, Vec::new(alloc))?;
+/// let mut err = MemorySink::new(alloc, 4_096, 4_096, Vec::new(alloc))?;
+/// let mut clock = FixedClock::new(15_791_220, Vec::new(alloc));
+/// let sheets = Vec::new(alloc);
+/// let status = run(
+///     alloc, &words, &mut files, &mut out, &mut err, &mut clock, sheets,
+/// );
+/// assert_eq!(rt; status, Status::Done);
 /// ```
 pub fn run<F: Files, O: Sink, E: Sink, K: Clock>(
     alloc: Global,
@@ -47,7 +56,7 @@ pub fn run<F: Files, O: Sink, E: Sink, K: Clock>(
     write_answer(alloc, words, files, out, err, clock, sheets)
 }
 
-// Does the same, with each promise as a clause of its own.
+// Does the same as [`run`], with each promise as a clause of its own.
 fn write_answer<F: Files, O: Sink, E: Sink, K: Clock>(
     alloc: Global,
     words: &Words,

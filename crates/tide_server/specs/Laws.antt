@@ -14,7 +14,7 @@ pub record InMemory : Type 0 where
   pub err : HeldSink
   pub clock : HeldClock
 
--- the states of these objects
+-- the states of the objects of a server in memory
 abbrev pub handed_in : InMemory → Handed
 handed_in held = record {
   files = files_state held.files;

@@ -106,7 +106,7 @@ pub record Handed : Type 0 where
   pub err : SinkState
   pub clock : ClockState
 
--- such states
+-- the states of a server's objects as one record
 abbrev pub handed : FilesState → DoorState → SinkState → ClockState → Handed
 handed files door err clock = record { files = files; door = door; err = err; clock = clock }
 

@@ -20,7 +20,7 @@ pub record Services (F D E K : Type 0) : Type 0 where
   pub err : E
   pub clock : K
 
--- such objects
+-- the objects of a server as one record
 abbrev pub services : {F D E K : Type 0} → F → D → E → K → Services F D E K
 services files door err clock = record { files = files; door = door; err = err; clock = clock }
 
@@ -31,7 +31,7 @@ pub record ServiceStates (F D E K : Type 0) : Type 0 where
   pub err : E → SinkState
   pub clock : K → ClockState
 
--- such states
+-- the states of a server's objects as one record
 abbrev pub service_states : {F D E K : Type 0} → (F → FilesState) → (D → DoorState) → (E → SinkState) → (K → ClockState) → ServiceStates F D E K
 service_states files door err clock = record { files = files; door = door; err = err; clock = clock }
 

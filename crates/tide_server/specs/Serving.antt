@@ -63,7 +63,7 @@ clock_with is_asked clock = if is_asked then clock_after (Ok (next_minute clock)
 abbrev pub clock_failed : ClockState → ClockState
 clock_failed clock = record clock { asked = counted clock.asked; faults = counted clock.faults }
 
--- the clock after all these connections
+-- the clock after a list of connections
 unfoldable pub clock_after_all : List Conversation → ClockState → ClockState
 clock_after_all [] clock = clock
 clock_after_all (c ∷ more) clock = clock_after_all more (clock_with c.is_asked clock)
@@ -101,7 +101,7 @@ pub record Exchange : Type 0 where
   pub door : DoorState
   pub clock : ClockState
 
--- such states
+-- the states of a port and a clock as one record
 abbrev pub exchange : DoorState → ClockState → Exchange
 exchange door clock = record { door = door; clock = clock }
 

@@ -32,6 +32,13 @@ use zone_time::Zone;
 ///
 /// # Errors
 /// [`AllocError`] if memory runs out.
+///
+/// # Examples
+/// ```
+/// let request = b"GET /stations HTTP/1.1\r\nHost: a\r\n\r\n".as_slice();
+/// let answered = reply(alloc, &book, &table, request, 15_791_220)?;
+/// assert!(rt; answered.as_slice().starts_with(b"HTTP/1.1 200 OK\r\n"));
+/// ```
 pub fn reply(
     alloc: Global,
     book: &Book,

@@ -3,7 +3,7 @@
 /// A failure that ends a server.
 #[derive(Clone, Copy, Debug, PartialEq, Eq)]
 pub(crate) enum Outage {
-    /// The door couldn't listen, or take a connection.
+    /// The port couldn't be listened to, or no connection could be accepted.
     Door,
     /// The clock couldn't be read.
     Clock,

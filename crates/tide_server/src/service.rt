@@ -38,7 +38,13 @@ use tide_fault::Status;
 ///
 /// # Examples
 /// ```
+/// let words = words_of(alloc, "serve|file=pier.txt|port=8080")?;
+/// let mut files = MemoryFiles::new(vec![in alloc; pier]?, Vec::new(alloc));
+/// let mut door = MemoryDoor::new(alloc, requests(alloc)?, 4_096, Vec::new(alloc))?;
+/// let mut err = MemorySink::new(alloc, 4_096, 4_096, Vec::new(alloc))?;
+/// let mut clock = FixedClock::new(15_791_220, Vec::new(alloc));
 /// let status = serve(alloc, &words, &mut files, &mut door, &mut err, &mut clock);
+/// assert_eq!(rt; status, Status::Done);
 /// ```
 pub fn serve<F: Files, D: Door, E: Sink, K: Clock>(
     alloc: Global,
@@ -55,7 +61,7 @@ pub fn serve<F: Files, D: Door, E: Sink, K: Clock>(
     serve_words(alloc, words, files, door, err, clock)
 }
 
-// Does the same, with each promise as a clause of its own.
+// Does the same as [`serve`], with each promise as a clause of its own.
 fn serve_words<F: Files, D: Door, E: Sink, K: Clock>(
     alloc: Global,
     words: &Words,

@@ -10,6 +10,7 @@ use std::marker::Model;
 /// The data that a server serves, and its port.
 #[derive(Drop)]
 pub struct Stock {
+    /// The harmonic constants.
     pub book: Book,
     /// The subordinate stations. It has no row if no table is named.
     pub table: OffsetTable,

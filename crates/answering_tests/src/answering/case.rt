@@ -1,4 +1,4 @@
-//! A question with all that its answer is made of.
+//! A request with all inputs of its answer.
 
 ghost use Rattle.std.specs.Prelude.{IfOk};
 ghost use Rattle.harmonics_text.specs.Books.{IsBook};
@@ -16,7 +16,7 @@ use tide_answer::{Fault, Given, Ready, answer, answer_into, fault_line, prepare}
 use tide_edge::MemorySink;
 use zone_time::Zone;
 
-/// A question over a book and a table, and what is given with it.
+/// A request with all inputs of its answer.
 #[derive(Drop)]
 pub struct Case {
     pub book: Book,
@@ -26,7 +26,7 @@ pub struct Case {
 }
 
 impl Case {
-    /// The question of a line's words.
+    /// Returns the case of the arguments in `line`.
     pub fn new(
         alloc: Global,
         book: Book,
@@ -47,7 +47,7 @@ impl Case {
         })
     }
 
-    /// The answer's text, or the line of its refusal.
+    /// Returns the answer's text, or the line of its refusal.
     pub fn told(&self, alloc: Global) -> Result<Bytes, Fail>
         requires book { IsBook self.now.book }
         requires question { IsAsked self.now.question }
@@ -59,7 +59,7 @@ impl Case {
         }
     }
 
-    /// The answer that is written as it is found.
+    /// Returns the source of an answer that is streamed.
     pub fn ready(&self, alloc: Global) -> Result<Ready, Fail>
         requires book { IsBook self.now.book }
         requires question { IsAsked self.now.question }
@@ -75,7 +75,8 @@ impl Case {
     }
 }
 
-/// What a sink takes of an answer that is written as it is found, and how much where a write fails.
+/// Writes a streamed answer to `sink`, and returns the sink and, if a write failed, the number of
+/// bytes sent before it.
 pub fn written(
     ready: &Ready,
     mut sink: MemorySink,
@@ -87,7 +88,7 @@ pub fn written(
     Ok((sink, written.err().map(|fault| fault.sent)))
 }
 
-/// The question that the words of a line ask.
+/// Returns the request of the arguments in `line`.
 pub fn asked(alloc: Global, line: &str) -> Result<Question, AskFault>
     ensures { IfOk result IsAsked }
 {
@@ -96,7 +97,7 @@ pub fn asked(alloc: Global, line: &str) -> Result<Question, AskFault>
     read_question(alloc, &pairs)
 }
 
-/// Universal time, a certificate's text, and three o'clock on 2000-01-10.
+/// Returns universal time, the text of a certificate, and 2000-01-10T03:00Z as the inputs.
 fn given(alloc: Global, certificate: &[u8]) -> Result<Given, AllocError>
     ensures { IfOk result IsGiven }
 {

@@ -1,11 +1,11 @@
-//! Questions and certificates with what is answered, and faults with their lines.
+//! Requests and certificates with their answers, and faults with their lines.
 
 use harmonics_text::{BookFault, Why};
 use question::{AskFault, Key};
 use station_table::{OffsetFault, OffsetWhy};
 use tide_answer::Refusal;
 
-// The words of a line, parted by '|', and the answer's text or the line of its refusal.
+// Arguments, separated by '|', and the answer's text or the line of its refusal.
 pub const ANSWERS: &[(&str, &str)] = &[
     (
         "predict|file=f|station=Pier|begin=2000-01-10T00:00Z|end=2000-01-11T00:00Z",
@@ -142,7 +142,7 @@ pub const ANSWERS: &[(&str, &str)] = &[
     ),
 ];
 
-// A certificate, and what is said of it.
+// A certificate, and the answer to it.
 pub const VERDICTS: &[(&str, &str)] = &[
     (
         "tide certificate 2\nstation Pier\nbegin 2000-01-10T00:00Z\nend 2000-01-10T00:08Z\nmark none\ntrack turn\ns\ns\nq 2\nq 4\ndone\n",
@@ -202,7 +202,7 @@ pub const VERDICTS: &[(&str, &str)] = &[
     ),
 ];
 
-// Certificates of highest waters, and what a check of them tells.
+// A certificate of a highest water, and the answer to it.
 pub const PEAK_VERDICTS: &[(&str, &str)] = &[
     (
         "peak certificate 1\nstation Pier\nbegin 2000-01-10T00:00Z\nend 2000-01-10T00:24Z\nat 2000-01-10T00:00Z\nvalue 4147200000000000000000000000000\nm\nm\nm\nm\nm\nm\nm\nm\nm\nm\nm\nm\nm\nm\nm\nm\nu 2\nu 3\nu 3\ndone\n",
@@ -251,7 +251,7 @@ pub const PEAK_VERDICTS: &[(&str, &str)] = &[
     ("tide certificate 2\n", "certificate: line 1\n"),
 ];
 
-// What is wrong with words, its status and its line.
+// A fault of arguments, its status and its line.
 pub const ASK_FAULTS: &[(AskFault, u8, &str)] = &[
     (AskFault::UnknownCommand, 2, "words: unknown command\n"),
     (AskFault::NotAPair(1), 2, "words: pair 1 is not key=value\n"),
@@ -269,7 +269,7 @@ pub const ASK_FAULTS: &[(AskFault, u8, &str)] = &[
     ),
 ];
 
-// What is wrong with files.
+// A fault of a harmonics file.
 pub const CUT_SHORT: BookFault = BookFault::At {
     line: 16,
     why: Why::CutShort,
@@ -309,13 +309,13 @@ pub const REFUSALS: &[(Refusal, u8, &str)] = &[
     (Refusal::NoMemory, 8, "no memory\n"),
 ];
 
-// The words of a line whose answer is longer than a page of 4096 bytes; how many bytes a call takes at
-// most, which call fails, and how much is written where it does.
+// Arguments whose answer is longer than a buffer of 4,096 bytes; then the greatest number of bytes
+// of a write, the write that fails, and the number of bytes sent before it.
 pub const STREAMS: &[(&str, &[(u64, u64, Option<u64>)])] = &[
     (
         "predict|file=f|station=Pier|begin=2000-01-10T00:00Z|end=2000-02-24T00:00Z",
-        // The name has 4 bytes and the end of its line 1; the pages have 43 half days of 95 bytes,
-        // 43 and 4.
+        // The name has 4 bytes and the end of its line 1; the buffers have 43 half days of 95
+        // bytes, 43 and 4.
         &[
             (5000, 0, None),
             (5000, 3, Some(5)),
@@ -327,8 +327,8 @@ pub const STREAMS: &[(&str, &[(u64, u64, Option<u64>)])] = &[
     ),
     (
         "certify|file=f|station=Flow|begin=2000-01-10T00:00Z|end=2000-01-30T00:00Z",
-        // The head has 88 bytes in four calls and the heading 11, and the track's pages 4095 and 1265. The
-        // next heading has 12, that track's pages 4093 and 337, and the last line 5.
+        // The head has 88 bytes in four writes and the heading 11, and the track's buffers 4095 and
+        // 1265. The next heading has 12, that track's buffers 4093 and 337, and the last line 5.
         &[
             (5000, 0, None),
             (5000, 7, Some(4194)),

@@ -33,7 +33,7 @@ const FILE: &[u8] =
     M2 3.1 120.5\nS2 0.9 140\nN2 0.7 100.2\nK1 1.2 200\nO1 0.8 180.4\n\
     Q1 0.15 170\nP1 0.35 198\nK2 0.25 139\nM4 0.12 10\nMS4 0.05 20\n";
 
-// Its name, of 200 letters in the file and of 400 bytes in an answer.
+// The name of the harbour, of 200 letters in the file and of 400 bytes in an answer.
 const NAME: &str = "éééééééééééééééééééééééééééééééééééééééé\
     éééééééééééééééééééééééééééééééééééééééé\
     éééééééééééééééééééééééééééééééééééééééé\
@@ -46,7 +46,7 @@ fn harbour(alloc: Global) -> Result<Book, BookFault>
     read_book(alloc, FILE)
 }
 
-// A command's line about the year, with more words.
+// Returns the line of `command` about the year, with `more` arguments.
 fn line_of(alloc: Global, command: &str, more: &str) -> Result<String, AllocError> {
     let mut line = String::from_str(alloc, command)?;
     line.push_str("|file=f|station=")?;
@@ -55,7 +55,7 @@ fn line_of(alloc: Global, command: &str, more: &str) -> Result<String, AllocErro
     Ok(line)
 }
 
-// A question about the harbour.
+// Returns a request about the harbour.
 fn harbour_case(alloc: Global, line: &str, certificate: &[u8]) -> Result<Case, Fail>
     ensures book { IfOk result (λ case. IsBook case.book) }
     ensures question { IfOk result (λ case. IsAsked case.question) }
@@ -65,12 +65,12 @@ fn harbour_case(alloc: Global, line: &str, certificate: &[u8]) -> Result<Case, F
     Case::new(alloc, book, OffsetTable::new(alloc), line, certificate)
 }
 
-// The answer's text, or the line of its refusal.
+// Returns the answer's text, or the line of its refusal.
 fn told(alloc: Global, line: &str, certificate: &[u8]) -> Result<Bytes, Fail> {
     harbour_case(alloc, line, certificate)?.told(alloc)
 }
 
-// The text that is written as it is found.
+// Returns the text that is written as it is found.
 fn streamed(alloc: Global, line: &str) -> Result<MemorySink, Fail> {
     let sink = MemorySink::new(alloc, 65_536, 4_000_000, Vec::new(alloc))?;
     let ready = harbour_case(alloc, line, b"")?.ready(alloc)?;
@@ -79,7 +79,7 @@ fn streamed(alloc: Global, line: &str) -> Result<MemorySink, Fail> {
 
 const YEAR: &str = "|begin=2000-01-01T00:00Z|end=2001-01-01T00:00Z";
 
-// Commands, and the lines of their answers.
+// Commands, and the number of lines of their answers.
 const LINES: &[(&str, &str, usize)] = &[
     ("heights", "", 8786),
     ("heights", "|layout=csv", 8786),
@@ -104,7 +104,7 @@ fn a_year_of_ten_constituents_is_told(rt: HostRuntime) -> Result<(), Fail> {
     Ok(())
 }
 
-// A place whose reference, of 400 bytes, no file has.
+// A subordinate station whose reference, with a name of 400 bytes, no file has.
 const LOST: &[u8] = b"name,reference,high_add,low_add,high_times,low_times,high_plus,low_plus\n\
     Dock,zzzzzzzzzzzzzzzzzzzzzzzzzzzzzzzzzzzzzzzzzzzzzzzzzzzzzzzzzzzzzzzzzzzzzzzzzzzzzzzz\
     zzzzzzzzzzzzzzzzzzzzzzzzzzzzzzzzzzzzzzzzzzzzzzzzzzzzzzzzzzzzzzzzzzzzzzzzzzzzzzzz\
@@ -131,7 +131,7 @@ fn the_longest_reference_is_told(rt: HostRuntime) -> Result<(), Fail> {
     Ok(())
 }
 
-// A year is predicted, certified and checked, at once and as it is found.
+// A year is predicted, certified and checked, in memory and streamed.
 #[test]
 fn a_year_of_ten_constituents_is_certified(rt: HostRuntime) -> Result<(), Fail> {
     let alloc = rt.alloc();

@@ -10,7 +10,7 @@ use Rattle.cert_text.specs.declared.part.Part.TheVariants.{Title, Station, Begin
 use Rattle.cert_text.specs.declared.draft.Draft.{Draft}
 use Rattle.cert_text.specs.Workings.LineReading.{version_of, station_of, moment_after, mark_of, cell_of}
 
--- ---- the draft after one more line
+-- ---- the state after one more line
 
 -- the state before the first line
 abbrev pub start : Draft

@@ -1,4 +1,5 @@
-//! Each call of the outside fails in turn. Expected texts are those of an independent program.
+//! Each call to files, clock and outputs fails in turn. Expected texts are those of an independent
+//! program.
 
 use super::*;
 
@@ -13,7 +14,7 @@ const HOUR_AHEAD: &str =
     "TZif2\0\0\0\0\0\0\0\0\0\0\0\0\0\0\0\0\0\0\0\0\0\0\0\0\0\0\0\0\0\0\0\0\0\0\x01\0\0\0\x01\0\0\0\0\0\0\0\
     TZif2\0\0\0\0\0\0\0\0\0\0\0\0\0\0\0\0\0\0\0\0\0\0\0\0\0\0\0\0\0\0\0\0\0\0\x01\0\0\0\x04\0\0\x0e\x10\0\0CET\0\nCET-1\n";
 
-// Words, how often they call the files, and what they write.
+// Arguments, the number of their calls to the files, and their output.
 const WHOLE: &[(&str, u64, &str)] = &[
     (PREDICT, 3, DAY),
     (
@@ -48,7 +49,7 @@ const WHOLE: &[(&str, u64, &str)] = &[
     ),
 ];
 
-// Words, the write of `out` that fails, the status, and the line that is told.
+// Arguments, the write of `out` that fails, the status, and the line on `err`.
 const LINES: &[(&str, u64, u8, &str)] = &[
     ("predict|x", 0, 2, "words: pair 1 is not key=value\n"),
     (NO_STATION, 0, 4, "refused: no station\n"),
@@ -57,7 +58,7 @@ const LINES: &[(&str, u64, u8, &str)] = &[
     (PREDICT, 1, 7, "write fault\n"),
 ];
 
-// Runs words over the pier, a table, a certificate and a zone. A write takes at most ten bytes.
+// Runs `words` over the pier, a table, a certificate and a zone. A write takes at most ten bytes.
 fn run_words(alloc: Global, words: &str, fails: Fails) -> Result<Outcome, AllocError> {
     let mut held = Vec::new(alloc);
     held.push(named(alloc, "pier.txt", pier_with(alloc, 0, "")?)?)?;
@@ -106,7 +107,7 @@ fn each_write_may_fail(rt: HostRuntime) -> Result<(), Fail> {
             }
             assert_eq!(rt; outcome.status.number(), 7);
             assert!(rt; out.len() < text.len() && text.as_bytes().starts_with(out));
-            // what the writes before have taken, each at most ten bytes
+            // the bytes of the writes before, each at most ten
             assert!(rt; failing == 1 || out.len() > most && out.len() - most <= 10);
             assert_eq!(rt; outcome.err.as_slice(), b"write fault\n".as_slice());
             most = out.len();

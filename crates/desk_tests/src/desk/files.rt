@@ -1,8 +1,8 @@
-//! Files beside the harmonic constants: the first fault in their order. Expected values are those of
-//! an independent program.
+//! Files beside the harmonic constants: the first fault in their order. Expected values are those
+//! of an independent program.
 
-/// A line of `pier.txt` and its text, the table `o.csv` and the file `zone` where they are there, the
-/// words, the call of the clock that fails, and what they come to.
+/// The number of a line of `pier.txt` and its text, the table `o.csv` and the file `zone` if they
+/// exist, the arguments, the call of the clock that fails, and the status and the line that follow.
 pub struct FileCase {
     pub line: usize,
     pub text: &'static str,
@@ -46,7 +46,7 @@ const CASE: FileCase = FileCase {
 
 pub const FILE_CASES: &[FileCase] = &[
     CASE,
-    // the file's form before the table's reading
+    // the form of the first file is checked before the table is read
     FileCase {
         line: 9,
         text: "2",
@@ -83,7 +83,7 @@ pub const FILE_CASES: &[FileCase] = &[
         line_told: "zone: bad zone file\n",
         ..CASE
     },
-    // the table before the zone
+    // the table is read before the zone
     FileCase {
         offsets: Some(SHORT),
         words: BOTH,
@@ -106,7 +106,7 @@ pub const FILE_CASES: &[FileCase] = &[
         clock_fails: 1,
         ..CASE
     },
-    // the clock before the station
+    // the clock is read before the station is found
     FileCase {
         line: 13,
         text: "Quay",

@@ -1,4 +1,5 @@
-//! What one run has written is the certificate of the next one. Expected texts are those of an independent program.
+//! The output of one run as the certificate of the next one. Expected texts are those of an
+//! independent program.
 
 use super::*;
 use tide_desk::{
@@ -7,7 +8,7 @@ use tide_desk::{
     worked_runs,
 };
 
-// Words that certify, words that check, and what these write.
+// Arguments that certify, arguments that check, and the output of the check.
 const PASSED_ON: &[(&str, &str, &str)] = &[
     (
         "certify|file=pier.txt|station=Pier|begin=2000-01-10T00:00Z|end=2000-01-10T12:00Z",

@@ -21,14 +21,15 @@ const CALENDAR: &str = "BEGIN:VCALENDAR\r\nVERSION:2.0\r\n\
 
 const STAMP: &str = "4 events of Pier, told at 15791220\n";
 
-// The report of a day of the pier with these sheets.
+// Returns the report of a day of the pier with these sheets.
 fn day(alloc: Global, sheets: &str) -> Result<String, AllocError> {
     format!(in alloc;
         "report|file=pier.txt|station=Pier|begin=2000-01-10T00:00Z|end=2000-01-11T00:00Z|sheets={sheets}"
     )
 }
 
-// Runs words over a file `pier.txt` with sheets of each kind, of which `first` takes two events or ten.
+// Runs the arguments in `line` over a file `pier.txt` with sheets of each kind; `first` takes two
+// events if `is_short`, and ten otherwise.
 fn report(
     alloc: Global,
     file: Bytes,
@@ -90,7 +91,7 @@ fn a_report_is_refused_in_its_order(rt: HostRuntime) -> Result<(), Fail> {
             "",
             "refused: no sheet graph\n",
         ),
-        // before the file is read
+        // the sheet is refused before the file is read
         (
             0,
             "",
@@ -118,7 +119,7 @@ fn a_report_is_refused_in_its_order(rt: HostRuntime) -> Result<(), Fail> {
             "",
             "read fault\n",
         ),
-        // the clock before the station
+        // the clock is read before the station is found
         (
             13,
             "Quay",

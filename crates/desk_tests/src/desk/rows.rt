@@ -11,7 +11,7 @@ pub const NOW: &str = "Pier\nNow 2000-01-10 03:00 UTC       0.00 feet  Falling\n
     2000-01-10 18:00 UTC      -1.00 feet  Low Tide\n\
     2000-01-10 23:59 UTC       1.00 feet  High Tide\n";
 
-// A line of the file and its text, a span, and its listing.
+// The number of a line of the file and its text, a span, and its listing.
 pub const LISTINGS: &[(usize, &str, &str, &str, &str)] = &[
     (0, "", "2000-01-10T00:00Z", "2000-01-11T00:00Z", DAY),
     (
@@ -102,7 +102,7 @@ pub const ELEVEN_YEARS: &str =
     0.9800 0.9840 0.9880 0.9920 0.9960 1.0000 1.0040 1.0080 1.0120 1.0160 1.0200\n*END*\n\
     Pier\n0:00\n1 feet\nM2 3 40\n";
 
-// A span, how many bytes and lines its listing has, and the first and the last event.
+// A span, the number of bytes and lines of its listing, and the first and the last event.
 pub const LONG_LISTINGS: &[(&str, &str, usize, usize, &str, &str)] = &[
     (
         "2000-01-01T00:00Z",
@@ -122,8 +122,8 @@ pub const LONG_LISTINGS: &[(&str, &str, usize, usize, &str, &str)] = &[
     ),
 ];
 
-// A line of the file and its text, the words, the status and the line that they come to, in the
-// order of refusals.
+// The number of a line of the file and its text, the arguments, and the status and the line that
+// follow, in the order of refusals.
 pub const REFUSALS: &[(usize, &str, &str, u8, &str)] = &[
     (0, "", "", 2, "words: no command\n"),
     (
@@ -256,7 +256,7 @@ pub const LATE: &str =
 pub const OUT_OF_YEARS: &str =
     "refused: out of years: file has 1999-01-01T00:00Z to 2002-01-01T00:00Z\n";
 
-// Words, a certificate that is false, and what is told of it.
+// Arguments, a certificate that is false, and the output.
 pub const REJECTIONS: &[(&str, &str, &str)] = &[
     (
         "check|file=pier.txt|certificate=cert",

@@ -1,4 +1,4 @@
-//! Requests as they come at a door.
+//! Requests as a port receives them.
 
 ghost use Rattle.std.specs.Prelude.{IsTrue, IfOk};
 ghost use Rattle.std.specs.List.{list_all};
@@ -7,7 +7,7 @@ ghost use Rattle.tide_edge.specs.Memory.{are_pieces};
 use decimal_text::Bytes;
 use std::alloc::{AllocError, Global};
 
-/// A request that comes in one piece, as a text or as bytes, or byte by byte.
+/// A request that is sent in one piece, as a text or as bytes, or byte by byte.
 #[derive(Clone, Copy)]
 pub enum Coming<'a> {
     Whole(&'a str),

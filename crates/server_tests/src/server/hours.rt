@@ -9,10 +9,10 @@ use std::test::Fail;
 use tide_answer::Status;
 use tide_edge::{Clock, Failed};
 
-/// The hours in the test's own clock, which shows one after the other and then stands still.
+/// The number of hours that the test's own clock shows, one after the other, before it stops.
 const HOURS: u64 = 24;
 
-/// A clock that goes on by an hour at each reading, from 2000-01-10T03:00Z on, which is observable.
+/// An observable clock that goes on by an hour at each reading, from 2000-01-10T03:00Z on.
 #[derive(Debug, Drop)]
 struct HourClock {
     asked: u64,
@@ -70,7 +70,8 @@ fn each_request_is_answered_at_its_own_minute(rt: HostRuntime) -> Result<(), Fai
 const YEAR: &str =
     "GET /predict?station=Pier&begin=2000-01-01T00:00Z&end=2001-01-01T00:00Z HTTP/1.1\r\nHost: a\r\n\r\n";
 
-/// Two highs and two lows on each of 366 days, behind the head of the reply and the station's name.
+/// The lines of a reply: two highs and two lows on each of 366 days, after the head and the
+/// station's name.
 const LINES: usize = 5 + 1 + 4 * 366;
 
 #[test]

@@ -1,11 +1,11 @@
-//! The minutes that a clock gave, for contracts alone.
+//! The minutes that a clock returned, for contracts alone.
 
 ghost use Rattle.std.specs.Prelude.{◌≡◌, ℤ, List, [], ◌∷◌, ◌++◌};
 ghost use Rattle.std.specs.Borrow.{ftrue};
 
 use std::marker::Model;
 
-/// The minutes that a clock gave so far. It allocates nothing.
+/// The minutes that a clock returned so far. It allocates nothing.
 #[derive(Debug, Drop)]
 pub(crate) struct MinuteTranscript {
     pub ghost minutes: { List ℤ },
@@ -16,14 +16,14 @@ impl Model for MinuteTranscript {
 }
 
 impl MinuteTranscript {
-    /// No minute.
+    /// Returns a transcript of no minute.
     pub(crate) fn new() -> MinuteTranscript
         ensures { result.minutes ≡ [] }
     {
         MinuteTranscript {}
     }
 
-    /// These minutes, and then this one.
+    /// Returns a transcript of these minutes and then `_minute`.
     pub(crate) fn then(&self, _minute: &i64) -> MinuteTranscript
         ensures { result.minutes ≡ self.now.minutes ++ _minute.now ∷ [] }
     {

@@ -15,10 +15,10 @@ use tide_server::{fixed_reply, reply};
 const TABLE: &[u8] = b"name,reference,high_add,low_add,high_times,low_times,high_plus,low_plus\n\
     Dock,Pier,0:30,-0:10,1.1,0.9,0.1,0\nLost,Nowhere,0:00,0:00,1,1,0,0\n";
 
-/// Three o'clock on 2000-01-10.
+/// The minute 2000-01-10T03:00Z.
 const NOW: i64 = 15_791_220;
 
-/// Targets that are read, and what is answered: the status, the type, and the body.
+/// Targets of GET, and the status, the type and the body of the reply.
 const READ: &[(&str, &str, &str, &str)] = &[
     (
         "/predict?station=Pier&begin=2000-01-10T00:00Z&end=2000-01-11T00:00Z",
@@ -145,7 +145,7 @@ const READ: &[(&str, &str, &str, &str)] = &[
 const CERTIFICATE: &str =
     "tide certificate 2\nstation Pier\nbegin 2000-01-10T00:00Z\nend 2000-01-10T00:08Z\nmark none\ntrack turn\n";
 
-/// Cells of that certificate that are posted, what is posted behind them, and what is answered.
+/// Cells of the certificate that are posted, the bytes after them, and the body of the reply.
 const POSTED: &[(&str, &str, &str)] = &[
     ("s\ns\nq 2\nq 4\ndone\n", "", "Accepted\nPier\n"),
     ("s\ns\nq 2\nq 4\ndone\n", "and more", "Accepted\nPier\n"),
@@ -171,14 +171,14 @@ fn table(alloc: Global) -> Result<OffsetTable, OffsetFault> {
     read_offsets(alloc, TABLE)
 }
 
-// The reply to a request over the pier and its table.
+// Returns the reply to `request` over the pier and its table.
 fn replied(alloc: Global, request: &str) -> Result<Bytes, Fail> {
     let book = pier(alloc)?;
     let table = table(alloc)?;
     Ok(reply(alloc, &book, &table, request.as_bytes(), NOW)?)
 }
 
-// A response whose body may be left out.
+// Returns a response whose body may be absent.
 fn response(
     alloc: Global,
     status: &str,

@@ -1,4 +1,5 @@
-//! The server over a door in memory. Expected replies to questions are those of an independent program.
+//! The server over a port in memory. Expected replies to requests are those of an independent
+//! program.
 
 ghost use Rattle.std.specs.Prelude.{◌≡◌, IfOk, None};
 
@@ -63,7 +64,7 @@ pub(super) const NONE: Fails = Fails {
     clock: 0,
 };
 
-/// What a server left.
+/// The result of a server: its status, its port and its standard error.
 #[derive(Drop)]
 pub(super) struct Outcome {
     pub status: Status,
@@ -87,7 +88,7 @@ fn files_of(alloc: Global, fails: u64) -> Result<MemoryFiles, AllocError> {
     Ok(MemoryFiles::new(files, [fails].to_vec(alloc)?))
 }
 
-/// A door at which the requests come, with `room` bytes for all replies.
+/// Returns a port that receives the requests, with `room` bytes for all replies.
 fn door_of(
     alloc: Global,
     requests: &[Coming<'_>],
@@ -117,7 +118,7 @@ pub(super) fn serve_by<K: Clock>(
     Ok(Outcome { status, door, err })
 }
 
-/// The same with a clock at 2000-01-10T03:00Z.
+/// Serves the requests with a clock at 2000-01-10T03:00Z.
 pub(super) fn serve_over(
     alloc: Global,
     line: &str,
@@ -157,7 +158,7 @@ fn each_connection_has_its_reply(rt: HostRuntime) -> Result<(), Fail> {
     Ok(())
 }
 
-/// The words of a server, a request, and its reply.
+/// The arguments of a server, a request, and its reply.
 const QUESTIONS: &[(&str, &str, &str)] = &[
     (ASKED, DAY, LISTED),
     (
@@ -186,7 +187,7 @@ fn a_question_is_answered_however_it_comes(rt: HostRuntime) -> Result<(), Fail> 
     Ok(())
 }
 
-/// Requests of strangers, and their replies.
+/// Hostile requests, and their replies.
 const HOSTILE: &[(&str, &str)] = &[
     (
         "POST /check HTTP/1.1\r\nHost: a\r\nContent-Length: +5\r\n\r\n",
@@ -234,7 +235,8 @@ fn heads_that_are_too_large_are_answered(rt: HostRuntime) -> Result<(), Fail> {
     Ok(())
 }
 
-/// A call that fails among those of three connections, and what it comes to: status, lines and replies.
+/// A call that fails among those of three connections, and the status, the lines and the replies
+/// that follow.
 const FAILING: &[(Fails, Status, &str, &[&str])] = &[
     (
         Fails { door: 1, ..NONE },
@@ -318,7 +320,7 @@ fn a_full_line_cuts_the_reply_short(rt: HostRuntime) -> Result<(), Fail> {
     Ok(())
 }
 
-/// Words, and the status and the line that they come to.
+/// Arguments, and the status and the line that follow.
 const REFUSED: &[(&str, u8, &str)] = &[
     ("", 2, "words: no command\n"),
     ("predict|file", 2, "words: unknown command\n"),

@@ -66,7 +66,7 @@ pub record IsLooked (found : Found) (minute : ℤ) : Type 0 where
   pub from : found.span.begin ≤ℤ (minute -ℤ found.basis.high.add)
   pub until : (minute -ℤ found.basis.high.add) ≤ℤ found.span.end
 
--- each minute of the requested span up to its end has such a level
+-- each minute of the requested span up to its end has a level that may be evaluated
 abbrev pub AreLooked : Found → Type 0
 AreLooked found = (minute : ℤ) → found.asked.begin ≤ℤ minute → minute ≤ℤ found.asked.end → IsLooked found minute
 

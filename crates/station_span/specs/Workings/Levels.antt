@@ -26,7 +26,7 @@ pub record HasLevel (found : SiteTide) (minute : ℤ) : Type 0 where
   pub years : AreYears found.curve.first_year (length found.curve.years)
   pub inside : InTide found.curve (source_of found minute)
 
--- a span of such minutes
+-- a span at whose ends the tide has a level
 pub record HasLevelsIn (found : SiteTide) (asked : Asked) : Type 0 where
   pub forward : asked.begin ≤ℤ asked.end
   pub first : HasLevel found asked.begin

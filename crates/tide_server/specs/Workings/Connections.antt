@@ -105,7 +105,7 @@ pub record Talk : Type 0 where
   pub minute : Option ℤ
   pub connection : Connection
 
--- the port after such a connection
+-- the port after the open connection ended
 abbrev pub talked : Talk → DoorState → DoorState
 talked talk d = record d {
   connections = with_latest talk.connection d.connections;

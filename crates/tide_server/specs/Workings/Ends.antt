@@ -17,11 +17,11 @@ pub record Unread : Type 0 where
   pub err : SinkState
   pub clock : ClockState
 
--- such states
+-- the states of the port, standard error and the clock as one record
 abbrev pub unread : DoorState → SinkState → ClockState → Unread
 unread door err clock = record { door = door; err = err; clock = clock }
 
--- such states with those of the files
+-- the states of all objects, from those of the files and of the others
 abbrev pub with_files : FilesState → Unread → Handed
 with_files files left = handed files left.door left.err left.clock
 

@@ -1,4 +1,4 @@
--- `of` makes the struct without fields, at a book and a station of it.
+-- `of` makes the struct without fields, for a harmonics file and a station of it.
 use Rattle.std.proofs.Common.{[], ◌∷◌, refl}
 use seplogic.Ra.Ura.{Ura}
 use mir.Syntax.{named}
