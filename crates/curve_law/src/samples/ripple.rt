@@ -14,28 +14,21 @@ pub struct Ripple {
 }
 
 impl Ripple {
-    ghost use Rattle.curve_law.specs.Samples.{ripple};
+    ghost use Rattle.curve_law.specs.Samples.{ripple_facts};
 
     /// A ripple of which no value was asked yet.
     pub fn new() -> Ripple
-        ensures meaning { ⟦<Ripple as Curve>⟧.meaning result ≡ ripple }
-        ensures count { ⟦<Ripple as Curve>⟧.count result ≡ 0 }
+        ensures { ⟦<Ripple as Curve>⟧.state result ≡ record { facts = ripple_facts; count = 0 } }
     {
         Ripple { asked: 0 }
     }
 }
 
 impl Curve for Ripple {
-    ghost use Rattle.curve_law.specs.Samples.{ripple};
+    ghost use Rattle.curve_law.specs.Samples.{ripple_facts};
     ghost use Rattle.curve_law.specs.Workings.SampleLaws.{ripple-lawful, ripple-close, one_is_narrow};
 
-    ghost meaning = { λ _. ripple };
-
-    ghost near = { λ _ _. pos 0 };
-
-    ghost error = { λ _. 1 };
-
-    ghost count = { λ r. r.asked };
+    ghost state = { λ r. record { facts = ripple_facts; count = r.asked } };
 
     ghost lawful = { λ _. ripple-lawful };
 
