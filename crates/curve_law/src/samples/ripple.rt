@@ -1,6 +1,6 @@
 //! A value that changes side after each minute.
 
-ghost use Rattle.std.specs.Prelude.{◌≡◌, ◌≤◌, pos, unsigned_abs};
+ghost use Rattle.std.specs.Prelude.{◌≡◌, ◌≤◌, unsigned_abs};
 ghost use Rattle.curve_law.specs.Samples.{ripple};
 
 use crate::curve::Curve;
