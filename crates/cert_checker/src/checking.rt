@@ -4,6 +4,7 @@ ghost use Rattle.std.specs.Prelude.{◌≡◌, ◌+◌, ◌<◌, ◌≤◌, ◌^
 ghost use Rattle.curve_law.specs.declared.verdict.Verdict.{Verdict};
 ghost use Rattle.curve_law.specs.Track.{plain_list};
 ghost use Rattle.curve_law.specs.Meaning.{IsSpan};
+ghost use Rattle.curve_law.specs.CurveStates.{evaluated_once};
 ghost use Rattle.curve_law.specs.Cells.{minutes_of, all_minutes, turns};
 ghost use Rattle.curve_law.specs.Verdicts.{cells_verdict, verdict};
 
@@ -31,15 +32,15 @@ use curve_law::{Cell, Cells, Curve, Point, Verdict, point_at};
 /// ```
 pub fn check_track<C: Curve>(curve: &mut C, cells: &Cells, begin: i64, end: i64) -> Verdict
     requires forward { begin ≤ℤ end }
-    requires first { (C.meaning curve.old).first ≤ℤ begin }
-    requires last { end ≤ℤ (C.meaning curve.old).last }
+    requires first { (C.state curve.old).facts.meaning.first ≤ℤ begin }
+    requires last { end ≤ℤ (C.state curve.old).facts.meaning.last }
     requires few { length cells.now < 2 ^ 32 }
-    requires count { C.count curve.old + length cells.now ≤ 2 ^ 62 }
-    ensures verdict { result ≡ verdict (C.meaning curve.old) begin (unsigned_abs (end -ℤ begin)) cells.now }
+    requires count { (C.state curve.old).count + length cells.now ≤ 2 ^ 62 }
+    ensures verdict { result ≡ verdict (C.state curve.old).facts.meaning begin (unsigned_abs (end -ℤ begin)) cells.now }
     ensures exact { result ≡ Verdict.Accepted →
-        turns begin cells.now ≡ plain_list (C.meaning curve.old).track begin (unsigned_abs (end -ℤ begin)) }
-    ensures count { C.count curve.new ≤ C.count curve.old + length cells.now + 1 }
-    ensures same { C.meaning curve.new ≡ C.meaning curve.old }
+        turns begin cells.now ≡ plain_list (C.state curve.old).facts.meaning.track begin (unsigned_abs (end -ℤ begin)) }
+    ensures count { (C.state curve.new).count ≤ (C.state curve.old).count + length cells.now + 1 }
+    ensures unchanged { (C.state curve.new).facts ≡ (C.state curve.old).facts }
 {
     let wanted = end - begin;
     let covered = covered_by(cells.as_slice());
@@ -51,12 +52,12 @@ pub fn check_track<C: Curve>(curve: &mut C, cells: &Cells, begin: i64, end: i64)
 
 /// Returns the first fault of `cells` from `begin` on, or [`Verdict::Accepted`].
 fn first_finding<C: Curve>(curve: &mut C, cells: &[Cell], begin: i64) -> Verdict
-    requires span { IsSpan (C.meaning curve.old) begin (all_minutes cells.now) }
+    requires span { IsSpan (C.state curve.old).facts.meaning begin (all_minutes cells.now) }
     requires few { length cells.now < 2 ^ 32 }
-    requires count { C.count curve.old + length cells.now ≤ 2 ^ 62 }
-    ensures verdict { result ≡ cells_verdict (C.meaning curve.old) begin 1 cells.now }
-    ensures count { C.count curve.new ≤ C.count curve.old + length cells.now + 1 }
-    ensures same { C.meaning curve.new ≡ C.meaning curve.old }
+    requires count { (C.state curve.old).count + length cells.now ≤ 2 ^ 62 }
+    ensures verdict { result ≡ cells_verdict (C.state curve.old).facts.meaning begin 1 cells.now }
+    ensures count { (C.state curve.new).count ≤ (C.state curve.old).count + length cells.now + 1 }
+    ensures unchanged { (C.state curve.new).facts ≡ (C.state curve.old).facts }
 {
     let mut at = point_at(curve, begin);
     let mut number: u32 = 0;
@@ -73,12 +74,11 @@ fn first_finding<C: Curve>(curve: &mut C, cells: &[Cell], begin: i64) -> Verdict
 
 /// Evaluates `curve` at the end of `cell`, which begins at `begin`, and returns the point.
 fn end_of<C: Curve>(curve: &mut C, begin: i64, cell: Cell) -> Point
-    requires span { IsSpan (C.meaning curve.old) begin (minutes_of cell) }
-    requires few { C.count curve.old < 2 ^ 63 }
+    requires span { IsSpan (C.state curve.old).facts.meaning begin (minutes_of cell) }
+    requires few { (C.state curve.old).count < 2 ^ 63 }
     ensures minute { result.minute ≡ begin +ℤ pos (minutes_of cell) }
-    ensures value { result.value ≡ (C.meaning curve.old).track.value result.minute }
-    ensures counted { C.count curve.new ≡ C.count curve.old + 1 }
-    ensures same { C.meaning curve.new ≡ C.meaning curve.old }
+    ensures value { result.value ≡ (C.state curve.old).facts.meaning.track.value result.minute }
+    ensures after { C.state curve.new ≡ evaluated_once (C.state curve.old) }
 {
     point_at(curve, begin + i64::from(minutes_of(cell)))
 }

@@ -17,10 +17,10 @@ pub fn finding_on<C: Curve>(
     at: Point,
     end_value: i128,
 ) -> Verdict
-    requires span { IsSpan (C.meaning curve.now) at.minute (minutes_of cell) }
-    requires value { at.value ≡ (C.meaning curve.now).track.value at.minute }
-    requires end_value { end_value ≡ (C.meaning curve.now).track.value (at.minute +ℤ pos (minutes_of cell)) }
-    ensures { result ≡ cell_verdict (C.meaning curve.now) at.minute number cell }
+    requires span { IsSpan (C.state curve.now).facts.meaning at.minute (minutes_of cell) }
+    requires value { at.value ≡ (C.state curve.now).facts.meaning.track.value at.minute }
+    requires end_value { end_value ≡ (C.state curve.now).facts.meaning.track.value (at.minute +ℤ pos (minutes_of cell)) }
+    ensures { result ≡ cell_verdict (C.state curve.now).facts.meaning at.minute number cell }
 {
     match cell {
         Cell::Quiet(minutes) => quiet_finding(

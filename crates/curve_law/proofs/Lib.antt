@@ -6,3 +6,4 @@ pub mod QuietLemmas
 pub mod TrackLemmas
 pub mod VerdictLemmas
 pub mod SpanLemmas
+pub mod StateLemmas

@@ -1,5 +1,6 @@
 pub mod Cells
 pub mod Cover
+pub mod CurveStates
 pub mod Meaning
 pub mod Track
 pub mod Verdicts

@@ -4,6 +4,7 @@ use Rattle.std.specs.Int.{int_rem_euclid}
 use Rattle.std.specs.Ordering.{int_eq}
 use Rattle.curve_law.specs.declared.kind.Kind.TheVariants.{High, Low, MarkRising, MarkFalling}
 use Rattle.curve_law.specs.Meaning.{Meaning}
+use Rattle.curve_law.specs.CurveStates.{CurveFacts}
 
 -- a value that rises or falls by 1 each minute, with the minute as its level
 abbrev pub line : ℤ → Bool → ℤ → Meaning
@@ -12,6 +13,14 @@ line start falls rate = record {
   last = pos 1000000;
   track = record { value = λ m. if falls then start -ℤ m else start +ℤ m; note = λ m. m; rising = Low; falling = High };
   rate = λ a n. Some rate;
+}
+
+-- a near value is 1 too high
+abbrev pub line_facts : ℤ → Bool → ℤ → CurveFacts
+line_facts start falls rate = record {
+  meaning = line start falls rate;
+  near = λ m. (line start falls rate).track.value m +ℤ pos 1;
+  error = 1;
 }
 
 -- 1 at even minutes and -1 at odd ones, with no rate
@@ -27,3 +36,7 @@ ripple = record {
   };
   rate = λ a n. None;
 }
+
+-- a near value is 0, which tells nothing
+abbrev pub ripple_facts : CurveFacts
+ripple_facts = record { meaning = ripple; near = λ m. pos 0; error = 1 }

@@ -13,11 +13,11 @@ use crate::quiet::{MOST_MINUTES, cell_of_sides, is_quiet, most_change, unit_cell
 /// Returns true if the `n` minutes from `a` on are a quiet cell. `near` and `end_near` are the
 /// approximate values at its ends.
 pub fn is_quiet_near<C: Curve>(curve: &C, a: i64, n: u32, near: i128, end_near: i128) -> bool
-    requires span { IsSpan (C.meaning curve.now) a n }
+    requires span { IsSpan (C.state curve.now).facts.meaning a n }
     requires few { n ≤ MOST_MINUTES }
-    requires near { near ≡ C.near curve.now a }
-    requires end_near { end_near ≡ C.near curve.now (a +ℤ pos n) }
-    ensures { result ≡ is_quiet (C.meaning curve.now) a n }
+    requires near { near ≡ (C.state curve.now).facts.near a }
+    requires end_near { end_near ≡ (C.state curve.now).facts.near (a +ℤ pos n) }
+    ensures { result ≡ is_quiet (C.state curve.now).facts.meaning a n }
 {
     match quiet_as_told(curve, a, n, near, end_near) {
         Some(quiet) => quiet,
@@ -28,10 +28,10 @@ pub fn is_quiet_near<C: Curve>(curve: &C, a: i64, n: u32, near: i128, end_near: 
 /// Returns the cell of the single minute `a`. `near` and `next_near` are the approximate values at `a`
 /// and at the next minute.
 pub fn unit_cell_near<C: Curve>(curve: &C, a: i64, near: i128, next_near: i128) -> Cell
-    requires span { IsSpan (C.meaning curve.now) a 1 }
-    requires near { near ≡ C.near curve.now a }
-    requires next_near { next_near ≡ C.near curve.now (a +ℤ pos 1) }
-    ensures { result ≡ unit_cell (C.meaning curve.now).track a }
+    requires span { IsSpan (C.state curve.now).facts.meaning a 1 }
+    requires near { near ≡ (C.state curve.now).facts.near a }
+    requires next_near { next_near ≡ (C.state curve.now).facts.near (a +ℤ pos 1) }
+    ensures { result ≡ unit_cell (C.state curve.now).facts.meaning.track a }
 {
     match unit_cell_as_told(curve, a, near, next_near) {
         Some(cell) => cell,
@@ -42,11 +42,11 @@ pub fn unit_cell_near<C: Curve>(curve: &C, a: i64, near: i128, next_near: i128) 
 /// Returns whether the `n` minutes from `a` on are a quiet cell, or `None` if the approximate values at
 /// its ends leave it open.
 fn quiet_as_told<C: Curve>(curve: &C, a: i64, n: u32, near: i128, end_near: i128) -> Option<bool>
-    requires span { IsSpan (C.meaning curve.now) a n }
+    requires span { IsSpan (C.state curve.now).facts.meaning a n }
     requires few { n ≤ MOST_MINUTES }
-    requires near { IsNearValue (C.meaning curve.now) (C.error curve.now) a near }
-    requires end_near { IsNearValue (C.meaning curve.now) (C.error curve.now) (a +ℤ pos n) end_near }
-    ensures { IfSome result (λ quiet. is_quiet (C.meaning curve.now) a n ≡ quiet) }
+    requires near { IsNearValue (C.state curve.now).facts.meaning (C.state curve.now).facts.error a near }
+    requires end_near { IsNearValue (C.state curve.now).facts.meaning (C.state curve.now).facts.error (a +ℤ pos n) end_near }
+    ensures { IfSome result (λ quiet. is_quiet (C.state curve.now).facts.meaning a n ≡ quiet) }
 {
     let error = curve.error();
     if side_of(near, error)? != side_of(end_near, error)? || n < 2 {
@@ -61,10 +61,10 @@ fn quiet_as_told<C: Curve>(curve: &C, a: i64, n: u32, near: i128, end_near: i128
 /// Returns the cell of the single minute `a`, or `None` if the approximate values at `a` and the next
 /// minute leave it open.
 fn unit_cell_as_told<C: Curve>(curve: &C, a: i64, near: i128, next_near: i128) -> Option<Cell>
-    requires span { IsSpan (C.meaning curve.now) a 1 }
-    requires near { IsNearValue (C.meaning curve.now) (C.error curve.now) a near }
-    requires next_near { IsNearValue (C.meaning curve.now) (C.error curve.now) (a +ℤ pos 1) next_near }
-    ensures { IfSome result (λ cell. cell ≡ unit_cell (C.meaning curve.now).track a) }
+    requires span { IsSpan (C.state curve.now).facts.meaning a 1 }
+    requires near { IsNearValue (C.state curve.now).facts.meaning (C.state curve.now).facts.error a near }
+    requires next_near { IsNearValue (C.state curve.now).facts.meaning (C.state curve.now).facts.error (a +ℤ pos 1) next_near }
+    ensures { IfSome result (λ cell. cell ≡ unit_cell (C.state curve.now).facts.meaning.track a) }
 {
     let error = curve.error();
     match (side_of(near, error), side_of(next_near, error)) {
@@ -78,11 +78,11 @@ fn unit_cell_as_told<C: Curve>(curve: &C, a: i64, near: i128, next_near: i128) -
 #[cold]
 #[inline(never)]
 fn is_quiet_exactly<C: Curve>(curve: &C, a: i64, n: u32, near: i128, end_near: i128) -> bool
-    requires span { IsSpan (C.meaning curve.now) a n }
+    requires span { IsSpan (C.state curve.now).facts.meaning a n }
     requires few { n ≤ MOST_MINUTES }
-    requires near { near ≡ C.near curve.now a }
-    requires end_near { end_near ≡ C.near curve.now (a +ℤ pos n) }
-    ensures { result ≡ is_quiet (C.meaning curve.now) a n }
+    requires near { near ≡ (C.state curve.now).facts.near a }
+    requires end_near { end_near ≡ (C.state curve.now).facts.near (a +ℤ pos n) }
+    ensures { result ≡ is_quiet (C.state curve.now).facts.meaning a n }
 {
     let value = curve.exact_value(a, near);
     let end_value = curve.exact_value(a + i64::from(n), end_near);
@@ -92,10 +92,10 @@ fn is_quiet_exactly<C: Curve>(curve: &C, a: i64, n: u32, near: i128, end_near: i
 #[cold]
 #[inline(never)]
 fn unit_cell_exactly<C: Curve>(curve: &C, a: i64, near: i128, next_near: i128) -> Cell
-    requires span { IsSpan (C.meaning curve.now) a 1 }
-    requires near { near ≡ C.near curve.now a }
-    requires next_near { next_near ≡ C.near curve.now (a +ℤ pos 1) }
-    ensures { result ≡ unit_cell (C.meaning curve.now).track a }
+    requires span { IsSpan (C.state curve.now).facts.meaning a 1 }
+    requires near { near ≡ (C.state curve.now).facts.near a }
+    requires next_near { next_near ≡ (C.state curve.now).facts.near (a +ℤ pos 1) }
+    ensures { result ≡ unit_cell (C.state curve.now).facts.meaning.track a }
 {
     let value = curve.exact_value(a, near);
     let next_value = curve.exact_value(a + 1, next_near);

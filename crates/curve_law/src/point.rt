@@ -1,7 +1,8 @@
 //! A minute and the value there.
 
-ghost use Rattle.std.specs.Prelude.{◌≡◌, ◌+◌, ◌^◌, ◌<◌};
+ghost use Rattle.std.specs.Prelude.{◌≡◌, ◌^◌, ◌<◌};
 ghost use Rattle.curve_law.specs.Meaning.{IsMinute};
+ghost use Rattle.curve_law.specs.CurveStates.{evaluated_once};
 
 use crate::curve::Curve;
 
@@ -14,13 +15,10 @@ pub struct Point {
 
 /// Evaluates `curve` at `minute`, and returns the point.
 pub fn point_at<C: Curve>(curve: &mut C, minute: i64) -> Point
-    requires minute { IsMinute (C.meaning curve.old) minute }
-    requires few { C.count curve.old < 2 ^ 63 }
-    ensures point { result ≡ record { minute = minute; value = (C.meaning curve.old).track.value minute } }
-    ensures counted { C.count curve.new ≡ C.count curve.old + 1 }
-    ensures same { C.meaning curve.new ≡ C.meaning curve.old }
-    ensures same_near { C.near curve.new ≡ C.near curve.old }
-    ensures same_error { C.error curve.new ≡ C.error curve.old }
+    requires minute { IsMinute (C.state curve.old).facts.meaning minute }
+    requires few { (C.state curve.old).count < 2 ^ 63 }
+    ensures point { result ≡ record { minute = minute; value = (C.state curve.old).facts.meaning.track.value minute } }
+    ensures after { C.state curve.new ≡ evaluated_once (C.state curve.old) }
 {
     Point {
         minute,
@@ -30,13 +28,10 @@ pub fn point_at<C: Curve>(curve: &mut C, minute: i64) -> Point
 
 /// Evaluates `curve` approximately at `minute`, and returns the point.
 pub fn near_point_at<C: Curve>(curve: &mut C, minute: i64) -> Point
-    requires minute { IsMinute (C.meaning curve.old) minute }
-    requires few { C.count curve.old < 2 ^ 63 }
-    ensures point { result ≡ record { minute = minute; value = C.near curve.old minute } }
-    ensures counted { C.count curve.new ≡ C.count curve.old + 1 }
-    ensures same { C.meaning curve.new ≡ C.meaning curve.old }
-    ensures same_near { C.near curve.new ≡ C.near curve.old }
-    ensures same_error { C.error curve.new ≡ C.error curve.old }
+    requires minute { IsMinute (C.state curve.old).facts.meaning minute }
+    requires few { (C.state curve.old).count < 2 ^ 63 }
+    ensures point { result ≡ record { minute = minute; value = (C.state curve.old).facts.near minute } }
+    ensures after { C.state curve.new ≡ evaluated_once (C.state curve.old) }
 {
     Point {
         minute,

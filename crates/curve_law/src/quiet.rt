@@ -15,10 +15,10 @@ pub const MOST_MINUTES: u32 = 1024;
 /// Returns true if the `n` minutes from `a` on are a quiet cell; `value` and `end_value` are the values
 /// at its ends. The rate is evaluated only if both are on one side of 0.
 pub fn is_quiet<C: Curve>(curve: &C, a: i64, n: u32, value: i128, end_value: i128) -> bool
-    requires span { IsSpan (C.meaning curve.now) a n }
-    requires value { value ≡ (C.meaning curve.now).track.value a }
-    requires end_value { end_value ≡ (C.meaning curve.now).track.value (a +ℤ pos n) }
-    ensures { result ≡ is_quiet (C.meaning curve.now) a n }
+    requires span { IsSpan (C.state curve.now).facts.meaning a n }
+    requires value { value ≡ (C.state curve.now).facts.meaning.track.value a }
+    requires end_value { end_value ≡ (C.state curve.now).facts.meaning.track.value (a +ℤ pos n) }
+    ensures { result ≡ is_quiet (C.state curve.now).facts.meaning a n }
 {
     if (value > 0) != (end_value > 0) {
         return false;
@@ -27,10 +27,10 @@ pub fn is_quiet<C: Curve>(curve: &C, a: i64, n: u32, value: i128, end_value: i12
 }
 
 fn is_quiet_by_rate<C: Curve>(curve: &C, a: i64, n: u32, value: i128, end_value: i128) -> bool
-    requires span { IsSpan (C.meaning curve.now) a n }
-    requires value { value ≡ (C.meaning curve.now).track.value a }
-    requires end_value { end_value ≡ (C.meaning curve.now).track.value (a +ℤ pos n) }
-    ensures { result ≡ is_quiet (C.meaning curve.now) a n }
+    requires span { IsSpan (C.state curve.now).facts.meaning a n }
+    requires value { value ≡ (C.state curve.now).facts.meaning.track.value a }
+    requires end_value { end_value ≡ (C.state curve.now).facts.meaning.track.value (a +ℤ pos n) }
+    ensures { result ≡ is_quiet (C.state curve.now).facts.meaning a n }
 {
     if n < 2 || n > MOST_MINUTES {
         return false;
@@ -44,10 +44,10 @@ fn is_quiet_by_rate<C: Curve>(curve: &C, a: i64, n: u32, value: i128, end_value:
 /// Returns the cell of the single minute `a`; `value` and `next_value` are the values at `a` and at the
 /// next minute.
 pub fn unit_cell<C: Curve>(curve: &C, a: i64, value: i128, next_value: i128) -> Cell
-    requires minute { IsMinute (C.meaning curve.now) a }
-    requires value { value ≡ (C.meaning curve.now).track.value a }
-    requires next_value { next_value ≡ (C.meaning curve.now).track.value (a +ℤ pos 1) }
-    ensures { result ≡ unit_cell (C.meaning curve.now).track a }
+    requires minute { IsMinute (C.state curve.now).facts.meaning a }
+    requires value { value ≡ (C.state curve.now).facts.meaning.track.value a }
+    requires next_value { next_value ≡ (C.state curve.now).facts.meaning.track.value (a +ℤ pos 1) }
+    ensures { result ≡ unit_cell (C.state curve.now).facts.meaning.track a }
 {
     cell_of_sides(curve, a, value > 0, next_value > 0)
 }
@@ -55,10 +55,10 @@ pub fn unit_cell<C: Curve>(curve: &C, a: i64, value: i128, next_value: i128) -> 
 /// Returns the cell of the single minute `a`; `is_above` and `is_above_next` say whether the values at
 /// `a` and at the next minute are above 0.
 pub fn cell_of_sides<C: Curve>(curve: &C, a: i64, is_above: bool, is_above_next: bool) -> Cell
-    requires minute { IsMinute (C.meaning curve.now) a }
-    requires side { is_above ≡ side_at (C.meaning curve.now).track a }
-    requires next_side { is_above_next ≡ side_at (C.meaning curve.now).track (a +ℤ pos 1) }
-    ensures { result ≡ unit_cell (C.meaning curve.now).track a }
+    requires minute { IsMinute (C.state curve.now).facts.meaning a }
+    requires side { is_above ≡ side_at (C.state curve.now).facts.meaning.track a }
+    requires next_side { is_above_next ≡ side_at (C.state curve.now).facts.meaning.track (a +ℤ pos 1) }
+    ensures { result ≡ unit_cell (C.state curve.now).facts.meaning.track a }
 {
     if is_above_next == is_above {
         return Cell::Still;

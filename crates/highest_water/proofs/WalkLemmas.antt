@@ -5,6 +5,7 @@ use Rattle.std.proofs.lemmas.Bool.Decides.{nat_tests}
 use Rattle.std.proofs.lemmas.List.{append-nil}
 use Rattle.curve_law.specs.declared.point.Point.{Point}
 use Rattle.curve_law.specs.Meaning.{Meaning, IsLawful}
+use Rattle.curve_law.specs.CurveStates.{CurveState, evaluated_once}
 use Rattle.curve_law.proofs.CoverLemmas.{by_test}
 use Rattle.interval_search.specs.Workings.Ahead.{minutes_to, IsPiece, ArePieces}
 use Rattle.interval_search.proofs.AheadLemmas.{begun-pieces, middle-pieces, piece-ahead, piece-parts, pieces-end, waiting-few}
@@ -40,28 +41,28 @@ begun-ahead c end a b p old new some is point empty none h =
     let q : Point = record { minute = b; value = c.track.value b } in
     rw (point, empty, none) (begun-cells c h end a q some is)
 
-pub begun-stands : (c : Meaning) (count more : ℕ) (end : ℤ) (at : Point) (b : ℤ) (p : Point) (old new : List Point) → at.minute <ℤ end → b ≡ at.minute +ℤ pos (min (minutes_to at.minute end) 1024) → p ≡ record { minute = b; value = c.track.value b } → more ≡ count + 1 → old ≡ [] → new ≡ [] → Stands c count end at old → Stands c more end at (p ∷ new)
-begun-stands c count more end at b p old new some is point counted empty none stands =
-    let q : Point = record { minute = b; value = c.track.value b } in
+pub begun-stands : (s t : CurveState) (end : ℤ) (at : Point) (b : ℤ) (p : Point) (old new : List Point) → at.minute <ℤ end → b ≡ at.minute +ℤ pos (min (minutes_to at.minute end) 1024) → p ≡ record { minute = b; value = s.facts.meaning.track.value b } → t ≡ evaluated_once s → old ≡ [] → new ≡ [] → Stands s end at old → Stands t end at (p ∷ new)
+begun-stands s t end at b p old new some is point after empty none stands =
+    let q : Point = record { minute = b; value = s.facts.meaning.track.value b } in
     let few = (rw empty at stands).few in
-    rw (point, counted, none) (record {
+    rw (point, after, none) (record {
       value = stands.value;
       first = stands.first;
       last = stands.last;
-      pieces = begun-pieces c.track.value end at.minute q some is refl;
+      pieces = begun-pieces s.facts.meaning.track.value end at.minute q some is refl;
       few = omega arith;
     })
 
 -- ---- the nearest piece and its halves
 
-pub nearest-piece : (c : Meaning) (count : ℕ) (end : ℤ) (at p : Point) (ps : List Point) → Stands c count end at (p ∷ ps) → IsPiece c c.track.value at p
-nearest-piece c count end at p ps stands = piece-ahead c c.track.value end at p ps stands.value stands.first stands.last stands.pieces
+pub nearest-piece : (s : CurveState) (end : ℤ) (at p : Point) (ps : List Point) → Stands s end at (p ∷ ps) → IsPiece s.facts.meaning s.facts.meaning.track.value at p
+nearest-piece s end at p ps stands = piece-ahead s.facts.meaning s.facts.meaning.track.value end at p ps stands.value stands.first stands.last stands.pieces
 
 -- the curve was evaluated seldom enough for one more evaluation
-pub asked-few : (c : Meaning) (count : ℕ) (end : ℤ) (at p : Point) (ps : List Point) → Stands c count end at (p ∷ ps) → count < 2 ^ 63
-asked-few c count end at p ps stands =
+pub asked-few : (s : CurveState) (end : ℤ) (at p : Point) (ps : List Point) → Stands s end at (p ∷ ps) → s.count < 2 ^ 63
+asked-few s end at p ps stands =
     let few = stands.few in
-    let waiting = waiting-few c.track.value end at.minute p ps stands.pieces in
+    let waiting = waiting-few s.facts.meaning.track.value end at.minute p ps stands.pieces in
     omega arith
 
 -- the cells of two halves in place of their whole
@@ -75,25 +76,25 @@ pub middle-cells : (c : Meaning) (h : Point) (end a : ℤ) (m p : Point) (ps : L
 unfolding cells_ahead
 middle-cells c h end a m p ps some two other is = halved-cells c h a m.minute p.minute (cells_ahead c h end p.minute ps) some two other is
 
-pub middle-stands : (c : Meaning) (count : ℕ) (end : ℤ) (at m p : Point) (ps : List Point) → Stands c count end at (p ∷ ps) → 2 ≤ minutes_to at.minute p.minute → m.minute ≡ at.minute +ℤ pos (minutes_to at.minute p.minute / 2) → m.value ≡ c.track.value m.minute → Stands c (count + 1) end at (m ∷ p ∷ ps)
-middle-stands c count end at m p ps stands two is value =
+pub middle-stands : (s : CurveState) (end : ℤ) (at m p : Point) (ps : List Point) → Stands s end at (p ∷ ps) → 2 ≤ minutes_to at.minute p.minute → m.minute ≡ at.minute +ℤ pos (minutes_to at.minute p.minute / 2) → m.value ≡ s.facts.meaning.track.value m.minute → Stands (evaluated_once s) end at (m ∷ p ∷ ps)
+middle-stands s end at m p ps stands two is value =
     let few = stands.few in
     record {
       value = stands.value;
       first = stands.first;
       last = stands.last;
-      pieces = middle-pieces c.track.value end at.minute m p ps stands.pieces two is value;
+      pieces = middle-pieces s.facts.meaning.track.value end at.minute m p ps stands.pieces two is value;
       few = omega arith;
     }
 
 -- ---- the begin and the end of a walk
 
-pub first-stands : (c : Meaning) (count more : ℕ) (begin end : ℤ) (p : Point) (ps : List Point) → IsLawful c → begin ≤ℤ end → c.first ≤ℤ begin → end ≤ℤ c.last → count ≤ 2 ^ 62 + 2 ^ 60 → more ≡ count + 1 → p ≡ record { minute = begin; value = c.track.value begin } → ps ≡ [] → Stands c more end p ps
+pub first-stands : (s t : CurveState) (begin end : ℤ) (p : Point) (ps : List Point) → IsLawful s.facts.meaning → begin ≤ℤ end → s.facts.meaning.first ≤ℤ begin → end ≤ℤ s.facts.meaning.last → s.count ≤ 2 ^ 62 + 2 ^ 60 → t ≡ evaluated_once s → p ≡ record { minute = begin; value = s.facts.meaning.track.value begin } → ps ≡ [] → Stands t end p ps
 unfolding ArePieces
-first-stands c count more begin end p ps lawful forward first last few counted is none =
+first-stands s t begin end p ps lawful forward first last few after is none =
     let early = lawful.early in
     let late = lawful.late in
-    rw (is, none, counted) (record { value = refl; first = first; last = last; pieces = forward; few = omega (arith, ints) })
+    rw (is, none, after) (record { value = refl; first = first; last = last; pieces = forward; few = omega (arith, ints) })
 
 pub first-cells : (c : Meaning) (begin end : ℤ) (p : Point) (ps : List Point) → p ≡ record { minute = begin; value = c.track.value begin } → ps ≡ [] → (h : Point) → cells_ahead c h end p.minute ps ≡ peak_cover c h.minute h.value begin (minutes_to begin end)
 unfolding cells_ahead
@@ -162,22 +163,22 @@ pub given-cells : (c : Meaning) (h : Point) (end a : ℤ) (p : Point) (ps : List
 unfolding cells_ahead
 given-cells c h end a p ps cell one = rw one refl
 
-pub given-onward : (c : Meaning) (h : Point) (count : ℕ) (end : ℤ) (at p : Point) (ps : List Point) (cell : PeakCell) → Stands c count end at (p ∷ ps) → peak_split c h.minute h.value at.minute (minutes_to at.minute p.minute) ≡ cell ∷ [] → p.minute ≡ at.minute +ℤ pos (minutes_of cell)
-given-onward c h count end at p ps cell stands one =
-    cell-minutes c h at.minute p.minute cell (piece-parts c.track.value end at.minute p ps stands.pieces).0 one
+pub given-onward : (s : CurveState) (h : Point) (end : ℤ) (at p : Point) (ps : List Point) (cell : PeakCell) → Stands s end at (p ∷ ps) → peak_split s.facts.meaning h.minute h.value at.minute (minutes_to at.minute p.minute) ≡ cell ∷ [] → p.minute ≡ at.minute +ℤ pos (minutes_of cell)
+given-onward s h end at p ps cell stands one =
+    cell-minutes s.facts.meaning h at.minute p.minute cell (piece-parts s.facts.meaning.track.value end at.minute p ps stands.pieces).0 one
 
-pub given-right : (c : Meaning) (h : Point) (count : ℕ) (end : ℤ) (at p : Point) (ps : List Point) (cell : PeakCell) → Stands c count end at (p ∷ ps) → peak_split c h.minute h.value at.minute (minutes_to at.minute p.minute) ≡ cell ∷ [] → IsRight c h at.minute cell
-given-right c h count end at p ps cell stands one =
-    let some = (piece-parts c.track.value end at.minute p ps stands.pieces).0 in
-    one-right c h at.minute (minutes_to at.minute p.minute) cell (omega (arith, ints)) one
+pub given-right : (s : CurveState) (h : Point) (end : ℤ) (at p : Point) (ps : List Point) (cell : PeakCell) → Stands s end at (p ∷ ps) → peak_split s.facts.meaning h.minute h.value at.minute (minutes_to at.minute p.minute) ≡ cell ∷ [] → IsRight s.facts.meaning h at.minute cell
+given-right s h end at p ps cell stands one =
+    let some = (piece-parts s.facts.meaning.track.value end at.minute p ps stands.pieces).0 in
+    one-right s.facts.meaning h at.minute (minutes_to at.minute p.minute) cell (omega (arith, ints)) one
 
-pub given-stands : (c : Meaning) (count : ℕ) (end : ℤ) (at p : Point) (ps : List Point) → Stands c count end at (p ∷ ps) → Stands c count end p ps
-given-stands c count end at p ps stands =
-    let parts = piece-parts c.track.value end at.minute p ps stands.pieces in
+pub given-stands : (s : CurveState) (end : ℤ) (at p : Point) (ps : List Point) → Stands s end at (p ∷ ps) → Stands s end p ps
+given-stands s end at p ps stands =
+    let parts = piece-parts s.facts.meaning.track.value end at.minute p ps stands.pieces in
     let some = parts.0 in
     let first = stands.first in
     let few = stands.few in
-    let rest = pieces-end c.track.value end p.minute ps parts.3 in
+    let rest = pieces-end s.facts.meaning.track.value end p.minute ps parts.3 in
     record {
       value = parts.2;
       first = omega (arith, ints);

@@ -2,6 +2,7 @@
 
 ghost use Rattle.std.specs.Prelude.{◌≡◌, ◌+◌, ◌<◌, ◌≤◌, ◌^◌, pos, ◌+ℤ◌, ◌-ℤ◌, ◌≤ℤ◌, unsigned_abs, length};
 ghost use Rattle.curve_law.specs.Meaning.{IsSpan};
+ghost use Rattle.curve_law.specs.CurveStates.{evaluated_once};
 ghost use Rattle.highest_water.specs.declared.verdict.PeakVerdict.{PeakVerdict};
 ghost use Rattle.highest_water.specs.Peaks.{IsHighest};
 ghost use Rattle.highest_water.specs.Covers.{minutes_of, all_minutes};
@@ -24,16 +25,16 @@ use curve_law::{Curve, Point, point_at};
 /// once more.
 pub fn check_peak<C: Curve>(curve: &mut C, peak: &Peak, begin: i64, end: i64) -> PeakVerdict
     requires forward { begin ≤ℤ end }
-    requires first { (C.meaning curve.old).first ≤ℤ begin }
-    requires last { end ≤ℤ (C.meaning curve.old).last }
+    requires first { (C.state curve.old).facts.meaning.first ≤ℤ begin }
+    requires last { end ≤ℤ (C.state curve.old).facts.meaning.last }
     requires size { unsigned_abs peak.now.value < 10 ^ 37 }
     requires few { length peak.now.cells < 2 ^ 32 }
-    requires count { C.count curve.old + length peak.now.cells ≤ 2 ^ 62 }
-    ensures verdict { result ≡ peak_verdict (C.meaning curve.old) begin (unsigned_abs (end -ℤ begin)) peak.now }
+    requires count { (C.state curve.old).count + length peak.now.cells ≤ 2 ^ 62 }
+    ensures verdict { result ≡ peak_verdict (C.state curve.old).facts.meaning begin (unsigned_abs (end -ℤ begin)) peak.now }
     ensures highest { result ≡ PeakVerdict.Accepted →
-        IsHighest (C.meaning curve.old) begin end peak.now.at peak.now.value }
-    ensures count { C.count curve.new ≤ C.count curve.old + length peak.now.cells + 1 }
-    ensures same { C.meaning curve.new ≡ C.meaning curve.old }
+        IsHighest (C.state curve.old).facts.meaning begin end peak.now.at peak.now.value }
+    ensures count { (C.state curve.new).count ≤ (C.state curve.old).count + length peak.now.cells + 1 }
+    ensures unchanged { (C.state curve.new).facts ≡ (C.state curve.old).facts }
 {
     let wanted = end - begin;
     let covered = covered_by(peak.cells.as_slice());
@@ -67,12 +68,12 @@ fn first_finding<C: Curve>(
     begin: i64,
 ) -> PeakVerdict
     requires size { unsigned_abs highest.value < 10 ^ 37 }
-    requires span { IsSpan (C.meaning curve.old) begin (all_minutes cells.now) }
+    requires span { IsSpan (C.state curve.old).facts.meaning begin (all_minutes cells.now) }
     requires few { length cells.now < 2 ^ 32 }
-    requires count { C.count curve.old + length cells.now ≤ 2 ^ 62 }
-    ensures verdict { result ≡ cells_verdict (C.meaning curve.old) highest.minute highest.value begin 1 cells.now }
-    ensures count { C.count curve.new ≤ C.count curve.old + length cells.now + 1 }
-    ensures same { C.meaning curve.new ≡ C.meaning curve.old }
+    requires count { (C.state curve.old).count + length cells.now ≤ 2 ^ 62 }
+    ensures verdict { result ≡ cells_verdict (C.state curve.old).facts.meaning highest.minute highest.value begin 1 cells.now }
+    ensures count { (C.state curve.new).count ≤ (C.state curve.old).count + length cells.now + 1 }
+    ensures unchanged { (C.state curve.new).facts ≡ (C.state curve.old).facts }
 {
     let mut at = point_at(curve, begin);
     let mut number: u32 = 0;
@@ -89,12 +90,11 @@ fn first_finding<C: Curve>(
 
 /// Returns the point at which `cell` ends if it begins at minute `begin`.
 fn end_of<C: Curve>(curve: &mut C, begin: i64, cell: PeakCell) -> Point
-    requires span { IsSpan (C.meaning curve.old) begin (minutes_of cell) }
-    requires few { C.count curve.old < 2 ^ 63 }
+    requires span { IsSpan (C.state curve.old).facts.meaning begin (minutes_of cell) }
+    requires few { (C.state curve.old).count < 2 ^ 63 }
     ensures minute { result.minute ≡ begin +ℤ pos (minutes_of cell) }
-    ensures value { result.value ≡ (C.meaning curve.old).track.value result.minute }
-    ensures counted { C.count curve.new ≡ C.count curve.old + 1 }
-    ensures same { C.meaning curve.new ≡ C.meaning curve.old }
+    ensures value { result.value ≡ (C.state curve.old).facts.meaning.track.value result.minute }
+    ensures after { C.state curve.new ≡ evaluated_once (C.state curve.old) }
 {
     point_at(curve, begin + i64::from(minutes_of(cell)))
 }

@@ -23,14 +23,14 @@ pub fn peak_cover<C: Curve>(
     at: i64,
     value: i128,
 ) -> Result<PeakCells, AllocError>
-    requires highest { IsHighest (C.meaning curve.old) begin end at value }
-    requires first { (C.meaning curve.old).first ≤ℤ begin }
-    requires last { end ≤ℤ (C.meaning curve.old).last }
-    requires few { C.count curve.old ≤ 2 ^ 62 }
-    ensures cells { IfOk result (λ cells. cells ≡ peak_cover (C.meaning curve.old) at value begin (unsigned_abs (end -ℤ begin))) }
-    ensures count { C.count curve.new
-        ≤ C.count curve.old + length (peak_cover (C.meaning curve.old) at value begin (unsigned_abs (end -ℤ begin))) + 1 }
-    ensures same { C.meaning curve.new ≡ C.meaning curve.old }
+    requires highest { IsHighest (C.state curve.old).facts.meaning begin end at value }
+    requires first { (C.state curve.old).facts.meaning.first ≤ℤ begin }
+    requires last { end ≤ℤ (C.state curve.old).facts.meaning.last }
+    requires few { (C.state curve.old).count ≤ 2 ^ 62 }
+    ensures cells { IfOk result (λ cells. cells ≡ peak_cover (C.state curve.old).facts.meaning at value begin (unsigned_abs (end -ℤ begin))) }
+    ensures count { (C.state curve.new).count
+        ≤ (C.state curve.old).count + length (peak_cover (C.state curve.old).facts.meaning at value begin (unsigned_abs (end -ℤ begin))) + 1 }
+    ensures unchanged { (C.state curve.new).facts ≡ (C.state curve.old).facts }
 {
     cells_by(alloc, curve, begin, end, Point { minute: at, value })
 }
@@ -45,13 +45,13 @@ pub fn cells_by<C: Curve>(
 ) -> Result<PeakCells, AllocError>
     requires size { unsigned_abs highest.value < 10 ^ 37 }
     requires forward { begin ≤ℤ end }
-    requires first { (C.meaning curve.old).first ≤ℤ begin }
-    requires last { end ≤ℤ (C.meaning curve.old).last }
-    requires few { C.count curve.old ≤ 2 ^ 62 + 2 ^ 60 }
-    ensures cells { IfOk result (λ cells. cells ≡ peak_cover (C.meaning curve.old) highest.minute highest.value begin (unsigned_abs (end -ℤ begin))) }
-    ensures count { C.count curve.new
-        ≤ C.count curve.old + length (peak_cover (C.meaning curve.old) highest.minute highest.value begin (unsigned_abs (end -ℤ begin))) + 1 }
-    ensures same { C.meaning curve.new ≡ C.meaning curve.old }
+    requires first { (C.state curve.old).facts.meaning.first ≤ℤ begin }
+    requires last { end ≤ℤ (C.state curve.old).facts.meaning.last }
+    requires few { (C.state curve.old).count ≤ 2 ^ 62 + 2 ^ 60 }
+    ensures cells { IfOk result (λ cells. cells ≡ peak_cover (C.state curve.old).facts.meaning highest.minute highest.value begin (unsigned_abs (end -ℤ begin))) }
+    ensures count { (C.state curve.new).count
+        ≤ (C.state curve.old).count + length (peak_cover (C.state curve.old).facts.meaning highest.minute highest.value begin (unsigned_abs (end -ℤ begin))) + 1 }
+    ensures unchanged { (C.state curve.new).facts ≡ (C.state curve.old).facts }
 {
     let mut walk = walk_from(curve, begin, end);
     let mut cells = Vec::new(alloc);

@@ -26,14 +26,14 @@ pub fn find_peak<C: Curve>(
 ) -> Result<Peak, AllocError>
     requires some { begin <ℤ end }
     requires short { (end -ℤ begin) ≤ℤ pos 5270400 }
-    requires first { (C.meaning curve.old).first ≤ℤ begin }
-    requires last { end ≤ℤ (C.meaning curve.old).last }
-    requires few { C.count curve.old ≤ 2 ^ 62 }
-    ensures highest { IfOk result (λ peak. IsHighest (C.meaning curve.old) begin end peak.at peak.value) }
-    ensures peak { IfOk result (λ peak. peak ≡ peak_of (C.meaning curve.old) begin (unsigned_abs (end -ℤ begin))) }
-    ensures count { C.count curve.new ≤ C.count curve.old + 2 * unsigned_abs (end -ℤ begin)
-        + length (peak_of (C.meaning curve.old) begin (unsigned_abs (end -ℤ begin))).cells + 2 }
-    ensures same { C.meaning curve.new ≡ C.meaning curve.old }
+    requires first { (C.state curve.old).facts.meaning.first ≤ℤ begin }
+    requires last { end ≤ℤ (C.state curve.old).facts.meaning.last }
+    requires few { (C.state curve.old).count ≤ 2 ^ 62 }
+    ensures highest { IfOk result (λ peak. IsHighest (C.state curve.old).facts.meaning begin end peak.at peak.value) }
+    ensures peak { IfOk result (λ peak. peak ≡ peak_of (C.state curve.old).facts.meaning begin (unsigned_abs (end -ℤ begin))) }
+    ensures count { (C.state curve.new).count ≤ (C.state curve.old).count + 2 * unsigned_abs (end -ℤ begin)
+        + length (peak_of (C.state curve.old).facts.meaning begin (unsigned_abs (end -ℤ begin))).cells + 2 }
+    ensures unchanged { (C.state curve.new).facts ≡ (C.state curve.old).facts }
 {
     let highest = highest_point(curve, begin, end);
     let cells = cells_by(alloc, curve, begin, end, highest)?;
@@ -51,14 +51,14 @@ pub fn find_peak<C: Curve>(
 pub fn highest_point<C: Curve>(curve: &mut C, begin: i64, end: i64) -> Point
     requires some { begin <ℤ end }
     requires short { (end -ℤ begin) ≤ℤ pos 5270400 }
-    requires first { (C.meaning curve.old).first ≤ℤ begin }
-    requires last { end ≤ℤ (C.meaning curve.old).last }
-    requires few { C.count curve.old ≤ 2 ^ 62 }
-    ensures highest { IsHighest (C.meaning curve.old) begin end result.minute result.value }
-    ensures minute { result.minute ≡ (peak_of (C.meaning curve.old) begin (unsigned_abs (end -ℤ begin))).at }
-    ensures value { result.value ≡ (peak_of (C.meaning curve.old) begin (unsigned_abs (end -ℤ begin))).value }
-    ensures count { C.count curve.new ≤ C.count curve.old + 2 * unsigned_abs (end -ℤ begin) + 1 }
-    ensures same { C.meaning curve.new ≡ C.meaning curve.old }
+    requires first { (C.state curve.old).facts.meaning.first ≤ℤ begin }
+    requires last { end ≤ℤ (C.state curve.old).facts.meaning.last }
+    requires few { (C.state curve.old).count ≤ 2 ^ 62 }
+    ensures highest { IsHighest (C.state curve.old).facts.meaning begin end result.minute result.value }
+    ensures minute { result.minute ≡ (peak_of (C.state curve.old).facts.meaning begin (unsigned_abs (end -ℤ begin))).at }
+    ensures value { result.value ≡ (peak_of (C.state curve.old).facts.meaning begin (unsigned_abs (end -ℤ begin))).value }
+    ensures count { (C.state curve.new).count ≤ (C.state curve.old).count + 2 * unsigned_abs (end -ℤ begin) + 1 }
+    ensures unchanged { (C.state curve.new).facts ≡ (C.state curve.old).facts }
 {
     // Cells that the curve's rate keeps under the highest point so far are skipped, so that the
     // curve is evaluated seldom.
@@ -74,12 +74,12 @@ pub fn highest_point<C: Curve>(curve: &mut C, begin: i64, end: i64) -> Point
 /// most cells, which are low enough.
 fn highest_block<C: Curve>(curve: &mut C, begin: i64, end: i64) -> Point
     requires some { begin <ℤ end }
-    requires first { (C.meaning curve.old).first ≤ℤ begin }
-    requires last { end ≤ℤ (C.meaning curve.old).last }
-    requires few { C.count curve.old ≤ 2 ^ 62 }
-    ensures point { IsPoint (C.meaning curve.old) begin end result }
-    ensures count { C.count curve.new ≤ C.count curve.old + minutes_to begin end }
-    ensures same { C.meaning curve.new ≡ C.meaning curve.old }
+    requires first { (C.state curve.old).facts.meaning.first ≤ℤ begin }
+    requires last { end ≤ℤ (C.state curve.old).facts.meaning.last }
+    requires few { (C.state curve.old).count ≤ 2 ^ 62 }
+    ensures point { IsPoint (C.state curve.old).facts.meaning begin end result }
+    ensures count { (C.state curve.new).count ≤ (C.state curve.old).count + minutes_to begin end }
+    ensures unchanged { (C.state curve.new).facts ≡ (C.state curve.old).facts }
 {
     let mut highest = point_at(curve, begin);
     let mut at = block_end(begin, end);

@@ -12,10 +12,10 @@ use curve_law::{Curve, MOST_MINUTES, Point, most_change};
 /// `end_value` is the value at the cell's end.
 pub fn is_under<C: Curve>(curve: &C, highest: Point, begin: Point, n: u32, end_value: i128) -> bool
     requires size { unsigned_abs highest.value < 10 ^ 37 }
-    requires span { IsSpan (C.meaning curve.now) begin.minute n }
-    requires value { begin.value ≡ (C.meaning curve.now).track.value begin.minute }
-    requires end_value { end_value ≡ (C.meaning curve.now).track.value (begin.minute +ℤ pos n) }
-    ensures { result ≡ is_under (C.meaning curve.now) highest.minute highest.value begin.minute n }
+    requires span { IsSpan (C.state curve.now).facts.meaning begin.minute n }
+    requires value { begin.value ≡ (C.state curve.now).facts.meaning.track.value begin.minute }
+    requires end_value { end_value ≡ (C.state curve.now).facts.meaning.track.value (begin.minute +ℤ pos n) }
+    ensures { result ≡ is_under (C.state curve.now).facts.meaning highest.minute highest.value begin.minute n }
 {
     if n < 2 || n > MOST_MINUTES {
         return false;

@@ -1,7 +1,8 @@
 //! A walk over a span, cell by cell.
 
-ghost use Rattle.std.specs.Prelude.{◌≡◌, ◌+◌, ◌*◌, ◌^◌, ◌<◌, ◌≤◌, ◌≤ℤ◌, ◌<ℤ◌, unsigned_abs, [], ◌∷◌, length, MatchOption};
+ghost use Rattle.std.specs.Prelude.{◌≡◌, ◌+◌, ◌^◌, ◌<◌, ◌≤◌, ◌≤ℤ◌, ◌<ℤ◌, unsigned_abs, [], ◌∷◌, length, MatchOption};
 ghost use Rattle.curve_law.specs.declared.point.Point.{Point};
+ghost use Rattle.curve_law.specs.CurveStates.{evaluated_once};
 ghost use Rattle.interval_search.specs.Workings.Ahead.{minutes_to};
 ghost use Rattle.highest_water.specs.Covers.{peak_split, peak_cover};
 ghost use Rattle.highest_water.specs.Workings.Walk.{cells_ahead, Stands, StepsTo};
@@ -28,13 +29,13 @@ pub struct Found {
 /// Removes and returns the end of the nearest piece, or returns the end of the next block if there
 /// is none.
 fn nearest_end<C: Curve>(curve: &mut C, waiting: &mut Waiting, at: Point, end: i64) -> Point
-    requires stands { Stands (C.meaning curve.old) (C.count curve.old) end at waiting.old }
+    requires stands { Stands (C.state curve.old) end at waiting.old }
     requires onward { at.minute <ℤ end }
-    ensures same { C.meaning curve.new ≡ C.meaning curve.old }
-    ensures stands { Stands (C.meaning curve.old) (C.count curve.new) end at (result ∷ waiting.new) }
-    ensures cells { (highest : Point) → cells_ahead (C.meaning curve.old) highest end at.minute (result ∷ waiting.new)
-        ≡ cells_ahead (C.meaning curve.old) highest end at.minute waiting.old }
-    ensures count { C.count curve.new + length waiting.old ≡ C.count curve.old + length waiting.new + 1 }
+    ensures unchanged { (C.state curve.new).facts ≡ (C.state curve.old).facts }
+    ensures stands { Stands (C.state curve.new) end at (result ∷ waiting.new) }
+    ensures cells { (highest : Point) → cells_ahead (C.state curve.old).facts.meaning highest end at.minute (result ∷ waiting.new)
+        ≡ cells_ahead (C.state curve.old).facts.meaning highest end at.minute waiting.old }
+    ensures count { (C.state curve.new).count + length waiting.old ≡ (C.state curve.old).count + length waiting.new + 1 }
 {
     match waiting.pop() {
         Some(point) => point,
@@ -53,14 +54,14 @@ fn nearest_step<C: Curve>(
     end: i64,
 ) -> Step
     requires size { unsigned_abs highest.value < 10 ^ 37 }
-    requires stands { Stands (C.meaning curve.old) (C.count curve.old) end at (near ∷ waiting.old) }
-    ensures same { C.meaning curve.new ≡ C.meaning curve.old }
-    ensures stands { Stands (C.meaning curve.old) (C.count curve.new) end at (result.end ∷ waiting.new) }
-    ensures cell { peak_split (C.meaning curve.old) highest.minute highest.value at.minute (minutes_to at.minute result.end.minute)
+    requires stands { Stands (C.state curve.old) end at (near ∷ waiting.old) }
+    ensures unchanged { (C.state curve.new).facts ≡ (C.state curve.old).facts }
+    ensures stands { Stands (C.state curve.new) end at (result.end ∷ waiting.new) }
+    ensures cell { peak_split (C.state curve.old).facts.meaning highest.minute highest.value at.minute (minutes_to at.minute result.end.minute)
         ≡ result.cell ∷ [] }
-    ensures cells { cells_ahead (C.meaning curve.old) highest end at.minute (result.end ∷ waiting.new)
-        ≡ cells_ahead (C.meaning curve.old) highest end at.minute (near ∷ waiting.old) }
-    ensures count { C.count curve.new + length waiting.old ≡ C.count curve.old + length waiting.new }
+    ensures cells { cells_ahead (C.state curve.old).facts.meaning highest end at.minute (result.end ∷ waiting.new)
+        ≡ cells_ahead (C.state curve.old).facts.meaning highest end at.minute (near ∷ waiting.old) }
+    ensures count { (C.state curve.new).count + length waiting.old ≡ (C.state curve.old).count + length waiting.new }
 {
     let mut near = near;
     loop {
@@ -84,16 +85,15 @@ pub struct Walk {
 /// Returns the walk from minute `begin` up to `end`.
 pub fn walk_from<C: Curve>(curve: &mut C, begin: i64, end: i64) -> Walk
     requires forward { begin ≤ℤ end }
-    requires first { (C.meaning curve.old).first ≤ℤ begin }
-    requires last { end ≤ℤ (C.meaning curve.old).last }
-    requires few { C.count curve.old ≤ 2 ^ 62 + 2 ^ 60 }
-    ensures same { C.meaning curve.new ≡ C.meaning curve.old }
-    ensures counted { C.count curve.new ≡ C.count curve.old + 1 }
+    requires first { (C.state curve.old).facts.meaning.first ≤ℤ begin }
+    requires last { end ≤ℤ (C.state curve.old).facts.meaning.last }
+    requires few { (C.state curve.old).count ≤ 2 ^ 62 + 2 ^ 60 }
+    ensures after { C.state curve.new ≡ evaluated_once (C.state curve.old) }
     ensures at { result.at.minute ≡ begin }
     ensures end { result.end ≡ end }
-    ensures stands { Stands (C.meaning curve.old) (C.count curve.new) result.end result.at result.waiting }
-    ensures cells { (highest : Point) → cells_ahead (C.meaning curve.old) highest result.end result.at.minute result.waiting
-        ≡ peak_cover (C.meaning curve.old) highest.minute highest.value begin (minutes_to begin end) }
+    ensures stands { Stands (C.state curve.new) result.end result.at result.waiting }
+    ensures cells { (highest : Point) → cells_ahead (C.state curve.old).facts.meaning highest result.end result.at.minute result.waiting
+        ≡ peak_cover (C.state curve.old).facts.meaning highest.minute highest.value begin (minutes_to begin end) }
     ensures none { result.waiting ≡ [] }
 {
     Walk {
@@ -107,13 +107,13 @@ pub fn walk_from<C: Curve>(curve: &mut C, begin: i64, end: i64) -> Walk
 /// the end.
 pub fn next_cell<C: Curve>(curve: &mut C, walk: &mut Walk, highest: Point) -> Option<Found>
     requires size { unsigned_abs highest.value < 10 ^ 37 }
-    requires stands { Stands (C.meaning curve.old) (C.count curve.old) walk.old.end walk.old.at walk.old.waiting }
-    ensures same { C.meaning curve.new ≡ C.meaning curve.old }
+    requires stands { Stands (C.state curve.old) walk.old.end walk.old.at walk.old.waiting }
+    ensures unchanged { (C.state curve.new).facts ≡ (C.state curve.old).facts }
     ensures end { walk.new.end ≡ walk.old.end }
-    ensures stands { Stands (C.meaning curve.old) (C.count curve.new) walk.new.end walk.new.at walk.new.waiting }
-    ensures found { StepsTo (C.meaning curve.old) highest walk.old result walk.new }
-    ensures count { MatchOption result (C.count curve.new ≡ C.count curve.old)
-        (λ _. C.count curve.new + length walk.old.waiting ≡ C.count curve.old + length walk.new.waiting + 1) }
+    ensures stands { Stands (C.state curve.new) walk.new.end walk.new.at walk.new.waiting }
+    ensures found { StepsTo (C.state curve.old).facts.meaning highest walk.old result walk.new }
+    ensures count { MatchOption result ((C.state curve.new).count ≡ (C.state curve.old).count)
+        (λ _. (C.state curve.new).count + length walk.old.waiting ≡ (C.state curve.old).count + length walk.new.waiting + 1) }
 {
     let Walk { at, end, .. } = *walk;
     if at.minute == end {

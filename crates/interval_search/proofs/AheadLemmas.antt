@@ -8,6 +8,7 @@ use Rattle.std.proofs.Math.Nat.{mul-le-mul_left, mul-le-mul_right, pow-le-pow_ri
 use Rattle.curve_law.specs.declared.cell.Cell.{Cell}
 use Rattle.curve_law.specs.declared.quiet.TheConstants.{MOST_MINUTES}
 use Rattle.curve_law.specs.Meaning.{Meaning, IsLawful}
+use Rattle.curve_law.specs.CurveStates.{CurveState, evaluated_once}
 use Rattle.curve_law.specs.Cells.{minutes_of, all_minutes}
 use Rattle.curve_law.specs.Cover.{is_quiet, unit_cell, split, cover}
 use Rattle.curve_law.proofs.CoverLemmas.{by_test, split-one, split-halves, cover-none, cover-last, cover-block}
@@ -47,25 +48,25 @@ pub begun-pieces : (values : ℤ → ℤ) (end a : ℤ) (p : Point) → a <ℤ e
 unfolding ArePieces
 begun-pieces values end a p some is near = (omega (arith, ints), omega (arith, ints), near, omega (arith, ints))
 
-pub begun-stands : (c : Meaning) (values : ℤ → ℤ) (count : ℕ) (end : ℤ) (at p : Point) → at.minute <ℤ end → p.minute ≡ at.minute +ℤ pos (min (minutes_to at.minute end) MOST_MINUTES) → p.value ≡ values p.minute → Stands c values count end at [] → Stands c values (count + 1) end at (p ∷ [])
-begun-stands c values count end at p some is near stands =
+pub begun-stands : (s : CurveState) (end : ℤ) (at p : Point) → at.minute <ℤ end → p.minute ≡ at.minute +ℤ pos (min (minutes_to at.minute end) MOST_MINUTES) → p.value ≡ s.facts.near p.minute → Stands s end at [] → Stands (evaluated_once s) end at (p ∷ [])
+begun-stands s end at p some is near stands =
     let few = stands.few in
-    let same = ap length (begun-cells c end at.minute p some is) in
+    let same = ap length (begun-cells s.facts.meaning end at.minute p some is) in
     record {
       value = stands.value;
       first = stands.first;
       last = stands.last;
-      pieces = begun-pieces values end at.minute p some is near;
+      pieces = begun-pieces s.facts.near end at.minute p some is near;
       few = omega arith;
     }
 
 -- beginning a block doesn't change the cells, in terms of a call's result
-pub begun-at : (c : Meaning) (values : ℤ → ℤ) (count more : ℕ) (end : ℤ) (at : Point) (b : ℤ) (p : Point) (old new : List Point) → at.minute <ℤ end → b ≡ at.minute +ℤ pos (min (minutes_to at.minute end) MOST_MINUTES) → p.minute ≡ b → p.value ≡ values b → more ≡ count + 1 → old ≡ [] → new ≡ []
-    → Stands c values count end at old → Stands c values more end at (p ∷ new) × (cells_ahead c end at.minute (p ∷ new) ≡ cells_ahead c end at.minute old)
-begun-at c values count more end at b p old new some is minute near counted empty none stands =
-    let begun = begun-stands c values count end at p some (minute ∙ is) (rw minute near) (rw empty at stands) in
-    let cells = begun-cells c end at.minute p some (minute ∙ is) in
-    (rw (counted, none) begun, rw (empty, none) cells)
+pub begun-at : (s t : CurveState) (end : ℤ) (at : Point) (b : ℤ) (p : Point) (old new : List Point) → at.minute <ℤ end → b ≡ at.minute +ℤ pos (min (minutes_to at.minute end) MOST_MINUTES) → p.minute ≡ b → p.value ≡ s.facts.near b → t ≡ evaluated_once s → old ≡ [] → new ≡ []
+    → Stands s end at old → Stands t end at (p ∷ new) × (cells_ahead s.facts.meaning end at.minute (p ∷ new) ≡ cells_ahead s.facts.meaning end at.minute old)
+begun-at s t end at b p old new some is minute near after empty none stands =
+    let begun = begun-stands s end at p some (minute ∙ is) (rw minute near) (rw empty at stands) in
+    let cells = begun-cells s.facts.meaning end at.minute p some (minute ∙ is) in
+    (rw (after, none) begun, rw (empty, none) cells)
 
 -- the nearest piece, and its halves
 pub piece-parts : (values : ℤ → ℤ) (end a : ℤ) (p : Point) (ps : List Point) → ArePieces values end a (p ∷ ps) → (a <ℤ p.minute) × (minutes_to a p.minute * 2 ^ length ps ≤ MOST_MINUTES) × (p.value ≡ values p.minute) × ArePieces values end p.minute ps
@@ -100,8 +101,8 @@ piece-ahead c values end at p ps near first last pieces =
       end_value = parts.2;
     }
 
-pub nearest-piece : (c : Meaning) (values : ℤ → ℤ) (count : ℕ) (end : ℤ) (at p : Point) (ps : List Point) → Stands c values count end at (p ∷ ps) → IsPiece c values at p
-nearest-piece c values count end at p ps stands = piece-ahead c values end at p ps stands.value stands.first stands.last stands.pieces
+pub nearest-piece : (s : CurveState) (end : ℤ) (at p : Point) (ps : List Point) → Stands s end at (p ∷ ps) → IsPiece s.facts.meaning s.facts.near at p
+nearest-piece s end at p ps stands = piece-ahead s.facts.meaning s.facts.near end at p ps stands.value stands.first stands.last stands.pieces
 
 -- there is room for one more pending point
 pub waiting-few : (values : ℤ → ℤ) (end a : ℤ) (p : Point) (ps : List Point) → ArePieces values end a (p ∷ ps) → length ps < 16
@@ -119,10 +120,10 @@ waiting-few values end a p ps pieces =
     (λ less. grind (arith, nat_tests))
 
 -- there is room for one more evaluation
-pub asked-few : (c : Meaning) (values : ℤ → ℤ) (count : ℕ) (end : ℤ) (at p : Point) (ps : List Point) → Stands c values count end at (p ∷ ps) → count < 2 ^ 63
-asked-few c values count end at p ps stands =
+pub asked-few : (s : CurveState) (end : ℤ) (at p : Point) (ps : List Point) → Stands s end at (p ∷ ps) → s.count < 2 ^ 63
+asked-few s end at p ps stands =
     let few = stands.few in
-    let waiting = waiting-few values end at.minute p ps stands.pieces in
+    let waiting = waiting-few s.facts.near end at.minute p ps stands.pieces in
     omega arith
 
 -- two halves in place of their whole
@@ -157,28 +158,28 @@ middle-pieces values end a m p ps pieces two is near =
     let second : minutes_to m.minute p.minute ≡ minutes_to a p.minute - minutes_to a p.minute / 2 = omega (arith, ints) in
     (omega (arith, ints), rw first (half_few (minutes_to a p.minute) (length ps) pieces.1), near, (omega (arith, ints), rw second (rest_few (minutes_to a p.minute) (length ps) pieces.1), pieces.2, pieces.3))
 
-pub middle-stands : (c : Meaning) (values : ℤ → ℤ) (count : ℕ) (end : ℤ) (at m p : Point) (ps : List Point) → Stands c values count end at (p ∷ ps) → 2 ≤ minutes_to at.minute p.minute → is_quiet c at.minute (minutes_to at.minute p.minute) ≡ false → m.minute ≡ at.minute +ℤ pos (minutes_to at.minute p.minute / 2) → m.value ≡ values m.minute → Stands c values (count + 1) end at (m ∷ p ∷ ps)
-middle-stands c values count end at m p ps stands two loud is near =
+pub middle-stands : (s : CurveState) (end : ℤ) (at m p : Point) (ps : List Point) → Stands s end at (p ∷ ps) → 2 ≤ minutes_to at.minute p.minute → is_quiet s.facts.meaning at.minute (minutes_to at.minute p.minute) ≡ false → m.minute ≡ at.minute +ℤ pos (minutes_to at.minute p.minute / 2) → m.value ≡ s.facts.near m.minute → Stands (evaluated_once s) end at (m ∷ p ∷ ps)
+middle-stands s end at m p ps stands two loud is near =
     let few = stands.few in
-    let some = (piece-parts values end at.minute p ps stands.pieces).0 in
-    let same = ap length (middle-cells c end at.minute m p ps some two loud is) in
+    let some = (piece-parts s.facts.near end at.minute p ps stands.pieces).0 in
+    let same = ap length (middle-cells s.facts.meaning end at.minute m p ps some two loud is) in
     record {
       value = stands.value;
       first = stands.first;
       last = stands.last;
-      pieces = middle-pieces values end at.minute m p ps stands.pieces two is near;
+      pieces = middle-pieces s.facts.near end at.minute m p ps stands.pieces two is near;
       few = omega arith;
     }
 
 -- the state of a search at its begin
-pub first-stands : (c : Meaning) (values : ℤ → ℤ) (count more : ℕ) (begin end : ℤ) (p : Point) (ps : List Point) → IsLawful c → begin ≤ℤ end → c.first ≤ℤ begin → end ≤ℤ c.last → count ≤ 2 ^ 62 → more ≡ count + 1 → p.minute ≡ begin → p.value ≡ values begin → ps ≡ []
-    → Stands c values more end p ps × (cells_ahead c end p.minute ps ≡ cover c begin (minutes_to begin end))
+pub first-stands : (s t : CurveState) (begin end : ℤ) (p : Point) (ps : List Point) → IsLawful s.facts.meaning → begin ≤ℤ end → s.facts.meaning.first ≤ℤ begin → end ≤ℤ s.facts.meaning.last → s.count ≤ 2 ^ 62 → t ≡ evaluated_once s → p.minute ≡ begin → p.value ≡ s.facts.near begin → ps ≡ []
+    → Stands t end p ps × (cells_ahead s.facts.meaning end p.minute ps ≡ cover s.facts.meaning begin (minutes_to begin end))
 unfolding cells_ahead ArePieces
-first-stands c values count more begin end p ps lawful forward first last few counted minute near none =
-    let cells = (cover-right c begin (minutes_to begin end)).few in
+first-stands s t begin end p ps lawful forward first last few after minute near none =
+    let cells = (cover-right s.facts.meaning begin (minutes_to begin end)).few in
     let early = lawful.early in
     let late = lawful.late in
-    rw (minute, none, counted) (record { value = near; first = first; last = last; pieces = forward; few = omega (arith, ints) }, refl)
+    rw (minute, none, after) (record { value = near; first = first; last = last; pieces = forward; few = omega (arith, ints) }, refl)
 
 -- the state of a search at its end
 pub done-cells : (c : Meaning) (values : ℤ → ℤ) (end a : ℤ) (ps : List Point) → ArePieces values end a ps → a ≡ end → cells_ahead c end a ps ≡ []
@@ -208,17 +209,17 @@ pub given-cells : (c : Meaning) (end a : ℤ) (p : Point) (ps : List Point) (cel
 unfolding cells_ahead
 given-cells c end a p ps cell one = rw one refl
 
-pub given-onward : (c : Meaning) (values : ℤ → ℤ) (count : ℕ) (end : ℤ) (at p : Point) (ps : List Point) (cell : Cell) → Stands c values count end at (p ∷ ps) → split c at.minute (minutes_to at.minute p.minute) ≡ cell ∷ [] → p.minute ≡ at.minute +ℤ pos (minutes_of cell)
-given-onward c values count end at p ps cell stands one =
-    cell-minutes c at.minute p.minute cell (piece-parts values end at.minute p ps stands.pieces).0 one
+pub given-onward : (s : CurveState) (end : ℤ) (at p : Point) (ps : List Point) (cell : Cell) → Stands s end at (p ∷ ps) → split s.facts.meaning at.minute (minutes_to at.minute p.minute) ≡ cell ∷ [] → p.minute ≡ at.minute +ℤ pos (minutes_of cell)
+given-onward s end at p ps cell stands one =
+    cell-minutes s.facts.meaning at.minute p.minute cell (piece-parts s.facts.near end at.minute p ps stands.pieces).0 one
 
-pub given-stands : (c : Meaning) (values : ℤ → ℤ) (count : ℕ) (end : ℤ) (at p : Point) (ps : List Point) (cell : Cell) → Stands c values count end at (p ∷ ps) → split c at.minute (minutes_to at.minute p.minute) ≡ cell ∷ [] → Stands c values count end p ps
-given-stands c values count end at p ps cell stands one =
-    let parts = piece-parts values end at.minute p ps stands.pieces in
+pub given-stands : (s : CurveState) (end : ℤ) (at p : Point) (ps : List Point) (cell : Cell) → Stands s end at (p ∷ ps) → split s.facts.meaning at.minute (minutes_to at.minute p.minute) ≡ cell ∷ [] → Stands s end p ps
+given-stands s end at p ps cell stands one =
+    let parts = piece-parts s.facts.near end at.minute p ps stands.pieces in
     let some = parts.0 in
     let first = stands.first in
     let few = stands.few in
-    let same = ap length (given-cells c end at.minute p ps cell one) in
+    let same = ap length (given-cells s.facts.meaning end at.minute p ps cell one) in
     record {
       value = parts.2;
       first = omega (arith, ints);
@@ -244,6 +245,6 @@ points-few c values end a (p ∷ ps) pieces =
     omega (arith, length-append (split c a (minutes_to a p.minute)) (cells_ahead c end p.minute ps))
 
 -- at most as many evaluations so far as in the end
-pub asked-most : (c : Meaning) (values : ℤ → ℤ) (more most all : ℕ) (end : ℤ) (at : Point) (ps : List Point) → Stands c values more end at ps → (more + length (cells_ahead c end at.minute ps)) - length ps ≡ most → most ≡ all → more ≤ all
-asked-most c values more most all end at ps stands is same =
-    let few = points-few c values end at.minute ps stands.pieces in omega arith
+pub asked-most : (s : CurveState) (most all : ℕ) (end : ℤ) (at : Point) (ps : List Point) → Stands s end at ps → (s.count + length (cells_ahead s.facts.meaning end at.minute ps)) - length ps ≡ most → most ≡ all → s.count ≤ all
+asked-most s most all end at ps stands is same =
+    let few = points-few s.facts.meaning s.facts.near end at.minute ps stands.pieces in omega arith

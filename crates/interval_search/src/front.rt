@@ -1,7 +1,8 @@
 //! The state of a search: the point that it has reached, and the pieces after it.
 
-ghost use Rattle.std.specs.Prelude.{◌≡◌, ◌+◌, ◌-◌, ◌^◌, ◌<◌, ◌≤◌, ℤ, pos, ◌+ℤ◌, ◌-ℤ◌, ◌≤ℤ◌, ◌<ℤ◌, unsigned_abs, List, [], ◌∷◌, length};
+ghost use Rattle.std.specs.Prelude.{◌≡◌, ◌+◌, ◌^◌, ◌≤◌, ℤ, ◌≤ℤ◌, ◌<ℤ◌, [], ◌∷◌, length};
 ghost use Rattle.curve_law.specs.Cover.{split, cover};
+ghost use Rattle.curve_law.specs.CurveStates.{evaluated_once};
 ghost use Rattle.interval_search.specs.Looking.{StepsOn};
 ghost use Rattle.interval_search.specs.Workings.Ahead.{minutes_to, cells_ahead, Stands, looking_at};
 
@@ -19,14 +20,13 @@ pub struct Step {
 
 /// Returns the end of the nearest piece, which is removed from `waiting`, or else of the next block.
 fn nearest_end<C: Curve>(curve: &mut C, waiting: &mut Waiting, at: Point, end: i64) -> Point
-    requires stands { Stands (C.meaning curve.old) (C.near curve.old) (C.count curve.old) end at waiting.old }
+    requires stands { Stands (C.state curve.old) end at waiting.old }
     requires onward { at.minute <ℤ end }
-    ensures same { C.meaning curve.new ≡ C.meaning curve.old }
-    ensures same_near { C.near curve.new ≡ C.near curve.old }
-    ensures stands { Stands (C.meaning curve.old) (C.near curve.old) (C.count curve.new) end at (result ∷ waiting.new) }
-    ensures cells { cells_ahead (C.meaning curve.old) end at.minute (result ∷ waiting.new)
-        ≡ cells_ahead (C.meaning curve.old) end at.minute waiting.old }
-    ensures count { C.count curve.new + length waiting.old ≡ C.count curve.old + length waiting.new + 1 }
+    ensures unchanged { (C.state curve.new).facts ≡ (C.state curve.old).facts }
+    ensures stands { Stands (C.state curve.new) end at (result ∷ waiting.new) }
+    ensures cells { cells_ahead (C.state curve.old).facts.meaning end at.minute (result ∷ waiting.new)
+        ≡ cells_ahead (C.state curve.old).facts.meaning end at.minute waiting.old }
+    ensures count { (C.state curve.new).count + length waiting.old ≡ (C.state curve.old).count + length waiting.new + 1 }
 {
     match waiting.pop() {
         Some(point) => point,
@@ -42,14 +42,13 @@ fn nearest_step<C: Curve>(
     near: Point,
     end: i64,
 ) -> Step
-    requires stands { Stands (C.meaning curve.old) (C.near curve.old) (C.count curve.old) end at (near ∷ waiting.old) }
-    ensures same { C.meaning curve.new ≡ C.meaning curve.old }
-    ensures same_near { C.near curve.new ≡ C.near curve.old }
-    ensures stands { Stands (C.meaning curve.old) (C.near curve.old) (C.count curve.new) end at (result.end ∷ waiting.new) }
-    ensures cell { split (C.meaning curve.old) at.minute (minutes_to at.minute result.end.minute) ≡ result.cell ∷ [] }
-    ensures cells { cells_ahead (C.meaning curve.old) end at.minute (result.end ∷ waiting.new)
-        ≡ cells_ahead (C.meaning curve.old) end at.minute (near ∷ waiting.old) }
-    ensures count { C.count curve.new + length waiting.old ≡ C.count curve.old + length waiting.new }
+    requires stands { Stands (C.state curve.old) end at (near ∷ waiting.old) }
+    ensures unchanged { (C.state curve.new).facts ≡ (C.state curve.old).facts }
+    ensures stands { Stands (C.state curve.new) end at (result.end ∷ waiting.new) }
+    ensures cell { split (C.state curve.old).facts.meaning at.minute (minutes_to at.minute result.end.minute) ≡ result.cell ∷ [] }
+    ensures cells { cells_ahead (C.state curve.old).facts.meaning end at.minute (result.end ∷ waiting.new)
+        ≡ cells_ahead (C.state curve.old).facts.meaning end at.minute (near ∷ waiting.old) }
+    ensures count { (C.state curve.new).count + length waiting.old ≡ (C.state curve.old).count + length waiting.new }
 {
     let mut near = near;
     loop {
@@ -73,16 +72,14 @@ pub struct Front {
 /// Returns the state of a search at its begin.
 pub fn front_at<C: Curve>(curve: &mut C, begin: i64, end: i64) -> Front
     requires forward { begin ≤ℤ end }
-    requires first { (C.meaning curve.old).first ≤ℤ begin }
-    requires last { end ≤ℤ (C.meaning curve.old).last }
-    requires few { C.count curve.old ≤ 2 ^ 62 }
-    ensures same { C.meaning curve.new ≡ C.meaning curve.old }
-    ensures same_near { C.near curve.new ≡ C.near curve.old }
-    ensures counted { C.count curve.new ≡ C.count curve.old + 1 }
+    requires first { (C.state curve.old).facts.meaning.first ≤ℤ begin }
+    requires last { end ≤ℤ (C.state curve.old).facts.meaning.last }
+    requires few { (C.state curve.old).count ≤ 2 ^ 62 }
+    ensures after { C.state curve.new ≡ evaluated_once (C.state curve.old) }
     ensures at { result.at.minute ≡ begin }
-    ensures stands { Stands (C.meaning curve.old) (C.near curve.old) (C.count curve.new) result.end result.at result.waiting }
-    ensures cells { cells_ahead (C.meaning curve.old) result.end result.at.minute result.waiting
-        ≡ cover (C.meaning curve.old) begin (minutes_to begin end) }
+    ensures stands { Stands (C.state curve.new) result.end result.at result.waiting }
+    ensures cells { cells_ahead (C.state curve.old).facts.meaning result.end result.at.minute result.waiting
+        ≡ cover (C.state curve.old).facts.meaning begin (minutes_to begin end) }
     ensures none { result.waiting ≡ [] }
 {
     Front {
@@ -94,14 +91,11 @@ pub fn front_at<C: Curve>(curve: &mut C, begin: i64, end: i64) -> Front
 
 /// Returns the next cell and the minute at which it begins, or `None` if the search has reached the end.
 pub fn next_found<C: Curve>(curve: &mut C, front: &mut Front) -> Option<Found>
-    requires { Stands (C.meaning curve.old) (C.near curve.old) (C.count curve.old) front.old.end front.old.at front.old.waiting }
-    ensures same { C.meaning curve.new ≡ C.meaning curve.old }
-    ensures same_near { C.near curve.new ≡ C.near curve.old }
-    ensures stands { Stands (C.meaning curve.old) (C.near curve.old) (C.count curve.new) front.new.end front.new.at front.new.waiting }
-    ensures found { StepsOn (looking_at curve.old (C.meaning curve.old) (C.count curve.old) front.old) result
-        (looking_at curve.new (C.meaning curve.old) (C.count curve.new) front.new) }
-    ensures most { (looking_at curve.new (C.meaning curve.old) (C.count curve.new) front.new).most
-        ≡ (looking_at curve.old (C.meaning curve.old) (C.count curve.old) front.old).most }
+    requires { Stands (C.state curve.old) front.old.end front.old.at front.old.waiting }
+    ensures unchanged { (C.state curve.new).facts ≡ (C.state curve.old).facts }
+    ensures stands { Stands (C.state curve.new) front.new.end front.new.at front.new.waiting }
+    ensures found { StepsOn (looking_at curve.old (C.state curve.old) front.old) result (looking_at curve.new (C.state curve.new) front.new) }
+    ensures most { (looking_at curve.new (C.state curve.new) front.new).most ≡ (looking_at curve.old (C.state curve.old) front.old).most }
 {
     let Front { at, end, .. } = *front;
     if at.minute == end {

@@ -2,6 +2,7 @@
 
 ghost use Rattle.std.specs.Prelude.{◌≡◌, ◌+◌, ◌^◌, ◌≤◌, ◌-ℤ◌, ◌≤ℤ◌, length, unsigned_abs};
 ghost use Rattle.curve_law.specs.Cover.{cover};
+ghost use Rattle.curve_law.specs.CurveStates.{evaluated_once};
 ghost use Rattle.interval_search.specs.Looking.{StepsOn};
 
 use crate::found::Found;
@@ -25,9 +26,9 @@ impl<C: Curve> Model for Search<C> {
 
     ghost Value = { Looking C };
 
-    ghost view = { λ s. looking_at s.curve (C.meaning s.curve) (C.count s.curve) s.front };
+    ghost view = { λ s. looking_at s.curve (C.state s.curve) s.front };
 
-    ghost invariant = { λ s. Stands (C.meaning s.curve) (C.near s.curve) (C.count s.curve) s.front.end s.front.at s.front.waiting };
+    ghost invariant = { λ s. Stands (C.state s.curve) s.front.end s.front.at s.front.waiting };
 }
 
 impl<C: Curve> Search<C> {
@@ -43,13 +44,13 @@ impl<C: Curve> Search<C> {
     /// ```
     pub fn new(curve: C, begin: i64, end: i64) -> Search<C>
         requires forward { begin ≤ℤ end }
-        requires first { (C.meaning curve).first ≤ℤ begin }
-        requires last { end ≤ℤ (C.meaning curve).last }
-        requires few { C.count curve ≤ 2 ^ 62 }
-        ensures same { C.meaning result.curve ≡ C.meaning curve }
+        requires first { (C.state curve).facts.meaning.first ≤ℤ begin }
+        requires last { end ≤ℤ (C.state curve).facts.meaning.last }
+        requires few { (C.state curve).count ≤ 2 ^ 62 }
+        ensures after { C.state result.curve ≡ evaluated_once (C.state curve) }
         ensures at { result.at ≡ begin }
-        ensures left { result.left ≡ cover (C.meaning curve) begin (unsigned_abs (end -ℤ begin)) }
-        ensures most { result.most ≡ C.count curve + length result.left + 1 }
+        ensures left { result.left ≡ cover (C.state curve).facts.meaning begin (unsigned_abs (end -ℤ begin)) }
+        ensures most { result.most ≡ (C.state curve).count + length result.left + 1 }
     {
         let mut curve = curve;
         let front = front_at(&mut curve, begin, end);
@@ -59,7 +60,7 @@ impl<C: Curve> Search<C> {
     /// Returns the next cell and the minute at which it begins, or `None` if no cell is left.
     pub fn next(&mut self) -> Option<Found>
         ensures found { StepsOn self.old result self.new }
-        ensures same { C.meaning self.new.curve ≡ C.meaning self.old.curve }
+        ensures unchanged { (C.state self.new.curve).facts ≡ (C.state self.old.curve).facts }
         ensures most { self.new.most ≡ self.old.most }
     {
         next_found(&mut self.curve, &mut self.front)
@@ -69,7 +70,7 @@ impl<C: Curve> Search<C> {
     ///
     /// The program doesn't call it.
     pub fn evaluations(&self) -> u64
-        ensures count { result ≡ C.count self.now.curve }
+        ensures count { result ≡ (C.state self.now.curve).count }
         ensures most { result ≤ self.now.most }
     {
         self.curve.evaluations()

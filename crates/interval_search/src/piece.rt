@@ -1,14 +1,15 @@
 //! The cells between two points with known approximate values.
 
-ghost use Rattle.std.specs.Prelude.{◌≡◌, ◌+◌, ◌/◌, ◌≤◌, ◌<◌, ◌^◌, ℤ, pos, neg_ℤ, ◌+ℤ◌, ◌-ℤ◌, ◌≤ℤ◌, ◌<ℤ◌, unsigned_abs, min, IfSome, IfNone};
+ghost use Rattle.std.specs.Prelude.{◌≡◌, ◌+◌, ◌/◌, ◌≤◌, ◌<◌, ◌^◌, ℤ, pos, ◌+ℤ◌, ◌≤ℤ◌, ◌<ℤ◌, unsigned_abs, min};
+ghost use Rattle.curve_law.specs.CurveStates.{evaluated_once};
 ghost use Rattle.interval_search.specs.Workings.Ahead.{minutes_to, IsPiece, IsSplit};
 
 use curve_law::{Cell, Curve, MOST_MINUTES, Point, is_quiet_near, near_point_at, unit_cell_near};
 
 /// Returns the one cell of the minutes from `begin` to `end`, or `None` if they have to be halved.
 pub fn cell_between<C: Curve>(curve: &C, begin: Point, end: Point) -> Option<Cell>
-    requires { IsPiece (C.meaning curve.now) (C.near curve.now) begin end }
-    ensures { IsSplit (C.meaning curve.now) begin.minute (minutes_to begin.minute end.minute) result }
+    requires { IsPiece (C.state curve.now).facts.meaning (C.state curve.now).facts.near begin end }
+    ensures { IsSplit (C.state curve.now).facts.meaning begin.minute (minutes_to begin.minute end.minute) result }
 {
     let n = minutes_to(begin.minute, end.minute);
     if n == 1 {
@@ -24,13 +25,11 @@ pub fn cell_between<C: Curve>(curve: &C, begin: Point, end: Point) -> Option<Cel
 /// Evaluates `curve` approximately at the begin of the second half of a piece, and returns the point. The
 /// first half is the shorter one.
 pub fn middle<C: Curve>(curve: &mut C, begin: Point, end: Point) -> Point
-    requires piece { IsPiece (C.meaning curve.old) (C.near curve.old) begin end }
-    requires few { C.count curve.old < 2 ^ 63 }
+    requires piece { IsPiece (C.state curve.old).facts.meaning (C.state curve.old).facts.near begin end }
+    requires few { (C.state curve.old).count < 2 ^ 63 }
     ensures minute { result.minute ≡ begin.minute +ℤ pos (minutes_to begin.minute end.minute / 2) }
-    ensures value { result.value ≡ C.near curve.old result.minute }
-    ensures counted { C.count curve.new ≡ C.count curve.old + 1 }
-    ensures same { C.meaning curve.new ≡ C.meaning curve.old }
-    ensures same_near { C.near curve.new ≡ C.near curve.old }
+    ensures value { result.value ≡ (C.state curve.old).facts.near result.minute }
+    ensures after { C.state curve.new ≡ evaluated_once (C.state curve.old) }
 {
     near_point_at(curve, halfway(begin.minute, end.minute))
 }

@@ -27,13 +27,13 @@ pub fn search<C: Curve>(
     end: i64,
 ) -> Result<Cells, AllocError>
     requires forward { begin ≤ℤ end }
-    requires first { (C.meaning curve.old).first ≤ℤ begin }
-    requires last { end ≤ℤ (C.meaning curve.old).last }
-    requires few { C.count curve.old ≤ 2 ^ 62 }
-    ensures cells { IfOk result (λ cells. cells ≡ cover (C.meaning curve.old) begin (unsigned_abs (end -ℤ begin))) }
-    ensures count { C.count curve.new
-        ≤ C.count curve.old + length (cover (C.meaning curve.old) begin (unsigned_abs (end -ℤ begin))) + 1 }
-    ensures same { C.meaning curve.new ≡ C.meaning curve.old }
+    requires first { (C.state curve.old).facts.meaning.first ≤ℤ begin }
+    requires last { end ≤ℤ (C.state curve.old).facts.meaning.last }
+    requires few { (C.state curve.old).count ≤ 2 ^ 62 }
+    ensures cells { IfOk result (λ cells. cells ≡ cover (C.state curve.old).facts.meaning begin (unsigned_abs (end -ℤ begin))) }
+    ensures count { (C.state curve.new).count
+        ≤ (C.state curve.old).count + length (cover (C.state curve.old).facts.meaning begin (unsigned_abs (end -ℤ begin))) + 1 }
+    ensures unchanged { (C.state curve.new).facts ≡ (C.state curve.old).facts }
 {
     let mut front = front_at(curve, begin, end);
     let mut cells = Vec::new(alloc);

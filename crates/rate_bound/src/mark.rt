@@ -2,7 +2,6 @@
 
 ghost use Rattle.std.specs.Prelude.{◌≡◌, ◌*◌, pos, true, unsigned_abs};
 ghost use Rattle.std.specs.Bool.{OnTrue};
-ghost use Rattle.station_curve.specs.Near.{near_level_of};
 ghost use Rattle.station_curve.specs.Errors.{level_error_of};
 ghost use Rattle.station_curve.specs.Limits.{IsGentle};
 ghost use Rattle.rate_bound.specs.Scale.{IsScale};
@@ -43,9 +42,9 @@ impl<'a> MarkCurve<'a> {
     pub fn over(station: &'a StationCurve, times: i64, plus: i64, mark: i64, slack: bool) -> Self
         requires scale { IsScale times plus mark }
         requires slack { OnTrue slack (mark ≡ pos 0) }
-        ensures meaning { ⟦<MarkCurve<'a> as Curve>⟧.meaning result
+        ensures meaning { (⟦<MarkCurve<'a> as Curve>⟧.state result).facts.meaning
             ≡ mark_meaning First station.now times plus mark slack }
-        ensures count { ⟦<MarkCurve<'a> as Curve>⟧.count result ≡ 0 }
+        ensures count { (⟦<MarkCurve<'a> as Curve>⟧.state result).count ≡ 0 }
     {
         MarkCurve::new(station, Version::First, times, plus, mark, slack)
     }
@@ -55,9 +54,9 @@ impl<'a> MarkCurve<'a> {
     pub fn blended(station: &'a StationCurve, times: i64, plus: i64, mark: i64, slack: bool) -> Self
         requires scale { IsScale times plus mark }
         requires slack { OnTrue slack (mark ≡ pos 0) }
-        ensures meaning { ⟦<MarkCurve<'a> as Curve>⟧.meaning result
+        ensures meaning { (⟦<MarkCurve<'a> as Curve>⟧.state result).facts.meaning
             ≡ mark_meaning Second station.now times plus mark slack }
-        ensures count { ⟦<MarkCurve<'a> as Curve>⟧.count result ≡ 0 }
+        ensures count { (⟦<MarkCurve<'a> as Curve>⟧.state result).count ≡ 0 }
     {
         MarkCurve::new(station, Version::Second, times, plus, mark, slack)
     }
@@ -76,9 +75,9 @@ impl<'a> MarkCurve<'a> {
     ) -> MarkCurve<'a>
         requires scale { IsScale times plus mark }
         requires slack { OnTrue slack (mark ≡ pos 0) }
-        ensures meaning { ⟦<MarkCurve<'a> as Curve>⟧.meaning result
+        ensures meaning { (⟦<MarkCurve<'a> as Curve>⟧.state result).facts.meaning
             ≡ mark_meaning version station.now times plus mark slack }
-        ensures count { ⟦<MarkCurve<'a> as Curve>⟧.count result ≡ 0 }
+        ensures count { (⟦<MarkCurve<'a> as Curve>⟧.state result).count ≡ 0 }
     {
         station.known();
         MarkCurve {
@@ -95,17 +94,11 @@ impl<'a> MarkCurve<'a> {
 }
 
 impl<'a> Curve for MarkCurve<'a> {
-    ghost use Rattle.rate_bound.specs.Meanings.{over_mark, mark_meaning};
+    ghost use Rattle.rate_bound.specs.CurveStates.{mark_state};
     ghost use Rattle.rate_bound.specs.Workings.MarkLaw.{mark_lawful};
     ghost use Rattle.rate_bound.specs.Workings.Narrow.{level_narrow, level_close};
 
-    ghost meaning = { λ c. mark_meaning c.version c.station.now c.times c.plus c.mark c.slack };
-
-    ghost near = { λ c m. over_mark c.times c.plus c.mark (near_level_of c.station.now m) };
-
-    ghost error = { λ c. unsigned_abs c.times * level_error_of c.station.now };
-
-    ghost count = { λ c. c.evaluations };
+    ghost state = { λ c. mark_state c };
 
     ghost lawful = { λ c. mark_lawful c.version c.station.now c.times c.plus c.mark c.slack c.gentle c.scale };
 

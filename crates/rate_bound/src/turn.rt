@@ -1,7 +1,6 @@
 //! The slope of a station as a curve.
 
 ghost use Rattle.std.specs.Prelude.{◌≡◌, pos};
-ghost use Rattle.station_curve.specs.Near.{near_slope_of};
 ghost use Rattle.station_curve.specs.Errors.{slope_error_of};
 ghost use Rattle.station_curve.specs.Limits.{IsGentle};
 ghost use Rattle.rate_bound.specs.declared.version.Version.TheVariants.{First, Second};
@@ -32,8 +31,8 @@ impl<'a> TurnCurve<'a> {
     ///
     /// The program doesn't call it: it names the version in [`new`](TurnCurve::new).
     pub fn over(station: &'a StationCurve) -> TurnCurve<'a>
-        ensures meaning { ⟦<TurnCurve<'a> as Curve>⟧.meaning result ≡ turn_meaning First station.now }
-        ensures count { ⟦<TurnCurve<'a> as Curve>⟧.count result ≡ 0 }
+        ensures meaning { (⟦<TurnCurve<'a> as Curve>⟧.state result).facts.meaning ≡ turn_meaning First station.now }
+        ensures count { (⟦<TurnCurve<'a> as Curve>⟧.state result).count ≡ 0 }
     {
         TurnCurve::new(station, Version::First)
     }
@@ -42,16 +41,16 @@ impl<'a> TurnCurve<'a> {
     ///
     /// The program doesn't call it: it names the version in [`new`](TurnCurve::new).
     pub fn blended(station: &'a StationCurve) -> TurnCurve<'a>
-        ensures meaning { ⟦<TurnCurve<'a> as Curve>⟧.meaning result ≡ turn_meaning Second station.now }
-        ensures count { ⟦<TurnCurve<'a> as Curve>⟧.count result ≡ 0 }
+        ensures meaning { (⟦<TurnCurve<'a> as Curve>⟧.state result).facts.meaning ≡ turn_meaning Second station.now }
+        ensures count { (⟦<TurnCurve<'a> as Curve>⟧.state result).count ≡ 0 }
     {
         TurnCurve::new(station, Version::Second)
     }
 
     /// Returns the slope with the rates of `version`. It is not yet evaluated.
     pub fn new(station: &'a StationCurve, version: Version) -> TurnCurve<'a>
-        ensures meaning { ⟦<TurnCurve<'a> as Curve>⟧.meaning result ≡ turn_meaning version station.now }
-        ensures count { ⟦<TurnCurve<'a> as Curve>⟧.count result ≡ 0 }
+        ensures meaning { (⟦<TurnCurve<'a> as Curve>⟧.state result).facts.meaning ≡ turn_meaning version station.now }
+        ensures count { (⟦<TurnCurve<'a> as Curve>⟧.state result).count ≡ 0 }
     {
         station.known();
         TurnCurve {
@@ -64,17 +63,11 @@ impl<'a> TurnCurve<'a> {
 }
 
 impl<'a> Curve for TurnCurve<'a> {
-    ghost use Rattle.rate_bound.specs.Meanings.{turn_meaning};
+    ghost use Rattle.rate_bound.specs.CurveStates.{turn_state};
     ghost use Rattle.rate_bound.specs.Workings.TurnLaw.{turn_lawful};
     ghost use Rattle.rate_bound.specs.Workings.Narrow.{slope_narrow, slope_close};
 
-    ghost meaning = { λ c. turn_meaning c.version c.station.now };
-
-    ghost near = { λ c. near_slope_of c.station.now };
-
-    ghost error = { λ c. slope_error_of c.station.now };
-
-    ghost count = { λ c. c.evaluations };
+    ghost state = { λ c. turn_state c };
 
     ghost lawful = { λ c. turn_lawful c.version c.station.now c.gentle };
 

@@ -19,15 +19,14 @@ pub struct Line {
 }
 
 impl Line {
-    ghost use Rattle.curve_law.specs.Samples.{line};
+    ghost use Rattle.curve_law.specs.Samples.{line_facts};
 
     /// Returns the line through `start` at minute 0, not yet evaluated.
     pub fn new(start: i64, falls: bool, rate: i64) -> Line
         requires near { unsigned_abs start ≤ 10 ^ 12 }
         requires gentle { pos 1 ≤ℤ rate }
         requires small { rate ≤ℤ pos (10 ^ 12) }
-        ensures meaning { ⟦<Line as Curve>⟧.meaning result ≡ line start falls rate }
-        ensures count { ⟦<Line as Curve>⟧.count result ≡ 0 }
+        ensures { ⟦<Line as Curve>⟧.state result ≡ record { facts = line_facts start falls rate; count = 0 } }
     {
         Line {
             start,
@@ -39,16 +38,10 @@ impl Line {
 }
 
 impl Curve for Line {
-    ghost use Rattle.curve_law.specs.Samples.{line};
+    ghost use Rattle.curve_law.specs.Samples.{line_facts};
     ghost use Rattle.curve_law.specs.Workings.SampleLaws.{line-lawful, line-close, one_is_narrow};
 
-    ghost meaning = { λ l. line l.start l.falls l.rate };
-
-    ghost near = { λ l m. (line l.start l.falls l.rate).track.value m +ℤ pos 1 };
-
-    ghost error = { λ _. 1 };
-
-    ghost count = { λ l. l.asked };
+    ghost state = { λ l. record { facts = line_facts l.start l.falls l.rate; count = l.asked } };
 
     ghost lawful = { λ l. line-lawful l.start l.falls l.rate l.near l.gentle l.small };
 

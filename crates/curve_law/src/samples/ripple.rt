@@ -1,6 +1,6 @@
 //! A value that changes its side of zero after each minute.
 
-ghost use Rattle.std.specs.Prelude.{◌≡◌, ◌≤◌, pos, unsigned_abs};
+ghost use Rattle.std.specs.Prelude.{◌≡◌, ◌≤◌, unsigned_abs};
 ghost use Rattle.curve_law.specs.Samples.{ripple};
 
 use crate::curve::Curve;
@@ -14,28 +14,21 @@ pub struct Ripple {
 }
 
 impl Ripple {
-    ghost use Rattle.curve_law.specs.Samples.{ripple};
+    ghost use Rattle.curve_law.specs.Samples.{ripple_facts};
 
     /// Returns a ripple that is not yet evaluated.
     pub fn new() -> Ripple
-        ensures meaning { ⟦<Ripple as Curve>⟧.meaning result ≡ ripple }
-        ensures count { ⟦<Ripple as Curve>⟧.count result ≡ 0 }
+        ensures { ⟦<Ripple as Curve>⟧.state result ≡ record { facts = ripple_facts; count = 0 } }
     {
         Ripple { asked: 0 }
     }
 }
 
 impl Curve for Ripple {
-    ghost use Rattle.curve_law.specs.Samples.{ripple};
+    ghost use Rattle.curve_law.specs.Samples.{ripple_facts};
     ghost use Rattle.curve_law.specs.Workings.SampleLaws.{ripple-lawful, ripple-close, one_is_narrow};
 
-    ghost meaning = { λ _. ripple };
-
-    ghost near = { λ _ _. pos 0 };
-
-    ghost error = { λ _. 1 };
-
-    ghost count = { λ r. r.asked };
+    ghost state = { λ r. record { facts = ripple_facts; count = r.asked } };
 
     ghost lawful = { λ _. ripple-lawful };
 

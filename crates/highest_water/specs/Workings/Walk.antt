@@ -2,6 +2,7 @@
 use Rattle.std.specs.Prelude.{◌≡◌, ℕ, ◌+◌, ◌^◌, ◌≤◌, ℤ, pos, ◌+ℤ◌, ◌≤ℤ◌, false, true, List, [], ◌∷◌, ◌++◌, length, Option, Some, None, if◌then◌else◌}
 use Rattle.curve_law.specs.declared.point.Point.{Point}
 use Rattle.curve_law.specs.Meaning.{Meaning}
+use Rattle.curve_law.specs.CurveStates.{CurveState}
 use Rattle.interval_search.specs.Workings.Ahead.{minutes_to, ArePieces}
 use Rattle.highest_water.specs.declared.peak_cell.PeakCell.{PeakCell}
 use Rattle.highest_water.specs.declared.peak_cell.PeakCell.TheVariants.{Under, Single}
@@ -22,12 +23,12 @@ cells_ahead c highest end a (p ∷ ps) =
     peak_split c highest.minute highest.value a (minutes_to a p.minute) ++ cells_ahead c highest end p.minute ps
 
 -- the invariant of a walk at a point, with the ends of the pieces ahead, the nearest one first
-pub record Stands (c : Meaning) (count : ℕ) (end : ℤ) (at : Point) (ahead : List Point) : Type 0 where
-  pub value : at.value ≡ c.track.value at.minute
-  pub first : c.first ≤ℤ at.minute
-  pub last : end ≤ℤ c.last
-  pub pieces : ArePieces c.track.value end at.minute ahead
-  pub few : count + minutes_to at.minute end ≤ length ahead + (2 ^ 62 + 2 ^ 61 + 2 ^ 60 + 1)
+pub record Stands (s : CurveState) (end : ℤ) (at : Point) (ahead : List Point) : Type 0 where
+  pub value : at.value ≡ s.facts.meaning.track.value at.minute
+  pub first : s.facts.meaning.first ≤ℤ at.minute
+  pub last : end ≤ℤ s.facts.meaning.last
+  pub pieces : ArePieces s.facts.meaning.track.value end at.minute ahead
+  pub few : s.count + minutes_to at.minute end ≤ length ahead + (2 ^ 62 + 2 ^ 61 + 2 ^ 60 + 1)
 
 -- a cell that is one minute, or is under the highest water
 abbrev pub IsRight : Meaning → Point → ℤ → PeakCell → Type 0

@@ -4,6 +4,7 @@ use Rattle.std.specs.Prelude.{◌≡◌, ℕ, ◌+◌, ◌-◌, ◌*◌, ◌^◌
 use Rattle.curve_law.specs.declared.cell.Cell.{Cell}
 use Rattle.curve_law.specs.declared.quiet.TheConstants.{MOST_MINUTES}
 use Rattle.curve_law.specs.Meaning.{Meaning}
+use Rattle.curve_law.specs.CurveStates.{CurveState}
 use Rattle.curve_law.specs.Cover.{is_quiet, split, cover}
 use Rattle.interval_search.specs.declared.front.Front.{Front}
 use Rattle.curve_law.specs.declared.point.Point.{Point}
@@ -45,18 +46,18 @@ IsFew count cells points = count + cells ≤ points + (2 ^ 62 + 2 ^ 61 + 1)
 
 -- the invariant of a search: the point that it has reached, and the ends of the pieces after it, the
 -- nearest first
-pub record Stands (c : Meaning) (values : ℤ → ℤ) (count : ℕ) (end : ℤ) (at : Point) (ahead : List Point) : Type 0 where
-  pub value : at.value ≡ values at.minute
-  pub first : c.first ≤ℤ at.minute
-  pub last : end ≤ℤ c.last
-  pub pieces : ArePieces values end at.minute ahead
-  pub few : IsFew count (length (cells_ahead c end at.minute ahead)) (length ahead)
+pub record Stands (s : CurveState) (end : ℤ) (at : Point) (ahead : List Point) : Type 0 where
+  pub value : at.value ≡ s.facts.near at.minute
+  pub first : s.facts.meaning.first ≤ℤ at.minute
+  pub last : end ≤ℤ s.facts.meaning.last
+  pub pieces : ArePieces s.facts.near end at.minute ahead
+  pub few : IsFew s.count (length (cells_ahead s.facts.meaning end at.minute ahead)) (length ahead)
 
 -- the value in contracts of a search with this curve, count and state
-abbrev pub looking_at : {C : Type 0} → C → Meaning → ℕ → Front → Looking C
-looking_at curve meaning count front = record {
+abbrev pub looking_at : {C : Type 0} → C → CurveState → Front → Looking C
+looking_at curve s front = record {
   curve = curve;
   at = front.at.minute;
-  left = cells_ahead meaning front.end front.at.minute front.waiting;
-  most = (count + length (cells_ahead meaning front.end front.at.minute front.waiting)) - length front.waiting;
+  left = cells_ahead s.facts.meaning front.end front.at.minute front.waiting;
+  most = (s.count + length (cells_ahead s.facts.meaning front.end front.at.minute front.waiting)) - length front.waiting;
 }

@@ -1,33 +1,34 @@
 use Rattle.std.proofs.Common.{w64, FitsSigned, rules, arith, ◌∙◌}
 use Rattle.std.proofs.lemmas.Int.{to_z-of_z}
+use Rattle.curve_law.proofs.StateLemmas.{facts-after, count-after}
 use Rattle.cert_checker.proofs.FindingLemmas.{first-span, rest-span, first-found, rest-found, none-found}
 use Rattle.cert_checker.proofs.checking.first_finding.Goals as goal
 
 pub end_of-end-requires-clause-span : goal.end_of-end-requires-clause-span
 end_of-end-requires-clause-span g c =
     let at : FitsSigned w64 c.loop-cell.at.minute = search rules in
-    rw (to_z-of_z w64 _ at, c.loop-cell.invariant.same) (first-span _ _ c.args.cells.now c.loop-cell.cell-index _ c.loop-cell-test.true c.loop-cell.invariant.span)
+    rw (to_z-of_z w64 _ at, c.loop-cell.invariant.unchanged) (first-span _ _ c.args.cells.now c.loop-cell.cell-index _ c.loop-cell-test.true c.loop-cell.invariant.span)
 
 pub finding_on-requires-clause-span : goal.finding_on-requires-clause-span
 finding_on-requires-clause-span g c =
-    rw (c.end_of-end.ensures.same, c.loop-cell.invariant.same) (first-span _ _ c.args.cells.now c.loop-cell.cell-index _ c.loop-cell-test.true c.loop-cell.invariant.span)
+    rw (c.end_of-end.ensures.after, c.loop-cell.invariant.unchanged) (first-span _ _ c.args.cells.now c.loop-cell.cell-index _ c.loop-cell-test.true c.loop-cell.invariant.span)
 
 pub returns-in_default-clause-verdict : goal.returns-in_default-clause-verdict
 returns-in_default-clause-verdict g c =
     let left = rw (to_z-of_z w64 c.args.begin c.ranges.begin) at c.loop-cell.invariant.left in
-    let found = rw (c.end_of-end.ensures.same, c.loop-cell.invariant.same) at c.finding_on.ensures in
+    let found = rw (c.end_of-end.ensures.after, c.loop-cell.invariant.unchanged) at c.finding_on.ensures in
     first-found _ _ _ c.args.cells.now c.loop-cell.cell-index _ _ _ c.loop-cell-test.true left found c.in_default.not-Accepted
 
 pub loop-cell-preserved : goal.loop-cell-preserved
 loop-cell-preserved g c =
     let at : FitsSigned w64 c.loop-cell.at.minute = search rules in
     let minute = rw (to_z-of_z w64 _ at) at c.end_of-end.ensures.minute in
-    let right = rw (c.end_of-end.ensures.same, c.loop-cell.invariant.same) at c.in-Accepted.ensures in
+    let right = rw (c.end_of-end.ensures.after, c.loop-cell.invariant.unchanged) at c.in-Accepted.ensures in
     record {
-      same = c.end_of-end.ensures.same ∙ c.loop-cell.invariant.same;
+      unchanged = facts-after _ _ c.end_of-end.ensures.after ∙ c.loop-cell.invariant.unchanged;
       numbered = omega (arith, c.loop-cell.invariant.numbered);
-      counted = omega (arith, c.end_of-end.ensures.counted, c.loop-cell.invariant.counted);
-      value = rw c.loop-cell.invariant.same at c.end_of-end.ensures.value;
+      counted = omega (arith, count-after _ _ c.end_of-end.ensures.after, c.loop-cell.invariant.counted);
+      value = rw c.loop-cell.invariant.unchanged at c.end_of-end.ensures.value;
       span = rw minute (rest-span _ _ c.args.cells.now c.loop-cell.cell-index _ c.loop-cell-test.true c.loop-cell.invariant.span);
       left = rw minute (rest-found _ _ _ c.args.cells.now c.loop-cell.cell-index _ _ c.loop-cell-test.true c.loop-cell.invariant.left right);
     }

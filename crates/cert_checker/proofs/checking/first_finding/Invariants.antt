@@ -7,11 +7,11 @@ use Rattle.cert_checker.proofs.checking.first_finding.Given as goal
 -- no fault so far, and the cells left begin here
 abbrev pub invariant-loop-cell : goal.invariant-loop-cell
 invariant-loop-cell g l =
-    let meaning = g.C.Curve.meaning l.fn.curve in
+    let meaning = (g.C.Curve.state l.fn.curve).facts.meaning in
     record {
-      same : g.C.Curve.meaning l.curve ≡ meaning;
+      unchanged : (g.C.Curve.state l.curve).facts ≡ (g.C.Curve.state l.fn.curve).facts;
       numbered : l.number ≡ l.cell-index;
-      counted : g.C.Curve.count l.curve ≡ g.C.Curve.count l.fn.curve + l.cell-index + 1;
+      counted : (g.C.Curve.state l.curve).count ≡ (g.C.Curve.state l.fn.curve).count + l.cell-index + 1;
       value : l.at.value ≡ meaning.track.value l.at.minute;
       span : IsSpan meaning l.at.minute (all_minutes (drop l.cell-index l.cells));
       left : cells_verdict meaning l.begin 1 l.cells ≡ cells_verdict meaning l.at.minute (l.number + 1) (drop l.cell-index l.cells);

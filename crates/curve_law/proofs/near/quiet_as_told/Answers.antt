@@ -7,15 +7,15 @@ use Rattle.curve_law.proofs.near.quiet_as_told.Goals as goal
 
 pub returns-then-branch : goal.returns-then-branch
 returns-then-branch g c =
-    let meaning = g.C.Curve.meaning c.args.curve.now in
+    let meaning = (g.C.Curve.state c.args.curve.now).facts.meaning in
     let error_fits : FitsSigned w128 c.error-error.result = search rules in
     let error = to_z-of_z w128 c.error-error.result error_fits in
     let near = to_z-of_z w128 c.args.near c.ranges.near in
     let end_near = to_z-of_z w128 c.args.end_near c.ranges.end_near in
     let told = simp (near, error) at c.in_ok-side_of.ensures in
     let end_told = simp (end_near, error) at c.in_ok-side_of-2.ensures in
-    let first = told-side c.args.near c.error-error.result (meaning.track.value c.args.a) (g.C.Curve.error c.args.curve.now) c.in_ok-side_of.field-0 c.error-error.ensures told c.requires.near in
-    let second = told-side c.args.end_near c.error-error.result (meaning.track.value (c.args.a +ℤ pos c.args.n)) (g.C.Curve.error c.args.curve.now) c.in_ok-side_of-2.field-0 c.error-error.ensures end_told c.requires.end_near in
+    let first = told-side c.args.near c.error-error.result (meaning.track.value c.args.a) (g.C.Curve.state c.args.curve.now).facts.error c.in_ok-side_of.field-0 c.error-error.ensures told c.requires.near in
+    let second = told-side c.args.end_near c.error-error.result (meaning.track.value (c.args.a +ℤ pos c.args.n)) (g.C.Curve.state c.args.curve.now).facts.error c.in_ok-side_of-2.field-0 c.error-error.ensures end_told c.requires.end_near in
     elim c.then-branch.either [
       | inl other ↦ told-crossed meaning c.args.a c.args.n c.in_ok-side_of.field-0 c.in_ok-side_of-2.field-0 first second other
       | inr short ↦ too_short meaning c.args.a c.args.n short.1
@@ -24,19 +24,19 @@ returns-then-branch g c =
 pub side_of-requires-2-clause-near : goal.side_of-requires-2-clause-near
 side_of-requires-2-clause-near g c =
     let end_near = to_z-of_z w128 c.args.end_near c.ranges.end_near in
-    let sizes = near-sizes (g.C.Curve.meaning c.args.curve.now) c.args.a c.args.n _ c.args.near c.args.end_near (g.met.C.Curve.lawful c.args.curve.now) (g.met.C.Curve.narrow c.args.curve.now) c.requires.span c.requires.near c.requires.end_near in
+    let sizes = near-sizes (g.C.Curve.state c.args.curve.now).facts.meaning c.args.a c.args.n _ c.args.near c.args.end_near (g.met.C.Curve.lawful c.args.curve.now) (g.met.C.Curve.narrow c.args.curve.now) c.requires.span c.requires.near c.requires.end_near in
     rw end_near sizes.1
 
 pub overflow_add-near : goal.overflow_add-near
 overflow_add-near g c =
-    let sizes = near-sizes (g.C.Curve.meaning c.args.curve.now) c.args.a c.args.n _ c.args.near c.args.end_near (g.met.C.Curve.lawful c.args.curve.now) (g.met.C.Curve.narrow c.args.curve.now) c.requires.span c.requires.near c.requires.end_near in
+    let sizes = near-sizes (g.C.Curve.state c.args.curve.now).facts.meaning c.args.a c.args.n _ c.args.near c.args.end_near (g.met.C.Curve.lawful c.args.curve.now) (g.met.C.Curve.narrow c.args.curve.now) c.requires.span c.requires.near c.requires.end_near in
     omega (arith, ints, sizes.0, sizes.1)
 
 pub most_change-requires-clause-positive : goal.most_change-requires-clause-positive
 most_change-requires-clause-positive g c =
     let fits : FitsSigned w64 c.args.a = c.ranges.a in
     let told = simp to_z-of_z at c.in-Some.ensures in
-    let p = rate-positive (g.C.Curve.meaning c.args.curve.now) c.args.a c.args.n c.in-Some.rate (g.met.C.Curve.lawful c.args.curve.now) c.requires.span c.if-n-lt2.false c.requires.few told in
+    let p = rate-positive (g.C.Curve.state c.args.curve.now).facts.meaning c.args.a c.args.n c.in-Some.rate (g.met.C.Curve.lawful c.args.curve.now) c.requires.span c.if-n-lt2.false c.requires.few told in
     omega (arith, ints)
 
 pub most_change-requires-clause-rate : goal.most_change-requires-clause-rate
@@ -49,13 +49,13 @@ most_change-requires-clause-rate g c =
 
 pub passes-requires-clause-near : goal.passes-requires-clause-near
 passes-requires-clause-near g c =
-    let sizes = near-sizes (g.C.Curve.meaning c.args.curve.now) c.args.a c.args.n _ c.args.near c.args.end_near (g.met.C.Curve.lawful c.args.curve.now) (g.met.C.Curve.narrow c.args.curve.now) c.requires.span c.requires.near c.requires.end_near in
+    let sizes = near-sizes (g.C.Curve.state c.args.curve.now).facts.meaning c.args.a c.args.n _ c.args.near c.args.end_near (g.met.C.Curve.lawful c.args.curve.now) (g.met.C.Curve.narrow c.args.curve.now) c.requires.span c.requires.near c.requires.end_near in
     omega (arith, ints, sizes.0, sizes.1)
 
 pub returns-in-Some : goal.returns-in-Some
 returns-in-Some g c =
-    let meaning = g.C.Curve.meaning c.args.curve.now in
-    let bound = g.C.Curve.error c.args.curve.now in
+    let meaning = (g.C.Curve.state c.args.curve.now).facts.meaning in
+    let bound = (g.C.Curve.state c.args.curve.now).facts.error in
     let fits : FitsSigned w64 c.args.a = c.ranges.a in
     let error_fits : FitsSigned w128 c.error-error.result = search rules in
     let rate_fits : FitsSigned w128 c.in-Some.rate = search rules in
@@ -81,4 +81,4 @@ pub returns-in-None : goal.returns-in-None
 returns-in-None g c =
     let fits : FitsSigned w64 c.args.a = c.ranges.a in
     let told = simp to_z-of_z at c.in-None.ensures in
-    sym (no_rate-quiet (g.C.Curve.meaning c.args.curve.now) c.args.a c.args.n c.if-n-lt2.false c.requires.few told)
+    sym (no_rate-quiet (g.C.Curve.state c.args.curve.now).facts.meaning c.args.a c.args.n c.if-n-lt2.false c.requires.few told)

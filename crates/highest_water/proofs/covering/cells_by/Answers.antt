@@ -8,9 +8,9 @@ returns-in_err-push-clause-count g c =
     let invariant = c.loop-found.invariant in
     let next = c.in-Some.ensures in
     let all = rw (to_z-of_z w64 c.args.begin c.ranges.begin, to_z-of_z w64 c.args.end c.ranges.end) at invariant.cells in
-    let ahead = rw invariant.same at next.found.1 in
-    let stands = rw invariant.same at next.stands in
-    let few = points-few (g.C.Curve.meaning c.args.curve.now) c.args.highest _ _ _ stands.pieces in
+    let ahead = rw invariant.unchanged at next.found.1 in
+    let stands = rw (next.unchanged, invariant.unchanged) at next.stands.pieces in
+    let few = points-few (g.C.Curve.state c.args.curve.now).facts.meaning c.args.highest _ _ _ stands in
     counted-more c.loop-found.cells.items _ _ _ _ _ _ _ _ _ all ahead few next.count invariant.counted
 
 pub returns-clause-count : goal.returns-clause-count
@@ -18,5 +18,5 @@ returns-clause-count g c =
     let invariant = c.loop-found.invariant in
     let last = c.in_default.ensures in
     let all = rw (to_z-of_z w64 c.args.begin c.ranges.begin, to_z-of_z w64 c.args.end c.ranges.end) at invariant.cells in
-    let done = rw invariant.same at last.found.2 in
+    let done = rw invariant.unchanged at last.found.2 in
     rw last.count (counted-all c.loop-found.cells.items _ _ _ _ _ all done last.found.1 invariant.counted)

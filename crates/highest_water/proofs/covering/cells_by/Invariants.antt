@@ -7,14 +7,14 @@ use Rattle.highest_water.proofs.covering.cells_by.Given as goal
 -- the cells so far and those ahead are all cells
 abbrev pub invariant-loop-found : goal.invariant-loop-found
 invariant-loop-found g l =
-    let meaning = g.C.Curve.meaning l.fn.curve in
+    let meaning = (g.C.Curve.state l.fn.curve).facts.meaning in
     record {
-      same : g.C.Curve.meaning l.curve ≡ meaning;
-      stands : Stands meaning (g.C.Curve.count l.curve) l.walk.end l.walk.at l.walk.waiting;
+      unchanged : (g.C.Curve.state l.curve).facts ≡ (g.C.Curve.state l.fn.curve).facts;
+      stands : Stands (g.C.Curve.state l.curve) l.walk.end l.walk.at l.walk.waiting;
       cells : l.cells.items ++ cells_ahead meaning l.highest l.walk.end l.walk.at.minute l.walk.waiting
           ≡ peak_cover meaning l.highest.minute l.highest.value l.begin (unsigned_abs (l.end -ℤ l.begin));
-      counted : g.C.Curve.count l.curve ≤ g.C.Curve.count l.fn.curve + length l.cells.items + length l.walk.waiting + 1;
+      counted : (g.C.Curve.state l.curve).count ≤ (g.C.Curve.state l.fn.curve).count + length l.cells.items + length l.walk.waiting + 1;
     }
 
 abbrev pub decreases-loop-found : goal.decreases-loop-found
-decreases-loop-found g l = length (cells_ahead (g.C.Curve.meaning l.curve) l.highest l.walk.end l.walk.at.minute l.walk.waiting)
+decreases-loop-found g l = length (cells_ahead (g.C.Curve.state l.curve).facts.meaning l.highest l.walk.end l.walk.at.minute l.walk.waiting)

@@ -7,13 +7,13 @@ use Rattle.highest_water.proofs.finding.highest_block.Given as goal
 -- the highest point so far is one of the span
 abbrev pub invariant-loop-at : goal.invariant-loop-at
 invariant-loop-at g l =
-    let meaning = g.C.Curve.meaning l.fn.curve in
+    let meaning = (g.C.Curve.state l.fn.curve).facts.meaning in
     record {
-      same : g.C.Curve.meaning l.curve ≡ meaning;
+      unchanged : (g.C.Curve.state l.curve).facts ≡ (g.C.Curve.state l.fn.curve).facts;
       from : l.begin ≤ℤ l.at;
       within : l.at ≤ℤ l.end;
       point : IsPoint meaning l.begin l.end l.highest;
-      counted : g.C.Curve.count l.curve + minutes_to l.at l.end ≤ g.C.Curve.count l.fn.curve + minutes_to l.begin l.end;
+      counted : (g.C.Curve.state l.curve).count + minutes_to l.at l.end ≤ (g.C.Curve.state l.fn.curve).count + minutes_to l.begin l.end;
     }
 
 abbrev pub decreases-loop-at : goal.decreases-loop-at

@@ -1,6 +1,7 @@
 use Rattle.std.proofs.Common.{w64, to_z, of_z, ◌≤ℤ◌, length, ap, arith, ◌∙◌}
 use Rattle.std.proofs.lemmas.Int.{ints, to_z-of_z}
 use Rattle.curve_law.specs.declared.point.Point.{Point}
+use Rattle.curve_law.proofs.StateLemmas.{facts-after, count-after}
 use Rattle.highest_water.proofs.FindingLemmas.{first-so_far, cell-so_far, all-so_far, right-some, point-small, highest-is}
 use Rattle.highest_water.proofs.finding.highest_point.Goals as goal
 
@@ -9,18 +10,18 @@ loop-found-init g c =
     let block = c.highest_block-highest.ensures in
     let walk = c.walk_from-walk.ensures in
     record {
-      same = walk.same ∙ block.same;
-      stands = rw block.same at walk.stands;
+      unchanged = facts-after _ _ walk.after ∙ block.unchanged;
+      stands = walk.stands;
       until = walk.end;
       onward = omega (arith, ints, walk.at);
-      so_far = rw walk.at (first-so_far (g.C.Curve.meaning c.args.curve.now) _ _ c.highest_block-highest.result block.point);
-      counted = omega (arith, ints, walk.at, walk.counted, block.count);
+      so_far = rw walk.at (first-so_far (g.C.Curve.state c.args.curve.now).facts.meaning _ _ c.highest_block-highest.result block.point);
+      counted = omega (arith, ints, walk.at, count-after _ _ walk.after, block.count);
     }
 
 pub next_cell-requires-clause-size : goal.next_cell-requires-clause-size
 next_cell-requires-clause-size g c =
     let point = rw (to_z-of_z w64 c.args.begin c.ranges.begin, to_z-of_z w64 c.args.end c.ranges.end) at c.loop-found.invariant.so_far.point in
-    point-small (g.C.Curve.meaning c.args.curve.now) c.args.begin c.args.end c.loop-found.highest (g.met.C.Curve.lawful c.args.curve.now) c.requires.first c.requires.last point
+    point-small (g.C.Curve.state c.args.curve.now).facts.meaning c.args.begin c.args.end c.loop-found.highest (g.met.C.Curve.lawful c.args.curve.now) c.requires.first c.requires.last point
 
 pub loop-found-smaller : goal.loop-found-smaller
 loop-found-smaller g c =
@@ -30,20 +31,20 @@ loop-found-smaller g c =
 
 pub loop-found-preserved : goal.loop-found-preserved
 loop-found-preserved g c =
-    let meaning = g.C.Curve.meaning c.args.curve.now in
+    let meaning = (g.C.Curve.state c.args.curve.now).facts.meaning in
     let invariant = c.loop-found.invariant in
     let next = c.in-Some.ensures in
     let found = next.found in
     let first : meaning.first ≤ℤ to_z w64 (of_z w64 c.args.begin) = rw (to_z-of_z w64 c.args.begin c.ranges.begin) c.requires.first in
     let last : to_z w64 (of_z w64 c.args.end) ≤ℤ meaning.last = rw (to_z-of_z w64 c.args.end c.ranges.end) c.requires.last in
-    let right = rw invariant.same at found.3 in
+    let right = rw invariant.unchanged at found.3 in
     let some = right-some _ _ _ _ right in
     record {
-      same = next.same ∙ invariant.same;
-      stands = rw invariant.same at next.stands;
+      unchanged = next.unchanged ∙ invariant.unchanged;
+      stands = next.stands;
       until = next.end ∙ invariant.until;
       onward = omega (arith, ints, found.2, invariant.onward);
-      so_far = rw (c.raised_by-highest.ensures, found.2) (cell-so_far meaning _ _ c.loop-found.walk.at.minute c.loop-found.highest c.in-Some.found.at c.in-Some.found.cell (g.met.C.Curve.lawful c.args.curve.now) first last invariant.so_far invariant.onward (ap (λ (p : Point). p.minute) found.0) (rw found.0 invariant.stands.value) right (omega (arith, ints, found.2, found.4, invariant.until)));
+      so_far = rw (c.raised_by-highest.ensures, found.2) (cell-so_far meaning _ _ c.loop-found.walk.at.minute c.loop-found.highest c.in-Some.found.at c.in-Some.found.cell (g.met.C.Curve.lawful c.args.curve.now) first last invariant.so_far invariant.onward (ap (λ (p : Point). p.minute) found.0) (rw (found.0, ← invariant.unchanged) invariant.stands.value) right (omega (arith, ints, found.2, found.4, invariant.until)));
       counted = omega (arith, ints, found.2, found.4, some, next.count, invariant.counted, invariant.until);
     }
 
@@ -51,13 +52,13 @@ pub returns-clause-highest : goal.returns-clause-highest
 returns-clause-highest g c =
     let done = c.in_default.ensures.found.0 ∙ c.loop-found.invariant.until in
     rw (to_z-of_z w64 c.args.begin c.ranges.begin, to_z-of_z w64 c.args.end c.ranges.end) at
-    (all-so_far (g.C.Curve.meaning c.args.curve.now) _ _ c.loop-found.walk.at.minute c.loop-found.highest done c.loop-found.invariant.so_far)
+    (all-so_far (g.C.Curve.state c.args.curve.now).facts.meaning _ _ c.loop-found.walk.at.minute c.loop-found.highest done c.loop-found.invariant.so_far)
 
 pub returns-clause-minute : goal.returns-clause-minute
-returns-clause-minute g c = (highest-is (g.C.Curve.meaning c.args.curve.now) c.args.begin c.args.end _ _ (returns-clause-highest g c)).0
+returns-clause-minute g c = (highest-is (g.C.Curve.state c.args.curve.now).facts.meaning c.args.begin c.args.end _ _ (returns-clause-highest g c)).0
 
 pub returns-clause-value : goal.returns-clause-value
-returns-clause-value g c = (highest-is (g.C.Curve.meaning c.args.curve.now) c.args.begin c.args.end _ _ (returns-clause-highest g c)).1
+returns-clause-value g c = (highest-is (g.C.Curve.state c.args.curve.now).facts.meaning c.args.begin c.args.end _ _ (returns-clause-highest g c)).1
 
 pub returns-clause-count : goal.returns-clause-count
 returns-clause-count g c =

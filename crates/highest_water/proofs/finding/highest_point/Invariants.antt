@@ -8,15 +8,15 @@ use Rattle.highest_water.proofs.finding.highest_point.Given as goal
 -- no minute so far is higher
 abbrev pub invariant-loop-found : goal.invariant-loop-found
 invariant-loop-found g l =
-    let meaning = g.C.Curve.meaning l.fn.curve in
+    let meaning = (g.C.Curve.state l.fn.curve).facts.meaning in
     record {
-      same : g.C.Curve.meaning l.curve ≡ meaning;
-      stands : Stands meaning (g.C.Curve.count l.curve) l.walk.end l.walk.at l.walk.waiting;
+      unchanged : (g.C.Curve.state l.curve).facts ≡ (g.C.Curve.state l.fn.curve).facts;
+      stands : Stands (g.C.Curve.state l.curve) l.walk.end l.walk.at l.walk.waiting;
       until : l.walk.end ≡ l.end;
       onward : l.begin ≤ℤ l.walk.at.minute;
       so_far : IsHighestSoFar meaning l.begin l.end l.walk.at.minute l.highest;
-      counted : g.C.Curve.count l.curve + minutes_to l.walk.at.minute l.end
-          ≤ g.C.Curve.count l.fn.curve + 2 * minutes_to l.begin l.end + 1 + length l.walk.waiting;
+      counted : (g.C.Curve.state l.curve).count + minutes_to l.walk.at.minute l.end
+          ≤ (g.C.Curve.state l.fn.curve).count + 2 * minutes_to l.begin l.end + 1 + length l.walk.waiting;
     }
 
 abbrev pub decreases-loop-found : goal.decreases-loop-found

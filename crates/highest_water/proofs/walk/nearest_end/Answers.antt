@@ -11,7 +11,7 @@ returns-in-None-clause-stands g c =
     let end = simp to_z-of_z at c.block_end.ensures in
     let point = simp to_z-of_z at c.point_at.ensures.point in
     let empty = c.in-None.ensures in
-    begun-stands (g.C.Curve.meaning c.args.curve.now) (g.C.Curve.count c.args.curve.now) (g.C.Curve.count c.point_at.new.curve) c.args.end c.args.at c.block_end.result c.point_at.result c.args.waiting.now c.pop.new.self c.requires.onward end point c.point_at.ensures.counted empty.0 empty.1 c.requires.stands
+    begun-stands (g.C.Curve.state c.args.curve.now) (g.C.Curve.state c.point_at.new.curve) c.args.end c.args.at c.block_end.result c.point_at.result c.args.waiting.now c.pop.new.self c.requires.onward end point c.point_at.ensures.after empty.0 empty.1 c.requires.stands
 
 pub returns-in-None-clause-cells : goal.returns-in-None-clause-cells
 returns-in-None-clause-cells g c =
@@ -21,4 +21,4 @@ returns-in-None-clause-cells g c =
     let end = simp to_z-of_z at c.block_end.ensures in
     let point = simp to_z-of_z at c.point_at.ensures.point in
     let empty = c.in-None.ensures in
-    begun-ahead (g.C.Curve.meaning c.args.curve.now) c.args.end c.args.at.minute c.block_end.result c.point_at.result c.args.waiting.now c.pop.new.self c.requires.onward end point empty.0 empty.1
+    begun-ahead (g.C.Curve.state c.args.curve.now).facts.meaning c.args.end c.args.at.minute c.block_end.result c.point_at.result c.args.waiting.now c.pop.new.self c.requires.onward end point empty.0 empty.1

@@ -6,12 +6,12 @@ use Rattle.highest_water.proofs.walk.nearest_step.Given as goal
 -- the piece is halved, and nothing else changes
 abbrev pub invariant-loop-cell : goal.invariant-loop-cell
 invariant-loop-cell g l =
-    let meaning = g.C.Curve.meaning l.fn.curve in
+    let meaning = (g.C.Curve.state l.fn.curve).facts.meaning in
     record {
-      same : g.C.Curve.meaning l.curve ≡ meaning;
-      stands : Stands meaning (g.C.Curve.count l.curve) l.end l.at (l.near ∷ l.waiting);
+      unchanged : (g.C.Curve.state l.curve).facts ≡ (g.C.Curve.state l.fn.curve).facts;
+      stands : Stands (g.C.Curve.state l.curve) l.end l.at (l.near ∷ l.waiting);
       cells : cells_ahead meaning l.highest l.end l.at.minute (l.near ∷ l.waiting) ≡ cells_ahead meaning l.highest l.end l.at.minute (l.fn.near ∷ l.fn.waiting);
-      counted : g.C.Curve.count l.curve + length l.fn.waiting ≡ g.C.Curve.count l.fn.curve + length l.waiting;
+      counted : (g.C.Curve.state l.curve).count + length l.fn.waiting ≡ (g.C.Curve.state l.fn.curve).count + length l.waiting;
     }
 
 abbrev pub decreases-loop-cell : goal.decreases-loop-cell

@@ -10,30 +10,32 @@ returns-then-at-end-clause-found g c =
     let end : FitsSigned w64 c.args.walk.now.end = search rules in
     let same : c.args.walk.now.at.minute ≡ c.args.walk.now.end = sym (to_z-of_z w64 _ at) ∙ ap (to_z w64) c.if-at-end.true ∙ to_z-of_z w64 _ end in
     let stands = c.requires.stands in
-    (same, done-waiting (g.C.Curve.meaning c.args.curve.now) c.args.walk.now.end c.args.walk.now.at.minute c.args.walk.now.waiting stands.pieces same, done-cells (g.C.Curve.meaning c.args.curve.now) c.args.highest c.args.walk.now.end c.args.walk.now.at.minute c.args.walk.now.waiting stands.pieces same)
+    (same, done-waiting (g.C.Curve.state c.args.curve.now).facts.meaning c.args.walk.now.end c.args.walk.now.at.minute c.args.walk.now.waiting stands.pieces same, done-cells (g.C.Curve.state c.args.curve.now).facts.meaning c.args.highest c.args.walk.now.end c.args.walk.now.at.minute c.args.walk.now.waiting stands.pieces same)
 
 pub nearest_end-near-requires-clause-onward : goal.nearest_end-near-requires-clause-onward
 nearest_end-near-requires-clause-onward g c =
     let end : FitsSigned w64 c.args.walk.now.end = search rules in
-    let onward = before-end (g.C.Curve.meaning c.args.curve.now).track.value c.args.walk.now.end c.args.walk.now.at.minute c.args.walk.now.waiting c.requires.stands.pieces (λ e. c.if-at-end.false (ap (of_z w64) e)) in
+    let onward = before-end (g.C.Curve.state c.args.curve.now).facts.meaning.track.value c.args.walk.now.end c.args.walk.now.at.minute c.args.walk.now.waiting c.requires.stands.pieces (λ e. c.if-at-end.false (ap (of_z w64) e)) in
     rw (to_z-of_z w64 c.args.walk.now.end end) onward
 
 pub returns-clause-stands : goal.returns-clause-stands
 returns-clause-stands g c =
     let end : FitsSigned w64 c.args.walk.now.end = search rules in
-    let stands = simp (to_z-of_z, c.nearest_end-near.ensures.same) at c.nearest_step-step.ensures.stands in
-    given-stands (g.C.Curve.meaning c.args.curve.now) _ c.args.walk.now.end c.args.walk.now.at _ _ stands
+    let stands = simp to_z-of_z at c.nearest_step-step.ensures.stands in
+    given-stands (g.C.Curve.state c.nearest_step-step.new.curve) c.args.walk.now.end c.args.walk.now.at _ _ stands
 
 pub returns-clause-found : goal.returns-clause-found
 returns-clause-found g c =
     let end : FitsSigned w64 c.args.walk.now.end = search rules in
-    let meaning = g.C.Curve.meaning c.args.curve.now in
-    let stands = simp (to_z-of_z, c.nearest_end-near.ensures.same) at c.nearest_step-step.ensures.stands in
-    let cell = rw c.nearest_end-near.ensures.same at c.nearest_step-step.ensures.cell in
+    let meaning = (g.C.Curve.state c.args.curve.now).facts.meaning in
+    let facts = c.nearest_step-step.ensures.unchanged ∙ c.nearest_end-near.ensures.unchanged in
+    let state = g.C.Curve.state c.nearest_step-step.new.curve in
+    let stands = simp to_z-of_z at c.nearest_step-step.ensures.stands in
+    let cell = rw c.nearest_end-near.ensures.unchanged at c.nearest_step-step.ensures.cell in
     let begun = simp to_z-of_z at (c.nearest_end-near.ensures.cells c.args.highest) in
-    let halved = simp (to_z-of_z, c.nearest_end-near.ensures.same) at c.nearest_step-step.ensures.cells in
+    let halved = simp (to_z-of_z, c.nearest_end-near.ensures.unchanged) at c.nearest_step-step.ensures.cells in
     let given = given-cells meaning c.args.highest c.args.walk.now.end c.args.walk.now.at.minute c.nearest_step-step.result.end c.nearest_step-step.new.waiting c.nearest_step-step.result.cell cell in
-    let onward = given-onward meaning c.args.highest _ c.args.walk.now.end c.args.walk.now.at _ _ _ stands cell in
-    let right = given-right meaning c.args.highest _ c.args.walk.now.end c.args.walk.now.at _ _ _ stands cell in
-    let left = given-stands meaning _ c.args.walk.now.end c.args.walk.now.at _ _ stands in
-    (refl {a = c.args.walk.now.at}, sym begun ∙ sym halved ∙ given, onward, right, pieces-end meaning.track.value c.args.walk.now.end _ _ left.pieces)
+    let onward = given-onward state c.args.highest c.args.walk.now.end c.args.walk.now.at c.nearest_step-step.result.end c.nearest_step-step.new.waiting c.nearest_step-step.result.cell stands (rw facts cell) in
+    let right = rw facts at (given-right state c.args.highest c.args.walk.now.end c.args.walk.now.at c.nearest_step-step.result.end c.nearest_step-step.new.waiting c.nearest_step-step.result.cell stands (rw facts cell)) in
+    let left = given-stands state c.args.walk.now.end c.args.walk.now.at _ _ stands in
+    (refl {a = c.args.walk.now.at}, sym begun ∙ sym halved ∙ given, onward, right, pieces-end state.facts.meaning.track.value c.args.walk.now.end _ _ left.pieces)

@@ -8,11 +8,11 @@ returns-clause-stands g c =
     let begin : FitsSigned w64 c.args.begin = c.ranges.begin in
     let end = to_z-of_z w64 c.args.end c.ranges.end in
     let point = simp to_z-of_z at c.point_at.ensures.point in
-    rw end (first-stands (g.C.Curve.meaning c.args.curve.now) (g.C.Curve.count c.args.curve.now) (g.C.Curve.count c.point_at.new.curve) c.args.begin c.args.end c.point_at.result c.new.result (g.met.C.Curve.lawful c.args.curve.now) c.requires.forward c.requires.first c.requires.last c.requires.few c.point_at.ensures.counted point c.new.ensures)
+    rw end (first-stands (g.C.Curve.state c.args.curve.now) (g.C.Curve.state c.point_at.new.curve) c.args.begin c.args.end c.point_at.result c.new.result (g.met.C.Curve.lawful c.args.curve.now) c.requires.forward c.requires.first c.requires.last c.requires.few c.point_at.ensures.after point c.new.ensures)
 
 pub returns-clause-cells : goal.returns-clause-cells
 returns-clause-cells g c =
     let begin : FitsSigned w64 c.args.begin = c.ranges.begin in
     let end = to_z-of_z w64 c.args.end c.ranges.end in
     let point = simp to_z-of_z at c.point_at.ensures.point in
-    rw end (first-cells (g.C.Curve.meaning c.args.curve.now) c.args.begin c.args.end c.point_at.result c.new.result point c.new.ensures)
+    rw end (first-cells (g.C.Curve.state c.args.curve.now).facts.meaning c.args.begin c.args.end c.point_at.result c.new.result point c.new.ensures)

@@ -11,7 +11,7 @@ returns-clause-stands g c =
     let point = simp to_z-of_z at c.near_point_at.ensures.point in
     let minute = ap (λ (p : Point). p.minute) point in
     let near = ap (λ (p : Point). p.value) point in
-    let first = first-stands (g.C.Curve.meaning c.args.curve.now) (g.C.Curve.near c.args.curve.now) (g.C.Curve.count c.args.curve.now) (g.C.Curve.count c.near_point_at.new.curve) c.args.begin c.args.end c.near_point_at.result c.new.result (g.met.C.Curve.lawful c.args.curve.now) c.requires.forward c.requires.first c.requires.last c.requires.few c.near_point_at.ensures.counted minute near c.new.ensures in
+    let first = first-stands (g.C.Curve.state c.args.curve.now) (g.C.Curve.state c.near_point_at.new.curve) c.args.begin c.args.end c.near_point_at.result c.new.result (g.met.C.Curve.lawful c.args.curve.now) c.requires.forward c.requires.first c.requires.last c.requires.few c.near_point_at.ensures.after minute near c.new.ensures in
     rw end first.0
 
 pub returns-clause-cells : goal.returns-clause-cells
@@ -21,5 +21,5 @@ returns-clause-cells g c =
     let point = simp to_z-of_z at c.near_point_at.ensures.point in
     let minute = ap (λ (p : Point). p.minute) point in
     let near = ap (λ (p : Point). p.value) point in
-    let first = first-stands (g.C.Curve.meaning c.args.curve.now) (g.C.Curve.near c.args.curve.now) (g.C.Curve.count c.args.curve.now) (g.C.Curve.count c.near_point_at.new.curve) c.args.begin c.args.end c.near_point_at.result c.new.result (g.met.C.Curve.lawful c.args.curve.now) c.requires.forward c.requires.first c.requires.last c.requires.few c.near_point_at.ensures.counted minute near c.new.ensures in
+    let first = first-stands (g.C.Curve.state c.args.curve.now) (g.C.Curve.state c.near_point_at.new.curve) c.args.begin c.args.end c.near_point_at.result c.new.result (g.met.C.Curve.lawful c.args.curve.now) c.requires.forward c.requires.first c.requires.last c.requires.few c.near_point_at.ensures.after minute near c.new.ensures in
     rw end first.1

@@ -14,7 +14,7 @@ returns-in-None-clause-stands g c =
     let minute = ap (λ (p : Point). p.minute) point in
     let near = ap (λ (p : Point). p.value) point in
     let empty = c.in-None.ensures in
-    (begun-at (g.C.Curve.meaning c.args.curve.now) (g.C.Curve.near c.args.curve.now) (g.C.Curve.count c.args.curve.now) (g.C.Curve.count c.near_point_at.new.curve) c.args.end c.args.at c.block_end.result c.near_point_at.result c.args.waiting.now c.pop.new.self c.requires.onward end minute near c.near_point_at.ensures.counted empty.0 empty.1 c.requires.stands).0
+    (begun-at (g.C.Curve.state c.args.curve.now) (g.C.Curve.state c.near_point_at.new.curve) c.args.end c.args.at c.block_end.result c.near_point_at.result c.args.waiting.now c.pop.new.self c.requires.onward end minute near c.near_point_at.ensures.after empty.0 empty.1 c.requires.stands).0
 
 pub returns-in-None-clause-cells : goal.returns-in-None-clause-cells
 returns-in-None-clause-cells g c =
@@ -26,4 +26,4 @@ returns-in-None-clause-cells g c =
     let minute = ap (λ (p : Point). p.minute) point in
     let near = ap (λ (p : Point). p.value) point in
     let empty = c.in-None.ensures in
-    (begun-at (g.C.Curve.meaning c.args.curve.now) (g.C.Curve.near c.args.curve.now) (g.C.Curve.count c.args.curve.now) (g.C.Curve.count c.near_point_at.new.curve) c.args.end c.args.at c.block_end.result c.near_point_at.result c.args.waiting.now c.pop.new.self c.requires.onward end minute near c.near_point_at.ensures.counted empty.0 empty.1 c.requires.stands).1
+    (begun-at (g.C.Curve.state c.args.curve.now) (g.C.Curve.state c.near_point_at.new.curve) c.args.end c.args.at c.block_end.result c.near_point_at.result c.args.waiting.now c.pop.new.self c.requires.onward end minute near c.near_point_at.ensures.after empty.0 empty.1 c.requires.stands).1

@@ -1,35 +1,31 @@
-use Rattle.std.proofs.Common.{length, arith, ap, ◌∙◌}
+use Rattle.std.proofs.Common.{length, w64, to_z, of_z, arith, ap, ◌∙◌}
+use Rattle.curve_law.proofs.StateLemmas.{facts-after, count-after}
 use Rattle.interval_search.proofs.AheadLemmas.{nearest-piece, waiting-few, asked-few, middle-cells, middle-stands}
 use Rattle.interval_search.proofs.front.nearest_step.Goals as goal
 
 pub cell_between-requires : goal.cell_between-requires
-cell_between-requires g c =
-    let at = c.loop-cell.invariant.stands in
-    rw (c.loop-cell.invariant.same, c.loop-cell.invariant.same_near) (nearest-piece _ _ _ _ _ _ _ at)
+cell_between-requires g c = nearest-piece _ _ _ _ _ c.loop-cell.invariant.stands
 
 pub push-requires : goal.push-requires
-push-requires g c =
-    waiting-few _ _ _ _ _ c.loop-cell.invariant.stands.pieces
+push-requires g c = waiting-few _ _ _ _ _ c.loop-cell.invariant.stands.pieces
 
 pub middle-near-requires-clause-piece : goal.middle-near-requires-clause-piece
-middle-near-requires-clause-piece g c = rw (c.loop-cell.invariant.same, c.loop-cell.invariant.same_near) (nearest-piece _ _ _ _ _ _ _ c.loop-cell.invariant.stands)
+middle-near-requires-clause-piece g c = nearest-piece _ _ _ _ _ c.loop-cell.invariant.stands
 
 pub middle-near-requires-clause-few : goal.middle-near-requires-clause-few
-middle-near-requires-clause-few g c = asked-few _ _ _ _ _ _ _ c.loop-cell.invariant.stands
+middle-near-requires-clause-few g c = asked-few _ _ _ _ _ c.loop-cell.invariant.stands
 
 pub loop-cell-preserved : goal.loop-cell-preserved
 loop-cell-preserved g c =
-    let meaning = g.C.Curve.meaning c.args.curve.now in
+    let state = g.C.Curve.state c.loop-cell.curve in
     let invariant = c.loop-cell.invariant in
-    let halves = rw invariant.same at c.in_default.ensures in
-    let near = rw invariant.same_near at c.middle-near.ensures.value in
-    let piece = nearest-piece meaning _ _ _ _ _ _ invariant.stands in
-    let stands = middle-stands meaning (g.C.Curve.near c.args.curve.now) (g.C.Curve.count c.loop-cell.curve) _ c.args.at c.middle-near.result c.loop-cell.near c.loop-cell.waiting invariant.stands halves.0 halves.1 c.middle-near.ensures.minute near in
-    let cells = middle-cells meaning _ c.args.at.minute c.middle-near.result c.loop-cell.near c.loop-cell.waiting piece.some halves.0 halves.1 c.middle-near.ensures.minute in
+    let halves = c.in_default.ensures in
+    let piece = nearest-piece _ _ _ _ _ invariant.stands in
+    let stands = middle-stands state _ c.args.at c.middle-near.result c.loop-cell.near c.loop-cell.waiting invariant.stands halves.0 halves.1 c.middle-near.ensures.minute c.middle-near.ensures.value in
+    let cells = middle-cells state.facts.meaning (to_z w64 (of_z w64 c.args.end)) c.args.at.minute c.middle-near.result c.loop-cell.near c.loop-cell.waiting piece.some halves.0 halves.1 c.middle-near.ensures.minute in
     record {
-      same = c.middle-near.ensures.same ∙ invariant.same;
-      same_near = c.middle-near.ensures.same_near ∙ invariant.same_near;
-      stands = rw (c.push.ensures, c.middle-near.ensures.counted) stands;
-      cells = rw (c.push.ensures) (cells ∙ invariant.cells);
-      counted = omega (arith, ap length c.push.ensures);
+      unchanged = facts-after _ _ c.middle-near.ensures.after ∙ invariant.unchanged;
+      stands = rw (c.push.ensures, c.middle-near.ensures.after) stands;
+      cells = rw (c.push.ensures) (rw invariant.unchanged at cells ∙ invariant.cells);
+      counted = omega (arith, ap length c.push.ensures, count-after _ _ c.middle-near.ensures.after);
     }

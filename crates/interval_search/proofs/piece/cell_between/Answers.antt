@@ -12,7 +12,7 @@ returns-then-n-eq1 g c =
     let end : FitsSigned w64 c.args.end.minute = search rules in
     let n = simp to_z-of_z at c.minutes_to-n.ensures in
     let cell = simp to_z-of_z at c.unit_cell_near.ensures in
-    split-unit (g.C.Curve.meaning c.args.curve.now) c.args.begin.minute _ c.unit_cell_near.result (sym n ∙ c.if-n-eq1.true) cell
+    split-unit (g.C.Curve.state c.args.curve.now).facts.meaning c.args.begin.minute _ c.unit_cell_near.result (sym n ∙ c.if-n-eq1.true) cell
 
 pub returns-then-is_quiet_near : goal.returns-then-is_quiet_near
 returns-then-is_quiet_near g c =
@@ -20,8 +20,8 @@ returns-then-is_quiet_near g c =
     let end : FitsSigned w64 c.args.end.minute = search rules in
     let n = simp to_z-of_z at c.minutes_to-n.ensures in
     let quiet = simp to_z-of_z at c.is_quiet_near.ensures in
-    ap (split (g.C.Curve.meaning c.args.curve.now) c.args.begin.minute) (sym n)
-    ∙ split-quiet (g.C.Curve.meaning c.args.curve.now) c.args.begin.minute c.minutes_to-n.result (sym quiet ∙ c.if-is_quiet_near.true)
+    ap (split (g.C.Curve.state c.args.curve.now).facts.meaning c.args.begin.minute) (sym n)
+    ∙ split-quiet (g.C.Curve.state c.args.curve.now).facts.meaning c.args.begin.minute c.minutes_to-n.result (sym quiet ∙ c.if-is_quiet_near.true)
 
 pub unit_cell_near-requires-clause-next_near : goal.unit_cell_near-requires-clause-next_near
 unit_cell_near-requires-clause-next_near g c =
