@@ -1,4 +1,4 @@
--- What follows of a curve's state after one more value.
+-- The facts and the count of a curve after one more evaluation.
 use Rattle.std.proofs.Common.{◌≡◌, ◌+◌, ap}
 use Rattle.curve_law.specs.CurveStates.{CurveState, evaluated_once}
 

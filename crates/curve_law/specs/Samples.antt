@@ -15,7 +15,7 @@ line start falls rate = record {
   rate = λ a n. Some rate;
 }
 
--- a near value is 1 too high
+-- each approximate value is 1 too high
 abbrev pub line_facts : ℤ → Bool → ℤ → CurveFacts
 line_facts start falls rate = record {
   meaning = line start falls rate;
@@ -37,6 +37,6 @@ ripple = record {
   rate = λ a n. None;
 }
 
--- a near value is 0, which tells nothing
+-- each approximate value is 0, and decides nothing
 abbrev pub ripple_facts : CurveFacts
 ripple_facts = record { meaning = ripple; near = λ m. pos 0; error = 1 }

@@ -1,4 +1,4 @@
--- What is known of a station's curves: their meaning, their near values with the error, and how often they were evaluated (this project).
+-- The states of a station's two curves, its slope and its level against a mark (this project).
 use Rattle.std.specs.Prelude.{◌*◌, unsigned_abs}
 use Rattle.curve_law.specs.CurveStates.{CurveState}
 use Rattle.station_curve.specs.Near.{near_level_of, near_slope_of}
@@ -7,6 +7,7 @@ use Rattle.rate_bound.specs.declared.mark.MarkCurve.{MarkCurve}
 use Rattle.rate_bound.specs.declared.turn.TurnCurve.{TurnCurve}
 use Rattle.rate_bound.specs.Meanings.{over_mark, mark_meaning, turn_meaning}
 
+-- the state of the slope's curve
 abbrev pub turn_state : TurnCurve → CurveState
 turn_state c = record {
   facts = record {
@@ -17,6 +18,7 @@ turn_state c = record {
   count = c.evaluations;
 }
 
+-- the state of the curve of the level against a mark
 abbrev pub mark_state : MarkCurve → CurveState
 mark_state c = record {
   facts = record {

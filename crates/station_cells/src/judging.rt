@@ -24,11 +24,11 @@ pub fn rejection_over<A: Curve + Drop, B: Curve + Drop>(
     span: &Span,
     tracks: &Tracks,
 ) -> Option<Rejection>
-    requires turn { Tells span.now (A.meaning turn) (A.count turn) }
-    requires slack { ForSome slack (λ c. Tells span.now (B.meaning c) (B.count c)) }
-    requires mark { ForSome mark (λ c. Tells span.now (B.meaning c) (B.count c)) }
+    requires turn { Tells span.now (A.state turn) }
+    requires slack { ForSome slack (λ c. Tells span.now (B.state c)) }
+    requires mark { ForSome mark (λ c. Tells span.now (B.state c)) }
     requires few { HasFewCells tracks.now }
-    ensures { result ≡ rejection_of (record { turn = A.meaning turn; slack = option_map B.meaning slack; mark = option_map B.meaning mark }) span.now tracks.now }
+    ensures { result ≡ rejection_of (record { turn = (A.state turn).facts.meaning; slack = option_map (λ c. (B.state c).facts.meaning) slack; mark = option_map (λ c. (B.state c).facts.meaning) mark }) span.now tracks.now }
 {
     if let Some(fault) = slack_fault(slack.is_some(), tracks.slack.is_some()) {
         return Some(fault);
@@ -61,9 +61,9 @@ fn fault_if_followed<C: Curve + Drop>(
     cells: &Option<Cells>,
     span: &Span,
 ) -> Option<Rejection>
-    requires tells { ForSome curve (λ c. Tells span.now (C.meaning c) (C.count c)) }
+    requires tells { ForSome curve (λ c. Tells span.now (C.state c)) }
     requires few { ForSome cells.now (λ cells. length cells < 2 ^ 32) }
-    ensures { result ≡ track_fault span.now track (option_map C.meaning curve) cells.now }
+    ensures { result ≡ track_fault span.now track (option_map (λ c. (C.state c).facts.meaning) curve) cells.now }
 {
     match (curve, cells) {
         (Some(curve), Some(cells)) => track_fault(track, curve, cells, span),
@@ -78,9 +78,9 @@ fn track_fault<C: Curve + Drop>(
     cells: &Cells,
     span: &Span,
 ) -> Option<Rejection>
-    requires tells { Tells span.now (C.meaning curve) (C.count curve) }
+    requires tells { Tells span.now (C.state curve) }
     requires few { length cells.now < 2 ^ 32 }
-    ensures { result ≡ fault_from track (verdict (C.meaning curve) span.now.begin (minutes_in span.now) cells.now) }
+    ensures { result ≡ fault_from track (verdict (C.state curve).facts.meaning span.now.begin (minutes_in span.now) cells.now) }
 {
     let mut curve = curve;
     fault_from(track, check_track(&mut curve, cells, span.begin, span.end))

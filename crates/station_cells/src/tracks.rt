@@ -19,10 +19,10 @@ pub fn tracks_over<A: Curve + Drop, B: Curve + Drop>(
     mark: Option<B>,
     span: &Span,
 ) -> Result<Tracks, AllocError>
-    requires turn { Tells span.now (A.meaning turn) (A.count turn) }
-    requires slack { ForSome slack (λ c. Tells span.now (B.meaning c) (B.count c)) }
-    requires mark { ForSome mark (λ c. Tells span.now (B.meaning c) (B.count c)) }
-    ensures { IfOk result (λ tracks. tracks ≡ covers_of (record { turn = A.meaning turn; slack = option_map B.meaning slack; mark = option_map B.meaning mark }) span.now) }
+    requires turn { Tells span.now (A.state turn) }
+    requires slack { ForSome slack (λ c. Tells span.now (B.state c)) }
+    requires mark { ForSome mark (λ c. Tells span.now (B.state c)) }
+    ensures { IfOk result (λ tracks. tracks ≡ covers_of (record { turn = (A.state turn).facts.meaning; slack = option_map (λ c. (B.state c).facts.meaning) slack; mark = option_map (λ c. (B.state c).facts.meaning) mark }) span.now) }
 {
     let turn = cells_over(alloc, turn, span)?;
     let slack = cells_if_followed(alloc, slack, span)?;
@@ -32,8 +32,8 @@ pub fn tracks_over<A: Curve + Drop, B: Curve + Drop>(
 
 /// Returns the cells of `curve` over `span`.
 fn cells_over<C: Curve + Drop>(alloc: Global, curve: C, span: &Span) -> Result<Cells, AllocError>
-    requires { Tells span.now (C.meaning curve) (C.count curve) }
-    ensures { IfOk result (λ cells. cells ≡ cover_over span.now (C.meaning curve)) }
+    requires { Tells span.now (C.state curve) }
+    ensures { IfOk result (λ cells. cells ≡ cover_over span.now (C.state curve).facts.meaning) }
 {
     let mut curve = curve;
     search(alloc, &mut curve, span.begin, span.end)
@@ -45,8 +45,8 @@ fn cells_if_followed<C: Curve + Drop>(
     curve: Option<C>,
     span: &Span,
 ) -> Result<Option<Cells>, AllocError>
-    requires { ForSome curve (λ c. Tells span.now (C.meaning c) (C.count c)) }
-    ensures { IfOk result (λ cells. cells ≡ option_map (λ c. cover_over span.now (C.meaning c)) curve) }
+    requires { ForSome curve (λ c. Tells span.now (C.state c)) }
+    ensures { IfOk result (λ cells. cells ≡ option_map (λ c. cover_over span.now (C.state c).facts.meaning) curve) }
 {
     match curve {
         Some(curve) => Ok(Some(cells_over(alloc, curve, span)?)),

@@ -1,7 +1,8 @@
 -- The curves of a station are valid over the minutes of the reference that are evaluated.
-use Rattle.std.proofs.Common.{◌≡◌, ℕ, ℤ, Option, Some, None, option_map, refl, sym, ap, ◌∙◌}
+use Rattle.std.proofs.Common.{◌≡◌, ℤ, Option, Some, None, option_map, refl, sym, ap, ◌∙◌}
 use Rattle.std.specs.Option.{ForSome}
 use Rattle.curve_law.specs.Meaning.{Meaning}
+use Rattle.curve_law.specs.CurveStates.{CurveState}
 use Rattle.event_list.specs.declared.span.Span.{Span}
 use Rattle.event_list.specs.Shifts.{widened_of}
 use Rattle.rate_bound.specs.declared.version.Version.{Version}
@@ -20,24 +21,24 @@ use Rattle.station_span.proofs.FollowLemmas.{for_asked, for_marked, ready_minute
 abbrev IsOver : Tide → Meaning → Type 0
 IsOver tide c = (c.first ≡ (turn_meaning Second tide).first) × (c.last ≡ (turn_meaning Second tide).last)
 
-tells_over : {C : Type 0} (tide : Tide) (s : Span) (meaning : C → Meaning) (count : C → ℕ) (curve : Option C) (known : Option Meaning) → HasMinutes tide s → option_map meaning curve ≡ known → ForSome known (IsOver tide) → ForSome curve (λ c. count c ≡ 0) → ForSome curve (λ c. Tells s (meaning c) (count c))
-tells_over tide s meaning count curve known has same over fresh x is =
-    let at = over (meaning x) (sym same ∙ ap (option_map meaning) is) in
+tells_over : {C : Type 0} (tide : Tide) (s : Span) (state : C → CurveState) (curve : Option C) (known : Option Meaning) → HasMinutes tide s → option_map (λ c. (state c).facts.meaning) curve ≡ known → ForSome known (IsOver tide) → ForSome curve (λ c. (state c).count ≡ 0) → ForSome curve (λ c. Tells s (state c))
+tells_over tide s state curve known has same over fresh x is =
+    let at = over (state x).facts.meaning (sym same ∙ ap (option_map (λ c. (state c).facts.meaning)) is) in
     record { forward = has.forward; first = rw at.0 has.begins.least; last = rw at.1 has.ends.most; fresh = fresh x is }
 
-pub tells_turn : (version : Version) (asked : Asked) (found : SiteTide) (c : Meaning) (count : ℕ) → IsReady asked found → c ≡ turn_meaning version found.curve → count ≡ 0 → Tells (widened_of found.basis asked.begin asked.end) c count
-tells_turn version asked found c count ready same fresh =
+pub tells_turn : (version : Version) (asked : Asked) (found : SiteTide) (c : CurveState) → IsReady asked found → c.facts.meaning ≡ turn_meaning version found.curve → c.count ≡ 0 → Tells (widened_of found.basis asked.begin asked.end) c
+tells_turn version asked found c ready same fresh =
     let has = ready_minutes asked found ready in
     record { forward = has.forward; first = rw same has.begins.least; last = rw same has.ends.most; fresh = fresh }
 
-pub tells_slack : {C : Type 0} (version : Version) (found : SiteTide) (s : Span) (meaning : C → Meaning) (count : C → ℕ) (curve : Option C) → HasMinutes found.curve s → option_map meaning curve ≡ tide_slack version found → ForSome curve (λ c. count c ≡ 0) → ForSome curve (λ c. Tells s (meaning c) (count c))
-tells_slack version found s meaning count curve has same fresh =
-    tells_over found.curve s meaning count curve (tide_slack version found) has same
+pub tells_slack : {C : Type 0} (version : Version) (found : SiteTide) (s : Span) (state : C → CurveState) (curve : Option C) → HasMinutes found.curve s → option_map (λ c. (state c).facts.meaning) curve ≡ tide_slack version found → ForSome curve (λ c. (state c).count ≡ 0) → ForSome curve (λ c. Tells s (state c))
+tells_slack version found s state curve has same fresh =
+    tells_over found.curve s state curve (tide_slack version found) has same
     (for_asked (IsOver found.curve) (asks_slack found.units found.basis) _ (refl, refl)) fresh
 
-pub tells_mark : {C : Type 0} (version : Version) (found : SiteTide) (mark : Option ℤ) (s : Span) (meaning : C → Meaning) (count : C → ℕ) (curve : Option C) → HasMinutes found.curve s → option_map meaning curve ≡ tide_mark version found mark → ForSome curve (λ c. count c ≡ 0) → ForSome curve (λ c. Tells s (meaning c) (count c))
-tells_mark version found mark s meaning count curve has same fresh =
-    tells_over found.curve s meaning count curve (tide_mark version found mark) has same
+pub tells_mark : {C : Type 0} (version : Version) (found : SiteTide) (mark : Option ℤ) (s : Span) (state : C → CurveState) (curve : Option C) → HasMinutes found.curve s → option_map (λ c. (state c).facts.meaning) curve ≡ tide_mark version found mark → ForSome curve (λ c. (state c).count ≡ 0) → ForSome curve (λ c. Tells s (state c))
+tells_mark version found mark s state curve has same fresh =
+    tells_over found.curve s state curve (tide_mark version found mark) has same
     (for_marked (IsOver found.curve) mark _ (λ level is. (refl, refl))) fresh
 
 pub option_map-both : {A B C : Type 0} (f : B → C) (g : A → B) (o : Option A) → option_map (λ x. f (g x)) o ≡ option_map f (option_map g o)

@@ -15,16 +15,16 @@ use station_table::Basis;
 
 /// Returns the curve of high and low waters, or of maximum floods and ebbs.
 pub fn turn_curve<'a>(found: &'a Found, version: Version) -> TurnCurve<'a>
-    ensures meaning { ⟦<TurnCurve<'a> as Curve>⟧.meaning result ≡ turn_meaning version found.now.curve }
-    ensures fresh { ⟦<TurnCurve<'a> as Curve>⟧.count result ≡ 0 }
+    ensures meaning { (⟦<TurnCurve<'a> as Curve>⟧.state result).facts.meaning ≡ turn_meaning version found.now.curve }
+    ensures fresh { (⟦<TurnCurve<'a> as Curve>⟧.state result).count ≡ 0 }
 {
     TurnCurve::new(&found.curve, version)
 }
 
 /// Returns the curve of a current's slacks, if they are listed.
 pub fn slack_curve<'a>(found: &'a Found, version: Version) -> Option<MarkCurve<'a>>
-    ensures meaning { option_map ⟦<MarkCurve<'a> as Curve>⟧.meaning result ≡ tide_slack version (tide_of_found found.now) }
-    ensures fresh { ForSome result (λ curve. ⟦<MarkCurve<'a> as Curve>⟧.count curve ≡ 0) }
+    ensures meaning { option_map (λ curve. (⟦<MarkCurve<'a> as Curve>⟧.state curve).facts.meaning) result ≡ tide_slack version (tide_of_found found.now) }
+    ensures fresh { ForSome result (λ curve. (⟦<MarkCurve<'a> as Curve>⟧.state curve).count ≡ 0) }
 {
     let basis = &found.basis;
     if !asks_slack(found.units, basis) {
@@ -37,8 +37,8 @@ pub fn slack_curve<'a>(found: &'a Found, version: Version) -> Option<MarkCurve<'
 
 /// Returns the curve of the crossings of the mark, if there is one.
 pub fn mark_curve<'a>(found: &'a Found, version: Version) -> Option<MarkCurve<'a>>
-    ensures meaning { option_map ⟦<MarkCurve<'a> as Curve>⟧.meaning result ≡ tide_mark version (tide_of_found found.now) found.now.asked.mark }
-    ensures fresh { ForSome result (λ curve. ⟦<MarkCurve<'a> as Curve>⟧.count curve ≡ 0) }
+    ensures meaning { option_map (λ curve. (⟦<MarkCurve<'a> as Curve>⟧.state curve).facts.meaning) result ≡ tide_mark version (tide_of_found found.now) found.now.asked.mark }
+    ensures fresh { ForSome result (λ curve. (⟦<MarkCurve<'a> as Curve>⟧.state curve).count ≡ 0) }
 {
     match found.asked.mark {
         Some(level) => {

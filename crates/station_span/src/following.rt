@@ -169,9 +169,9 @@ pub fn mark_search<'a>(found: &'a Found) -> Option<Search<MarkCurve<'a>>>
 
 // Returns the search of `curve`, if there is one.
 fn search_if<C: Curve>(curve: Option<C>, span: &Span) -> Option<Search<C>>
-    requires { ForSome curve (λ c. Tells span.now (C.meaning c) (C.count c)) }
+    requires { ForSome curve (λ c. Tells span.now (C.state c)) }
     ensures at { ForSome result (λ search. search.at ≡ span.now.begin) }
-    ensures left { cells_left result ≡ option_map (λ c. cover_over span.now (C.meaning c)) curve }
+    ensures left { cells_left result ≡ option_map (λ c. cover_over span.now (C.state c).facts.meaning) curve }
     ensures most { ForSome result (λ search. search.most ≡ length search.left + 1) }
 {
     match curve {

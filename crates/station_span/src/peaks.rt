@@ -120,8 +120,8 @@ fn later(minute: i64, add: i32) -> i64
 
 // Returns the curve of the reference's level, whose greatest value is the highest water.
 fn level_curve<'a>(found: &'a Found) -> MarkCurve<'a>
-    ensures meaning { ⟦<MarkCurve<'a> as Curve>⟧.meaning result ≡ tide_levels (tide_of_found found.now) }
-    ensures fresh { ⟦<MarkCurve<'a> as Curve>⟧.count result ≡ 0 }
+    ensures meaning { (⟦<MarkCurve<'a> as Curve>⟧.state result).facts.meaning ≡ tide_levels (tide_of_found found.now) }
+    ensures fresh { (⟦<MarkCurve<'a> as Curve>⟧.state result).count ≡ 0 }
 {
     MarkCurve::blended(&found.curve, 1_000_000, 0, 0, true)
 }
