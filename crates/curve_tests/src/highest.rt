@@ -16,7 +16,7 @@ use std::alloc::{AllocError, Global};
 
 // Returns true if the curve is valid over a span that has a minute.
 fn tells<C: Curve>(curve: &C, begin: i64, end: i64) -> bool
-    ensures { IsTrue result → (begin <ℤ end) × ((C.meaning curve.now).first ≤ℤ begin) × (end ≤ℤ (C.meaning curve.now).last) }
+    ensures { IsTrue result → (begin <ℤ end) × ((C.state curve.now).facts.meaning.first ≤ℤ begin) × (end ≤ℤ (C.state curve.now).facts.meaning.last) }
 {
     curve.first() <= begin && begin < end && end <= curve.last()
 }
@@ -28,14 +28,14 @@ fn is_short(begin: i64, end: i64) -> bool
 }
 
 fn is_asked_little<C: Curve>(curve: &C) -> bool
-    ensures { IsTrue result → C.count curve.now ≤ 10 ^ 6 }
+    ensures { IsTrue result → (C.state curve.now).count ≤ 10 ^ 6 }
 {
     curve.evaluations() <= 1_000_000
 }
 
 // Returns true if the highest water of a span may be searched.
 fn can_find<C: Curve>(curve: &C, begin: i64, end: i64) -> bool
-    ensures { IsTrue result → (begin <ℤ end) × ((C.meaning curve.now).first ≤ℤ begin) × (end ≤ℤ (C.meaning curve.now).last) × ((end -ℤ begin) ≤ℤ pos 5270400) × (C.count curve.now ≤ 10 ^ 6) }
+    ensures { IsTrue result → (begin <ℤ end) × ((C.state curve.now).facts.meaning.first ≤ℤ begin) × (end ≤ℤ (C.state curve.now).facts.meaning.last) × ((end -ℤ begin) ≤ℤ pos 5270400) × ((C.state curve.now).count ≤ 10 ^ 6) }
 {
     tells(curve, begin, end) && is_short(begin, end) && is_asked_little(curve)
 }

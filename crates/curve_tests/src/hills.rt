@@ -28,7 +28,7 @@ pub struct Hills {
 }
 
 impl Hills {
-    ghost use Rattle.highest_water.specs.Samples.{hills};
+    ghost use Rattle.curve_tests.specs.Workings.SampleLaws.{hills_facts};
 
     /// Returns the curve of two tops, which wasn't evaluated yet.
     pub fn new(first: Top, second: Top, rate: i64) -> Hills
@@ -38,8 +38,7 @@ impl Hills {
         requires second_low { unsigned_abs second.value ≤ 10 ^ 12 }
         requires gentle { pos 1 ≤ℤ rate }
         requires small { rate ≤ℤ pos (10 ^ 12) }
-        ensures meaning { ⟦<Hills as Curve>⟧.meaning result ≡ hills first.at first.value second.at second.value rate }
-        ensures count { ⟦<Hills as Curve>⟧.count result ≡ 0 }
+        ensures { ⟦<Hills as Curve>⟧.state result ≡ record { facts = hills_facts first.at first.value second.at second.value rate; count = 0 } }
     {
         Hills {
             first,
@@ -51,16 +50,9 @@ impl Hills {
 }
 
 impl Curve for Hills {
-    ghost use Rattle.highest_water.specs.Samples.{hills};
-    ghost use Rattle.curve_tests.specs.Workings.SampleLaws.{hills-lawful, hills-close, none_is_narrow};
+    ghost use Rattle.curve_tests.specs.Workings.SampleLaws.{hills_facts, hills-lawful, hills-close, none_is_narrow};
 
-    ghost meaning = { λ h. hills h.first.at h.first.value h.second.at h.second.value h.rate };
-
-    ghost near = { λ h. (hills h.first.at h.first.value h.second.at h.second.value h.rate).track.value };
-
-    ghost error = { λ _. 0 };
-
-    ghost count = { λ h. h.asked };
+    ghost state = { λ h. record { facts = hills_facts h.first.at h.first.value h.second.at h.second.value h.rate; count = h.asked } };
 
     ghost lawful = { λ h. hills-lawful h.first.at h.first.value h.second.at h.second.value h.rate h.near h.low h.second_near h.second_low h.gentle h.small };
 

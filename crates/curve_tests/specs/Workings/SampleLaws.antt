@@ -4,7 +4,16 @@ use Rattle.std.specs.Int.{int_max}
 use Rattle.std.proofs.Common.{arith}
 use Rattle.std.proofs.lemmas.Int.{ints}
 use Rattle.curve_law.specs.Meaning.{IsNearValue, IsLawful}
+use Rattle.curve_law.specs.CurveStates.{CurveFacts}
 use Rattle.highest_water.specs.Samples.{hill, hills}
+
+-- a near value is the value
+abbrev pub hills_facts : ℤ → ℤ → ℤ → ℤ → ℤ → CurveFacts
+hills_facts at top other_at other_top rate = record {
+  meaning = hills at top other_at other_top rate;
+  near = (hills at top other_at other_top rate).track.value;
+  error = 0;
+}
 
 hill-value : (at top m : ℤ) → unsigned_abs at ≤ 10 ^ 12 → unsigned_abs top ≤ 10 ^ 12 → unsigned_abs m ≤ 10 ^ 6 → unsigned_abs (hill at top m) ≤ 10 ^ 13
 hill-value at top m near low minute = omega (arith, ints)
