@@ -7,8 +7,7 @@ use Rattle.station_span.specs.Workings.Curves.{followed_tide}
 use Rattle.tide_answer.specs.Answers.{version_of}
 use Rattle.tide_answer.specs.Asking.{asked_in}
 use Rattle.tide_answer.proofs.CheckLemmas.{rejection_for, span_in}
-use Rattle.rate_bound.specs.declared.mark.MarkCurve.{MarkCurve}
-use Rattle.rate_bound.specs.Meanings.{mark_meaning}
+use Rattle.rate_bound.specs.CurveStates.{mark_state}
 use Rattle.station_span.specs.declared.reach.Reach.TheVariants.{Events}
 use Rattle.station_span.specs.Workings.Finds.{tide_of_found}
 use Rattle.station_span.proofs.HeldLemmas.{minutes_for, ready_for, span_for}
@@ -19,20 +18,18 @@ pub rejection_over-requires-clause-turn : goal.rejection_over-requires-clause-tu
 rejection_over-requires-clause-turn c =
     let found = c.args.found.now in
     rw (span_for found Events c.requires.reach)
-    (tells_turn _ found.asked (tide_of_found found) _ _ (ready_for found c.requires.reach) c.turn_curve-turn.ensures.meaning c.turn_curve-turn.ensures.fresh)
+    (tells_turn _ found.asked (tide_of_found found) _ (ready_for found c.requires.reach) c.turn_curve-turn.ensures.meaning c.turn_curve-turn.ensures.fresh)
 
 pub rejection_over-requires-clause-slack : goal.rejection_over-requires-clause-slack
 rejection_over-requires-clause-slack c =
     let found = c.args.found.now in
-    tells_slack c.version_of-version.result (tide_of_found found) found.span
-    (λ (x : MarkCurve). mark_meaning x.version x.station.now x.times x.plus x.mark x.slack) (λ (x : MarkCurve). x.evaluations)
+    tells_slack c.version_of-version.result (tide_of_found found) found.span mark_state
     c.slack_curve-slack.result (minutes_for found c.requires.reach) c.slack_curve-slack.ensures.meaning c.slack_curve-slack.ensures.fresh
 
 pub rejection_over-requires-clause-mark : goal.rejection_over-requires-clause-mark
 rejection_over-requires-clause-mark c =
     let found = c.args.found.now in
-    tells_mark c.version_of-version.result (tide_of_found found) found.asked.mark found.span
-    (λ (x : MarkCurve). mark_meaning x.version x.station.now x.times x.plus x.mark x.slack) (λ (x : MarkCurve). x.evaluations)
+    tells_mark c.version_of-version.result (tide_of_found found) found.asked.mark found.span mark_state
     c.mark_curve-mark.result (minutes_for found c.requires.reach) c.mark_curve-mark.ensures.meaning c.mark_curve-mark.ensures.fresh
 
 pub returns : goal.returns

@@ -1,7 +1,6 @@
 use Rattle.std.proofs.Common.{◌≡◌, IfOk, rules}
-use Rattle.rate_bound.specs.declared.mark.MarkCurve.{MarkCurve}
 use Rattle.rate_bound.specs.declared.version.Version.TheVariants.{Second}
-use Rattle.rate_bound.specs.Meanings.{mark_meaning}
+use Rattle.rate_bound.specs.CurveStates.{mark_state}
 use Rattle.station_span.specs.declared.reach.Reach.TheVariants.{Events}
 use Rattle.station_span.specs.Workings.Curves.{followed_tide}
 use Rattle.station_span.specs.Workings.Finds.{tide_of_found}
@@ -15,20 +14,18 @@ pub tracks_over-requires-clause-turn : goal.tracks_over-requires-clause-turn
 tracks_over-requires-clause-turn c =
     let found = c.args.found.now in
     rw (span_for found Events c.requires)
-    (tells_turn Second found.asked (tide_of_found found) _ _ (ready_for found c.requires) c.turn_curve-turn.ensures.meaning c.turn_curve-turn.ensures.fresh)
+    (tells_turn Second found.asked (tide_of_found found) _ (ready_for found c.requires) c.turn_curve-turn.ensures.meaning c.turn_curve-turn.ensures.fresh)
 
 pub tracks_over-requires-clause-slack : goal.tracks_over-requires-clause-slack
 tracks_over-requires-clause-slack c =
     let found = c.args.found.now in
-    tells_slack Second (tide_of_found found) found.span
-    (λ (x : MarkCurve). mark_meaning x.version x.station.now x.times x.plus x.mark x.slack) (λ (x : MarkCurve). x.evaluations)
+    tells_slack Second (tide_of_found found) found.span mark_state
     c.slack_curve-slack.result (minutes_for found c.requires) c.slack_curve-slack.ensures.meaning c.slack_curve-slack.ensures.fresh
 
 pub tracks_over-requires-clause-mark : goal.tracks_over-requires-clause-mark
 tracks_over-requires-clause-mark c =
     let found = c.args.found.now in
-    tells_mark Second (tide_of_found found) found.asked.mark found.span
-    (λ (x : MarkCurve). mark_meaning x.version x.station.now x.times x.plus x.mark x.slack) (λ (x : MarkCurve). x.evaluations)
+    tells_mark Second (tide_of_found found) found.asked.mark found.span mark_state
     c.mark_curve-mark.result (minutes_for found c.requires) c.mark_curve-mark.ensures.meaning c.mark_curve-mark.ensures.fresh
 
 pub returns : goal.returns
