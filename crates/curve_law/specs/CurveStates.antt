@@ -5,7 +5,7 @@ use Rattle.curve_law.specs.Meaning.{Meaning}
 -- what the curve means, the approximate value at each minute, and the most that one differs from the value
 pub record CurveFacts : Type 0 where
   pub meaning : Meaning
-  pub near : ℤ → ℤ
+  pub approximate : ℤ → ℤ
   pub error : ℕ
 
 -- the facts, and the number of evaluations, exact and approximate ones

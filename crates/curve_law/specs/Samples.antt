@@ -19,7 +19,7 @@ line start falls rate = record {
 abbrev pub line_facts : ℤ → Bool → ℤ → CurveFacts
 line_facts start falls rate = record {
   meaning = line start falls rate;
-  near = λ m. (line start falls rate).track.value m +ℤ pos 1;
+  approximate = λ m. (line start falls rate).track.value m +ℤ pos 1;
   error = 1;
 }
 
@@ -39,4 +39,4 @@ ripple = record {
 
 -- each approximate value is 0, and decides nothing
 abbrev pub ripple_facts : CurveFacts
-ripple_facts = record { meaning = ripple; near = λ m. pos 0; error = 1 }
+ripple_facts = record { meaning = ripple; approximate = λ m. pos 0; error = 1 }

@@ -36,13 +36,13 @@ pub trait Curve {
     fn near_value(&mut self, m: i64) -> i128
         requires minute { IsMinute (state self.old).facts.meaning m }
         requires few { (state self.old).count < 2 ^ 63 }
-        ensures value { result ≡ (state self.old).facts.near m }
+        ensures value { result ≡ (state self.old).facts.approximate m }
         ensures after { state self.new ≡ evaluated_once (state self.old) };
 
     /// Returns the value at minute `m`, whose approximation is `near_value`. The call isn't counted.
     fn exact_value(&self, m: i64, near_value: i128) -> i128
         requires minute { IsMinute (state self.now).facts.meaning m }
-        requires near { near_value ≡ (state self.now).facts.near m }
+        requires near { near_value ≡ (state self.now).facts.approximate m }
         ensures { result ≡ (state self.now).facts.meaning.track.value m };
 
     /// Returns the most that an approximate value differs from the value, at most 10^36.
@@ -80,5 +80,5 @@ pub trait Curve {
 
     /// Each approximate value differs from the value by at most the error.
     ghost close: { (curve : Self) → (m : ℤ) → IsMinute (state curve).facts.meaning m
-        → IsNearValue (state curve).facts.meaning (state curve).facts.error m ((state curve).facts.near m) };
+        → IsNearValue (state curve).facts.meaning (state curve).facts.error m ((state curve).facts.approximate m) };
 }

@@ -15,8 +15,8 @@ use crate::quiet::{MOST_MINUTES, cell_of_sides, is_quiet, most_change, unit_cell
 pub fn is_quiet_near<C: Curve>(curve: &C, a: i64, n: u32, near: i128, end_near: i128) -> bool
     requires span { IsSpan (C.state curve.now).facts.meaning a n }
     requires few { n ≤ MOST_MINUTES }
-    requires near { near ≡ (C.state curve.now).facts.near a }
-    requires end_near { end_near ≡ (C.state curve.now).facts.near (a +ℤ pos n) }
+    requires near { near ≡ (C.state curve.now).facts.approximate a }
+    requires end_near { end_near ≡ (C.state curve.now).facts.approximate (a +ℤ pos n) }
     ensures { result ≡ is_quiet (C.state curve.now).facts.meaning a n }
 {
     match quiet_as_told(curve, a, n, near, end_near) {
@@ -29,8 +29,8 @@ pub fn is_quiet_near<C: Curve>(curve: &C, a: i64, n: u32, near: i128, end_near: 
 /// and at the next minute.
 pub fn unit_cell_near<C: Curve>(curve: &C, a: i64, near: i128, next_near: i128) -> Cell
     requires span { IsSpan (C.state curve.now).facts.meaning a 1 }
-    requires near { near ≡ (C.state curve.now).facts.near a }
-    requires next_near { next_near ≡ (C.state curve.now).facts.near (a +ℤ pos 1) }
+    requires near { near ≡ (C.state curve.now).facts.approximate a }
+    requires next_near { next_near ≡ (C.state curve.now).facts.approximate (a +ℤ pos 1) }
     ensures { result ≡ unit_cell (C.state curve.now).facts.meaning.track a }
 {
     match unit_cell_as_told(curve, a, near, next_near) {
@@ -80,8 +80,8 @@ fn unit_cell_as_told<C: Curve>(curve: &C, a: i64, near: i128, next_near: i128) -
 fn is_quiet_exactly<C: Curve>(curve: &C, a: i64, n: u32, near: i128, end_near: i128) -> bool
     requires span { IsSpan (C.state curve.now).facts.meaning a n }
     requires few { n ≤ MOST_MINUTES }
-    requires near { near ≡ (C.state curve.now).facts.near a }
-    requires end_near { end_near ≡ (C.state curve.now).facts.near (a +ℤ pos n) }
+    requires near { near ≡ (C.state curve.now).facts.approximate a }
+    requires end_near { end_near ≡ (C.state curve.now).facts.approximate (a +ℤ pos n) }
     ensures { result ≡ is_quiet (C.state curve.now).facts.meaning a n }
 {
     let value = curve.exact_value(a, near);
@@ -93,8 +93,8 @@ fn is_quiet_exactly<C: Curve>(curve: &C, a: i64, n: u32, near: i128, end_near: i
 #[inline(never)]
 fn unit_cell_exactly<C: Curve>(curve: &C, a: i64, near: i128, next_near: i128) -> Cell
     requires span { IsSpan (C.state curve.now).facts.meaning a 1 }
-    requires near { near ≡ (C.state curve.now).facts.near a }
-    requires next_near { next_near ≡ (C.state curve.now).facts.near (a +ℤ pos 1) }
+    requires near { near ≡ (C.state curve.now).facts.approximate a }
+    requires next_near { next_near ≡ (C.state curve.now).facts.approximate (a +ℤ pos 1) }
     ensures { result ≡ unit_cell (C.state curve.now).facts.meaning.track a }
 {
     let value = curve.exact_value(a, near);

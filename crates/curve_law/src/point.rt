@@ -30,7 +30,7 @@ pub fn point_at<C: Curve>(curve: &mut C, minute: i64) -> Point
 pub fn near_point_at<C: Curve>(curve: &mut C, minute: i64) -> Point
     requires minute { IsMinute (C.state curve.old).facts.meaning minute }
     requires few { (C.state curve.old).count < 2 ^ 63 }
-    ensures point { result ≡ record { minute = minute; value = (C.state curve.old).facts.near minute } }
+    ensures point { result ≡ record { minute = minute; value = (C.state curve.old).facts.approximate minute } }
     ensures after { C.state curve.new ≡ evaluated_once (C.state curve.old) }
 {
     Point {

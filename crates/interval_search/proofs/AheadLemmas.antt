@@ -48,7 +48,7 @@ pub begun-pieces : (values : ℤ → ℤ) (end a : ℤ) (p : Point) → a <ℤ e
 unfolding ArePieces
 begun-pieces values end a p some is near = (omega (arith, ints), omega (arith, ints), near, omega (arith, ints))
 
-pub begun-stands : (s : CurveState) (end : ℤ) (at p : Point) → at.minute <ℤ end → p.minute ≡ at.minute +ℤ pos (min (minutes_to at.minute end) MOST_MINUTES) → p.value ≡ s.facts.near p.minute → Stands s end at [] → Stands (evaluated_once s) end at (p ∷ [])
+pub begun-stands : (s : CurveState) (end : ℤ) (at p : Point) → at.minute <ℤ end → p.minute ≡ at.minute +ℤ pos (min (minutes_to at.minute end) MOST_MINUTES) → p.value ≡ s.facts.approximate p.minute → Stands s end at [] → Stands (evaluated_once s) end at (p ∷ [])
 begun-stands s end at p some is near stands =
     let few = stands.few in
     let same = ap length (begun-cells s.facts.meaning end at.minute p some is) in
@@ -56,12 +56,12 @@ begun-stands s end at p some is near stands =
       value = stands.value;
       first = stands.first;
       last = stands.last;
-      pieces = begun-pieces s.facts.near end at.minute p some is near;
+      pieces = begun-pieces s.facts.approximate end at.minute p some is near;
       few = omega arith;
     }
 
 -- beginning a block doesn't change the cells, in terms of a call's result
-pub begun-at : (s t : CurveState) (end : ℤ) (at : Point) (b : ℤ) (p : Point) (old new : List Point) → at.minute <ℤ end → b ≡ at.minute +ℤ pos (min (minutes_to at.minute end) MOST_MINUTES) → p.minute ≡ b → p.value ≡ s.facts.near b → t ≡ evaluated_once s → old ≡ [] → new ≡ []
+pub begun-at : (s t : CurveState) (end : ℤ) (at : Point) (b : ℤ) (p : Point) (old new : List Point) → at.minute <ℤ end → b ≡ at.minute +ℤ pos (min (minutes_to at.minute end) MOST_MINUTES) → p.minute ≡ b → p.value ≡ s.facts.approximate b → t ≡ evaluated_once s → old ≡ [] → new ≡ []
     → Stands s end at old → Stands t end at (p ∷ new) × (cells_ahead s.facts.meaning end at.minute (p ∷ new) ≡ cells_ahead s.facts.meaning end at.minute old)
 begun-at s t end at b p old new some is minute near after empty none stands =
     let begun = begun-stands s end at p some (minute ∙ is) (rw minute near) (rw empty at stands) in
@@ -101,8 +101,8 @@ piece-ahead c values end at p ps near first last pieces =
       end_value = parts.2;
     }
 
-pub nearest-piece : (s : CurveState) (end : ℤ) (at p : Point) (ps : List Point) → Stands s end at (p ∷ ps) → IsPiece s.facts.meaning s.facts.near at p
-nearest-piece s end at p ps stands = piece-ahead s.facts.meaning s.facts.near end at p ps stands.value stands.first stands.last stands.pieces
+pub nearest-piece : (s : CurveState) (end : ℤ) (at p : Point) (ps : List Point) → Stands s end at (p ∷ ps) → IsPiece s.facts.meaning s.facts.approximate at p
+nearest-piece s end at p ps stands = piece-ahead s.facts.meaning s.facts.approximate end at p ps stands.value stands.first stands.last stands.pieces
 
 -- there is room for one more pending point
 pub waiting-few : (values : ℤ → ℤ) (end a : ℤ) (p : Point) (ps : List Point) → ArePieces values end a (p ∷ ps) → length ps < 16
@@ -123,7 +123,7 @@ waiting-few values end a p ps pieces =
 pub asked-few : (s : CurveState) (end : ℤ) (at p : Point) (ps : List Point) → Stands s end at (p ∷ ps) → s.count < 2 ^ 63
 asked-few s end at p ps stands =
     let few = stands.few in
-    let waiting = waiting-few s.facts.near end at.minute p ps stands.pieces in
+    let waiting = waiting-few s.facts.approximate end at.minute p ps stands.pieces in
     omega arith
 
 -- two halves in place of their whole
@@ -158,21 +158,21 @@ middle-pieces values end a m p ps pieces two is near =
     let second : minutes_to m.minute p.minute ≡ minutes_to a p.minute - minutes_to a p.minute / 2 = omega (arith, ints) in
     (omega (arith, ints), rw first (half_few (minutes_to a p.minute) (length ps) pieces.1), near, (omega (arith, ints), rw second (rest_few (minutes_to a p.minute) (length ps) pieces.1), pieces.2, pieces.3))
 
-pub middle-stands : (s : CurveState) (end : ℤ) (at m p : Point) (ps : List Point) → Stands s end at (p ∷ ps) → 2 ≤ minutes_to at.minute p.minute → is_quiet s.facts.meaning at.minute (minutes_to at.minute p.minute) ≡ false → m.minute ≡ at.minute +ℤ pos (minutes_to at.minute p.minute / 2) → m.value ≡ s.facts.near m.minute → Stands (evaluated_once s) end at (m ∷ p ∷ ps)
+pub middle-stands : (s : CurveState) (end : ℤ) (at m p : Point) (ps : List Point) → Stands s end at (p ∷ ps) → 2 ≤ minutes_to at.minute p.minute → is_quiet s.facts.meaning at.minute (minutes_to at.minute p.minute) ≡ false → m.minute ≡ at.minute +ℤ pos (minutes_to at.minute p.minute / 2) → m.value ≡ s.facts.approximate m.minute → Stands (evaluated_once s) end at (m ∷ p ∷ ps)
 middle-stands s end at m p ps stands two loud is near =
     let few = stands.few in
-    let some = (piece-parts s.facts.near end at.minute p ps stands.pieces).0 in
+    let some = (piece-parts s.facts.approximate end at.minute p ps stands.pieces).0 in
     let same = ap length (middle-cells s.facts.meaning end at.minute m p ps some two loud is) in
     record {
       value = stands.value;
       first = stands.first;
       last = stands.last;
-      pieces = middle-pieces s.facts.near end at.minute m p ps stands.pieces two is near;
+      pieces = middle-pieces s.facts.approximate end at.minute m p ps stands.pieces two is near;
       few = omega arith;
     }
 
 -- the state of a search at its begin
-pub first-stands : (s t : CurveState) (begin end : ℤ) (p : Point) (ps : List Point) → IsLawful s.facts.meaning → begin ≤ℤ end → s.facts.meaning.first ≤ℤ begin → end ≤ℤ s.facts.meaning.last → s.count ≤ 2 ^ 62 → t ≡ evaluated_once s → p.minute ≡ begin → p.value ≡ s.facts.near begin → ps ≡ []
+pub first-stands : (s t : CurveState) (begin end : ℤ) (p : Point) (ps : List Point) → IsLawful s.facts.meaning → begin ≤ℤ end → s.facts.meaning.first ≤ℤ begin → end ≤ℤ s.facts.meaning.last → s.count ≤ 2 ^ 62 → t ≡ evaluated_once s → p.minute ≡ begin → p.value ≡ s.facts.approximate begin → ps ≡ []
     → Stands t end p ps × (cells_ahead s.facts.meaning end p.minute ps ≡ cover s.facts.meaning begin (minutes_to begin end))
 unfolding cells_ahead ArePieces
 first-stands s t begin end p ps lawful forward first last few after minute near none =
@@ -211,11 +211,11 @@ given-cells c end a p ps cell one = rw one refl
 
 pub given-onward : (s : CurveState) (end : ℤ) (at p : Point) (ps : List Point) (cell : Cell) → Stands s end at (p ∷ ps) → split s.facts.meaning at.minute (minutes_to at.minute p.minute) ≡ cell ∷ [] → p.minute ≡ at.minute +ℤ pos (minutes_of cell)
 given-onward s end at p ps cell stands one =
-    cell-minutes s.facts.meaning at.minute p.minute cell (piece-parts s.facts.near end at.minute p ps stands.pieces).0 one
+    cell-minutes s.facts.meaning at.minute p.minute cell (piece-parts s.facts.approximate end at.minute p ps stands.pieces).0 one
 
 pub given-stands : (s : CurveState) (end : ℤ) (at p : Point) (ps : List Point) (cell : Cell) → Stands s end at (p ∷ ps) → split s.facts.meaning at.minute (minutes_to at.minute p.minute) ≡ cell ∷ [] → Stands s end p ps
 given-stands s end at p ps cell stands one =
-    let parts = piece-parts s.facts.near end at.minute p ps stands.pieces in
+    let parts = piece-parts s.facts.approximate end at.minute p ps stands.pieces in
     let some = parts.0 in
     let first = stands.first in
     let few = stands.few in
@@ -247,4 +247,4 @@ points-few c values end a (p ∷ ps) pieces =
 -- at most as many evaluations so far as in the end
 pub asked-most : (s : CurveState) (most all : ℕ) (end : ℤ) (at : Point) (ps : List Point) → Stands s end at ps → (s.count + length (cells_ahead s.facts.meaning end at.minute ps)) - length ps ≡ most → most ≡ all → s.count ≤ all
 asked-most s most all end at ps stands is same =
-    let few = points-few s.facts.meaning s.facts.near end at.minute ps stands.pieces in omega arith
+    let few = points-few s.facts.meaning s.facts.approximate end at.minute ps stands.pieces in omega arith

@@ -8,7 +8,7 @@ use curve_law::{Cell, Curve, MOST_MINUTES, Point, is_quiet_near, near_point_at, 
 
 /// Returns the one cell of the minutes from `begin` to `end`, or `None` if they have to be halved.
 pub fn cell_between<C: Curve>(curve: &C, begin: Point, end: Point) -> Option<Cell>
-    requires { IsPiece (C.state curve.now).facts.meaning (C.state curve.now).facts.near begin end }
+    requires { IsPiece (C.state curve.now).facts.meaning (C.state curve.now).facts.approximate begin end }
     ensures { IsSplit (C.state curve.now).facts.meaning begin.minute (minutes_to begin.minute end.minute) result }
 {
     let n = minutes_to(begin.minute, end.minute);
@@ -25,10 +25,10 @@ pub fn cell_between<C: Curve>(curve: &C, begin: Point, end: Point) -> Option<Cel
 /// Evaluates `curve` approximately at the begin of the second half of a piece, and returns the point. The
 /// first half is the shorter one.
 pub fn middle<C: Curve>(curve: &mut C, begin: Point, end: Point) -> Point
-    requires piece { IsPiece (C.state curve.old).facts.meaning (C.state curve.old).facts.near begin end }
+    requires piece { IsPiece (C.state curve.old).facts.meaning (C.state curve.old).facts.approximate begin end }
     requires few { (C.state curve.old).count < 2 ^ 63 }
     ensures minute { result.minute ≡ begin.minute +ℤ pos (minutes_to begin.minute end.minute / 2) }
-    ensures value { result.value ≡ (C.state curve.old).facts.near result.minute }
+    ensures value { result.value ≡ (C.state curve.old).facts.approximate result.minute }
     ensures after { C.state curve.new ≡ evaluated_once (C.state curve.old) }
 {
     near_point_at(curve, halfway(begin.minute, end.minute))

@@ -11,7 +11,7 @@ use Rattle.highest_water.specs.Samples.{hill, hills}
 abbrev pub hills_facts : ℤ → ℤ → ℤ → ℤ → ℤ → CurveFacts
 hills_facts at top other_at other_top rate = record {
   meaning = hills at top other_at other_top rate;
-  near = (hills at top other_at other_top rate).track.value;
+  approximate = (hills at top other_at other_top rate).track.value;
   error = 0;
 }
 

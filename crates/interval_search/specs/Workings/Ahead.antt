@@ -47,10 +47,10 @@ IsFew count cells points = count + cells ≤ points + (2 ^ 62 + 2 ^ 61 + 1)
 -- the invariant of a search: the point that it has reached, and the ends of the pieces after it, the
 -- nearest first
 pub record Stands (s : CurveState) (end : ℤ) (at : Point) (ahead : List Point) : Type 0 where
-  pub value : at.value ≡ s.facts.near at.minute
+  pub value : at.value ≡ s.facts.approximate at.minute
   pub first : s.facts.meaning.first ≤ℤ at.minute
   pub last : end ≤ℤ s.facts.meaning.last
-  pub pieces : ArePieces s.facts.near end at.minute ahead
+  pub pieces : ArePieces s.facts.approximate end at.minute ahead
   pub few : IsFew s.count (length (cells_ahead s.facts.meaning end at.minute ahead)) (length ahead)
 
 -- the value in contracts of a search with this curve, count and state

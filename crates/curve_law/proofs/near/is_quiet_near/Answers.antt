@@ -8,10 +8,10 @@ pub quiet_as_told-requires-clause-near : goal.quiet_as_told-requires-clause-near
 quiet_as_told-requires-clause-near g c =
     let curve = c.args.curve.now in
     rw (to_z-of_z w64 c.args.a c.ranges.a, to_z-of_z w128 c.args.near c.ranges.near)
-    (begin-close (g.C.Curve.state curve).facts.meaning (g.C.Curve.state curve).facts.near (g.C.Curve.state curve).facts.error c.args.a c.args.n c.args.near (g.met.C.Curve.close curve) c.requires.span c.requires.near)
+    (begin-close (g.C.Curve.state curve).facts.meaning (g.C.Curve.state curve).facts.approximate (g.C.Curve.state curve).facts.error c.args.a c.args.n c.args.near (g.met.C.Curve.close curve) c.requires.span c.requires.near)
 
 pub quiet_as_told-requires-clause-end_near : goal.quiet_as_told-requires-clause-end_near
 quiet_as_told-requires-clause-end_near g c =
     let curve = c.args.curve.now in
     rw (to_z-of_z w64 c.args.a c.ranges.a, to_z-of_z w128 c.args.end_near c.ranges.end_near)
-    (end-close (g.C.Curve.state curve).facts.meaning (g.C.Curve.state curve).facts.near (g.C.Curve.state curve).facts.error c.args.a c.args.n c.args.end_near (g.met.C.Curve.close curve) c.requires.span c.requires.end_near)
+    (end-close (g.C.Curve.state curve).facts.meaning (g.C.Curve.state curve).facts.approximate (g.C.Curve.state curve).facts.error c.args.a c.args.n c.args.end_near (g.met.C.Curve.close curve) c.requires.span c.requires.end_near)

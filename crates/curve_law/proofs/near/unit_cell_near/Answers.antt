@@ -8,4 +8,4 @@ pub unit_cell_as_told-requires-clause-next_near : goal.unit_cell_as_told-require
 unit_cell_as_told-requires-clause-next_near g c =
     let curve = c.args.curve.now in
     rw (to_z-of_z w64 c.args.a c.ranges.a, to_z-of_z w128 c.args.next_near c.ranges.next_near)
-    (end-close (g.C.Curve.state curve).facts.meaning (g.C.Curve.state curve).facts.near (g.C.Curve.state curve).facts.error c.args.a 1 c.args.next_near (g.met.C.Curve.close curve) c.requires.span c.requires.next_near)
+    (end-close (g.C.Curve.state curve).facts.meaning (g.C.Curve.state curve).facts.approximate (g.C.Curve.state curve).facts.error c.args.a 1 c.args.next_near (g.met.C.Curve.close curve) c.requires.span c.requires.next_near)

@@ -8,13 +8,13 @@ returns-then-at-end-clause-found g c =
     let at : FitsSigned w64 c.args.front.now.at.minute = search rules in
     let end : FitsSigned w64 c.args.front.now.end = search rules in
     let same : c.args.front.now.at.minute ≡ c.args.front.now.end = sym (to_z-of_z w64 _ at) ∙ ap (to_z w64) c.if-at-end.true ∙ to_z-of_z w64 _ end in
-    let none = done-cells (g.C.Curve.state c.args.curve.now).facts.meaning (g.C.Curve.state c.args.curve.now).facts.near c.args.front.now.end c.args.front.now.at.minute c.args.front.now.waiting c.requires.pieces same in
+    let none = done-cells (g.C.Curve.state c.args.curve.now).facts.meaning (g.C.Curve.state c.args.curve.now).facts.approximate c.args.front.now.end c.args.front.now.at.minute c.args.front.now.waiting c.requires.pieces same in
     (none, none, refl {a = c.args.front.now.at.minute})
 
 pub nearest_end-near-requires-clause-onward : goal.nearest_end-near-requires-clause-onward
 nearest_end-near-requires-clause-onward g c =
     let end : FitsSigned w64 c.args.front.now.end = search rules in
-    let onward = before-end (g.C.Curve.state c.args.curve.now).facts.near c.args.front.now.end c.args.front.now.at.minute c.args.front.now.waiting c.requires.pieces (λ e. c.if-at-end.false (ap (of_z w64) e)) in
+    let onward = before-end (g.C.Curve.state c.args.curve.now).facts.approximate c.args.front.now.end c.args.front.now.at.minute c.args.front.now.waiting c.requires.pieces (λ e. c.if-at-end.false (ap (of_z w64) e)) in
     rw (to_z-of_z w64 c.args.front.now.end end) onward
 
 pub returns-clause-stands : goal.returns-clause-stands
