@@ -2,7 +2,7 @@
 //!
 //! [`row_for`] finds the row of the table of statuses that answers the bytes of a request: where the head ends, what it says,
 //! which path and method are meant, and how long the body is. [`write_rejection`] writes the reply of a fixed row, and
-//! [`response`] any other. [`enough`], [`fixed_reply`] and [`unavailable_reply`] do so for a request's bytes.
+//! [`Response`] is any other. [`enough`], [`fixed_reply`] and [`unavailable_reply`] do so for a request's bytes.
 #![tactic(auto)]
 
 mod asked;
@@ -13,6 +13,7 @@ mod head_lines;
 mod limits;
 mod path;
 mod rejection;
+mod response;
 mod responses;
 mod row;
 mod target;
@@ -25,6 +26,7 @@ pub use head_lines::rest_from;
 pub use limits::{MOST_BODY, MOST_HEAD};
 pub use path::Path;
 pub use rejection::Rejection;
-pub use responses::{response, write_rejection, write_unavailable};
+pub use response::Response;
+pub use responses::{write_rejection, write_unavailable};
 pub use row::{Row, row_for};
 pub use worked::{worked_replies, worked_rows};

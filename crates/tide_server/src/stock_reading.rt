@@ -1,6 +1,6 @@
 //! What a server serves from.
 
-ghost use Rattle.std.specs.Prelude.{◌≡◌, [], IsOk, IsTrue, IfErr};
+ghost use Rattle.std.specs.Prelude.{◌≡◌, false, [], IsOk, IsTrue, IfErr};
 ghost use Rattle.decimal_text.specs.Expected.{Gives};
 ghost use Rattle.question.specs.Questions.{wants_memory as ask_wants_memory};
 ghost use Rattle.question.specs.Words.{pairs_of};
@@ -22,13 +22,14 @@ use std::alloc::Global;
 use tide_edge::Files;
 use tide_fault::Fault;
 
-/// What the words ask to serve from, or the first fault on the way to it: the words, the harmonic
+/// What words whose command is the server's ask to serve from, or the first fault on the way to it: the words, the harmonic
 /// constants, the table, of each file its reading before its form.
 pub(crate) fn read_stock<F: Files>(
     alloc: Global,
     words: &Words,
     files: &mut F,
 ) -> Result<SoundStock, NoAnswer>
+    requires { asks_another (pairs_of words.now) ≡ false }
     ensures own { IsTrue (F.state files.old).store.is_observable → Meets source_of (IsTrue (F.state files.old).store.is_steady)
         (stock_of (F.state files.old).store.folder words.now) result }
     ensures shown { IsResultOf (names_served (service_of words.now)) (stock_by_openings words.now) (F.state files.old).openings (F.state files.new).openings result }
@@ -71,6 +72,7 @@ fn read_named<F: Files>(
 // What the words ask of a server.
 #[tactic(auto, unfolding(crate::specs::Openings::service_of))]
 fn read_service(alloc: Global, words: &Words) -> Result<Question, Fault>
+    requires { asks_another (pairs_of words.now) ≡ false }
     ensures exact { Gives wants_memory (service_of words.now) result }
     ensures told { IfErr result (IsToldFault []) }
 {
@@ -79,11 +81,9 @@ fn read_service(alloc: Global, words: &Words) -> Result<Question, Fault>
 }
 
 fn service_in_words(alloc: Global, words: &Words) -> Result<Question, AskFault>
+    requires { asks_another (pairs_of words.now) ≡ false }
     ensures { Gives ask_wants_memory (service_in (pairs_of words.now)) result }
 {
-    if names_another(words) {
-        return Err(AskFault::UnknownCommand);
-    }
     let pairs = pairs_of_words(alloc, words)?;
     read_question(alloc, &pairs)
 }
