@@ -2,7 +2,7 @@
 //!
 //! [`row_for`] returns the row of the table of statuses that applies to the bytes of a request: it finds
 //! the end of the head, its fields, the path and method, and the length of the body. [`write_rejection`]
-//! writes the reply of a fixed row, and [`response`] any other. [`enough`], [`fixed_reply`] and
+//! writes the reply of a fixed row, and [`Response`] is any other. [`enough`], [`fixed_reply`] and
 //! [`unavailable_reply`] do so for the bytes of a request.
 #![tactic(auto)]
 
@@ -14,6 +14,7 @@ mod head_lines;
 mod limits;
 mod path;
 mod rejection;
+mod response;
 mod responses;
 mod row;
 mod target;
@@ -26,6 +27,7 @@ pub use head_lines::rest_from;
 pub use limits::{MOST_BODY, MOST_HEAD};
 pub use path::Path;
 pub use rejection::Rejection;
-pub use responses::{response, write_rejection, write_unavailable};
+pub use response::Response;
+pub use responses::{write_rejection, write_unavailable};
 pub use row::{Row, row_for};
 pub use worked::{worked_replies, worked_rows};

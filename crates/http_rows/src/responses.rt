@@ -1,15 +1,13 @@
 //! Writing responses.
 
-ghost use Rattle.std.specs.Prelude.{◌≡◌, ◌≤◌, ◌+◌, ◌++◌, [], length, codes, decimal, IfOk};
+ghost use Rattle.std.specs.Prelude.{◌≡◌, ◌≤◌, ◌+◌, ◌++◌, [], length, codes, decimal};
 ghost use Rattle.arrayvec.specs.ArrayString.{array_string_len};
 ghost use Rattle.http_rows.specs.Responses.{status_of, code_of, body_of, allow_of, response_head, response, rejection_of, unavailable_to};
 
 use crate::code::Code;
 use crate::rejection::Rejection;
 use arrayvec::ArrayString;
-use decimal_text::Bytes;
 use itoa::Buffer;
-use std::alloc::{AllocError, Global};
 
 #[tactic(auto, unfolding(crate::specs::Responses::status_of))]
 fn status_of(code: Code) -> &'static str
@@ -85,7 +83,13 @@ fn push_number(number: usize, out: &mut ArrayString<256>)
 
 /// Writes the head of a response to the empty `out`, for a body of `size` bytes of the type `kind`;
 /// `allow` is the line of the allowed methods, or empty.
-fn write_head(code: Code, kind: &str, allow: &str, size: usize, out: &mut ArrayString<256>)
+pub(crate) fn write_head(
+    code: Code,
+    kind: &str,
+    allow: &str,
+    size: usize,
+    out: &mut ArrayString<256>,
+)
     requires empty { out.old.bytes ≡ [] }
     requires kind { length kind.now ≤ 10 }
     requires allow { length allow.now ≤ 18 }
@@ -139,28 +143,4 @@ pub fn write_unavailable(bodiless: bool, out: &mut ArrayString<256>)
     ensures { out.new.bytes ≡ unavailable_to bodiless }
 {
     write_plain(Code::Unavailable, "", "no memory\n", bodiless, out);
-}
-
-/// Returns the bytes of a response with `body`, of the type `kind` in UTF-8; `bodiless` leaves the body
-/// out, but not its length.
-///
-/// # Errors
-/// [`AllocError`] if memory runs out.
-pub fn response(
-    alloc: Global,
-    code: Code,
-    kind: &str,
-    body: &[u8],
-    bodiless: bool,
-) -> Result<Bytes, AllocError>
-    requires { length kind.now ≤ 10 }
-    ensures { IfOk result (λ bytes. bytes ≡ response code kind.now [] body.now bodiless) }
-{
-    let mut head = ArrayString::<256>::new();
-    write_head(code, kind, "", body.len(), &mut head);
-    let mut bytes = head.as_bytes().to_vec(alloc)?;
-    if !bodiless {
-        bytes.extend_from_slice(body)?;
-    }
-    Ok(Bytes::from_vec(bytes))
 }

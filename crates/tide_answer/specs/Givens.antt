@@ -1,6 +1,7 @@
 -- The ranges of an answer's inputs besides the request and the harmonics file (this project).
 use Rattle.std.specs.Prelude.{◌≤◌, negsuc, pos, ◌≤ℤ◌, length}
 use Rattle.tide_answer.specs.declared.given.Given.{Given}
+use Rattle.tide_answer.specs.declared.given.GivenView.{GivenView}
 use Rattle.zone_time.specs.Zones.{IsZone}
 use Rattle.decimal_text.specs.declared.limits.TheConstants.{MOST_BYTES}
 
@@ -11,3 +12,7 @@ pub record IsGiven (given : Given) : Type 0 where
   pub certificate : length given.certificate ≤ MOST_BYTES
   pub earliest : negsuc 9999999999 ≤ℤ given.now
   pub latest : given.now ≤ℤ pos 10000000000
+
+-- what is borrowed, as it is given
+abbrev pub given_seen : GivenView → Given
+given_seen view = record { zone = view.zone.now; certificate = view.certificate.now; now = view.now }

@@ -5,9 +5,9 @@ ghost use Rattle.decimal_text.specs.Expected.{Gives};
 ghost use Rattle.harmonics_text.specs.Books.{IsBook};
 ghost use Rattle.listing.specs.StationLists.{stations_text_of};
 ghost use Rattle.question.specs.Asked.{IsAsked};
-ghost use Rattle.tide_answer.specs.Answers.{answered, text_by, text_alone, text_over, known, on_clock, asks_name, asks_span};
+ghost use Rattle.tide_answer.specs.Answers.{answered, text_alone};
 ghost use Rattle.tide_fault.specs.Faults.{wants_memory_of_refusal, IsToldRefusal};
-ghost use Rattle.tide_answer.specs.Givens.{IsGiven};
+ghost use Rattle.tide_answer.specs.Givens.{IsGiven, given_seen};
 
 use crate::about::tell_about;
 use crate::alone::answer_alone;
@@ -16,7 +16,7 @@ use crate::calendar::list_days;
 use crate::certify::certify;
 use crate::check::check;
 use crate::clock::tell_now;
-use crate::given::Given;
+use crate::given::{Given, GivenView};
 use crate::heights::list_heights;
 use crate::highest::{certify_peak, tell_highest};
 use crate::peak_check::check_peak_text;
@@ -28,7 +28,6 @@ use question::{Command, Question, SoundQuestion};
 use station_table::OffsetTable;
 use std::alloc::Global;
 use tide_fault::Refusal;
-use zone_time::ZoneClock;
 
 /// Returns the answer to `question` over the harmonic constants `book` and the offsets `table`,
 /// with the zone, the certificate and the present minute of `given`. A request to report, whose
@@ -61,7 +60,6 @@ use zone_time::ZoneClock;
 /// let checked = answer(alloc, &book, &table, &question, &given)?;
 /// assert!(rt; !checked.rejected);
 /// ```
-#[tactic(auto, unfolding(crate::specs::Answers::answered))]
 pub fn answer(
     alloc: Global,
     book: &Book,
@@ -77,80 +75,45 @@ pub fn answer(
 {
     let book = SoundBook::new(book);
     let question = SoundQuestion::new(question);
-    answer_command(alloc, &book, table, &question, given)
+    answer_valid(alloc, &book, table, &question, given.view())
 }
 
-/// Returns the answer to a request by its command.
-fn answer_command(
+/// Returns the answer to the valid `question` over the valid `book`, as [`answer`] does, from borrowed
+/// inputs.
+///
+/// # Errors
+/// As [`answer`].
+#[tactic(auto, unfolding(crate::specs::Answers::answered, crate::specs::Answers::asks_name, crate::specs::Answers::asks_span))]
+pub fn answer_valid(
     alloc: Global,
     book: &SoundBook<'_>,
     table: &OffsetTable,
     question: &SoundQuestion<'_>,
-    given: &Given,
+    given: GivenView<'_>,
 ) -> Result<Answer, Refusal>
-    requires given { IsGiven given.now }
-    ensures exact { Gives wants_memory_of_refusal (text_by question.now.command book.now table.now question.now given.entry.now) result }
+    requires given { IsGiven (given_seen given) }
+    ensures exact { Gives wants_memory_of_refusal (answered book.now table.now question.now (given_seen given.entry)) result }
     ensures told { IfErr result (IsToldRefusal table.now) }
 {
+    let name = station_named(question);
+    let asked = span_named(question);
     let zone = &given.zone.clock();
+    let Question { layout, step, .. } = question.get();
     match question.get().command {
-        Command::Predict
-        | Command::Certify
-        | Command::Heights
-        | Command::Calendar
-        | Command::Highest
-        | Command::Peak => answer_span(alloc, book, table, question, zone),
-        Command::Clock => answer_clock(alloc, book, table, question, given),
-        Command::About => answer_about(alloc, book, table, question),
-        Command::Check => check(alloc, book, table, &given.certificate, zone),
-        Command::PeakCheck => check_peak_text(alloc, book, table, &given.certificate),
+        Command::Predict => predict(alloc, book, table, name?, &asked?, *layout, zone),
+        Command::Certify => certify(alloc, book, table, name?, &asked?),
+        Command::Heights => list_heights(alloc, book, table, name?, &asked?, *step, *layout, zone),
+        Command::Calendar => list_days(alloc, book, table, name?, &asked?, zone),
+        Command::Highest => tell_highest(alloc, book, table, name?, &asked?, zone),
+        Command::Peak => certify_peak(alloc, book, table, name?, &asked?),
+        Command::Clock => tell_now(alloc, book, table, name?, given.now, zone),
+        Command::About => tell_about(alloc, book, table, name?),
+        Command::Check => check(alloc, book, table, given.certificate, zone),
+        Command::PeakCheck => check_peak_text(alloc, book, table, given.certificate),
         Command::Stations => answer_stations(alloc, book.get(), table),
         Command::Sample | Command::Trial => answer_alone(alloc, question),
         Command::Report | Command::Serve => Err(Refusal::NoStation),
     }
-}
-
-/// Returns the answer to a command about a station and a span.
-#[tactic(auto, unfolding(crate::specs::Answers::asks_span))]
-fn answer_span(
-    alloc: Global,
-    book: &SoundBook<'_>,
-    table: &OffsetTable,
-    question: &SoundQuestion<'_>,
-    zone: &ZoneClock<'_>,
-) -> Result<Answer, Refusal>
-    ensures exact { Gives wants_memory_of_refusal (asks_span question.now (text_over question.now.command book.now table.now question.now zone.now)) result }
-    ensures told { IfErr result (IsToldRefusal table.now) }
-{
-    let name = station_named(question)?;
-    let asked = span_named(question)?;
-    let Question { layout, step, .. } = question.get();
-    match question.get().command {
-        Command::Predict => predict(alloc, book, table, name, &asked, *layout, zone),
-        Command::Certify => certify(alloc, book, table, name, &asked),
-        Command::Heights => list_heights(alloc, book, table, name, &asked, *step, *layout, zone),
-        Command::Calendar => list_days(alloc, book, table, name, &asked, zone),
-        Command::Highest => tell_highest(alloc, book, table, name, &asked, zone),
-        Command::Peak => certify_peak(alloc, book, table, name, &asked),
-        _ => Err(Refusal::NoStation),
-    }
-}
-
-/// Returns the answer to `clock`.
-#[tactic(auto, unfolding(crate::specs::Answers::asks_name))]
-fn answer_clock(
-    alloc: Global,
-    book: &SoundBook<'_>,
-    table: &OffsetTable,
-    question: &SoundQuestion<'_>,
-    given: &Given,
-) -> Result<Answer, Refusal>
-    requires given { IsGiven given.now }
-    ensures exact { Gives wants_memory_of_refusal (asks_name question.now (λ name. on_clock book.now table.now name given.entry.now.now given.entry.now.zone)) result }
-    ensures told { IfErr result (IsToldRefusal table.now) }
-{
-    let name = station_named(question)?;
-    tell_now(alloc, book, table, name, given.now, &given.zone.clock())
 }
 
 /// Returns the answer to `stations`.
@@ -159,19 +122,4 @@ fn answer_stations(alloc: Global, book: &Book, table: &OffsetTable) -> Result<An
     ensures memory { IfErr result (λ refusal. refusal ≡ Refusal.NoMemory) }
 {
     Ok(text_alone(stations_text(alloc, book, table)?))
-}
-
-/// Returns the answer to `about`.
-#[tactic(auto, unfolding(crate::specs::Answers::asks_name))]
-fn answer_about(
-    alloc: Global,
-    book: &SoundBook<'_>,
-    table: &OffsetTable,
-    question: &SoundQuestion<'_>,
-) -> Result<Answer, Refusal>
-    ensures exact { Gives wants_memory_of_refusal (asks_name question.now (λ name. known book.now table.now name)) result }
-    ensures told { IfErr result (IsToldRefusal table.now) }
-{
-    let name = station_named(question)?;
-    tell_about(alloc, book, table, name)
 }

@@ -19,7 +19,6 @@ use crate::judging::find_rejection;
 use crate::text::{Answer, accepted, rejected};
 use cert_text::{Certificate, certificates_have_one_text, read_certificate};
 use curve_law::Events;
-use decimal_text::Bytes;
 use event_list::{merged, shifted};
 use harmonics_text::SoundBook;
 use listing::plain_events;
@@ -41,14 +40,14 @@ pub fn check(
     alloc: Global,
     book: &SoundBook<'_>,
     table: &OffsetTable,
-    bytes: &Bytes,
+    bytes: &[u8],
     zone: &ZoneClock<'_>,
 ) -> Result<Answer, Refusal>
     requires few { length bytes.now ≤ MOST_BYTES }
     ensures exact { Gives wants_memory_of_refusal (checked book.now table.now bytes.now zone.now) result }
     ensures told { IfErr result (IsToldRefusal table.now) }
 {
-    let cert = read_certificate(alloc, bytes.as_slice())?;
+    let cert = read_certificate(alloc, bytes)?;
     certificates_have_one_text();
     judge(alloc, book, table, &cert, zone)
 }

@@ -3,6 +3,17 @@
 use decimal_text::Bytes;
 use zone_time::Zone;
 
+/// The inputs of a [`Given`], borrowed, in the same ranges.
+#[derive(Clone, Copy, Debug)]
+pub struct GivenView<'a> {
+    /// The zone of the local times in the answer.
+    pub zone: &'a Zone,
+    /// The text of a certificate.
+    pub certificate: &'a [u8],
+    /// The present minute.
+    pub now: i64,
+}
+
 /// The inputs of an answer besides the request, the harmonic constants and the offsets.
 #[derive(Debug, Drop)]
 pub struct Given {
@@ -12,4 +23,20 @@ pub struct Given {
     pub certificate: Bytes,
     /// The present minute since 1970-01-01T00:00Z, from -10,000,000,000 to 10,000,000,000.
     pub now: i64,
+}
+
+impl Given {
+    ghost use Rattle.std.specs.Prelude.{◌≡◌};
+    ghost use Rattle.tide_answer.specs.Givens.{given_seen};
+
+    /// Returns these inputs borrowed.
+    pub fn view(&self) -> GivenView<'_>
+        ensures { given_seen result ≡ self.entry.now }
+    {
+        GivenView {
+            zone: &self.zone,
+            certificate: self.certificate.as_slice(),
+            now: self.now,
+        }
+    }
 }

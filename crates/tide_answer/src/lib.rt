@@ -36,9 +36,9 @@ mod tracks;
 mod trial;
 
 pub use alone::answer_alone;
-pub use answering::answer;
+pub use answering::{answer, answer_valid};
 pub use book_loading::load_book;
-pub use given::Given;
+pub use given::{Given, GivenView};
 pub use heights::worked_rows;
 pub use laws::{accepted_is_short, accepted_is_true, certified_is_accepted, certified_is_short};
 pub use listed::{Listed, station_events};

@@ -15,7 +15,6 @@ ghost use Rattle.station_span.specs.Workings.Peaks.{IsSourceIn};
 use crate::asking::asked_of_peak;
 use crate::highest::highest_text_at;
 use crate::text::{Answer, accepted, rejected};
-use decimal_text::Bytes;
 use harmonics_text::SoundBook;
 use highest_water::{
     CertFault, PeakCertificate, PeakVerdict, peak_certificates_have_one_text, read_peak,
@@ -39,13 +38,13 @@ pub fn check_peak_text(
     alloc: Global,
     book: &SoundBook<'_>,
     table: &OffsetTable,
-    bytes: &Bytes,
+    bytes: &[u8],
 ) -> Result<Answer, Refusal>
     requires few { length bytes.now ≤ MOST_BYTES }
     ensures exact { Gives wants_memory_of_refusal (peak_checked book.now table.now bytes.now) result }
     ensures told { IfErr result (IsToldRefusal table.now) }
 {
-    let cert = peak_in(alloc, bytes.as_slice())?;
+    let cert = peak_in(alloc, bytes)?;
     judge_peak(alloc, book, table, &cert)
 }
 

@@ -6,6 +6,7 @@ pub mod OpeningLemmas
 pub mod PieceLemmas
 pub mod QueryLemmas
 pub mod ReplyLemmas
+pub mod SendingLemmas
 pub mod ServiceLemmas
 pub mod StepLemmas
 pub mod StockLemmas

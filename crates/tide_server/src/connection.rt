@@ -14,7 +14,7 @@ use crate::request::Request;
 use crate::sent_text::send;
 use crate::stock::SoundStock;
 use arrayvec::ArrayString;
-use http_rows::{Rejection, Row, row_for, write_rejection, write_unavailable};
+use http_rows::{Rejection, Response, Row, row_for, write_rejection, write_unavailable};
 use std::alloc::Global;
 use tide_edge::{Clock, Door, Failed};
 
@@ -113,10 +113,20 @@ fn send_reply<D: Door>(
     match row {
         Row::Rejects(rejection, bodiless) => send_rejection(*rejection, *bodiless, door),
         Row::Asks(asking) => match asking_reply(alloc, &stock.book(), stock.table(), asking, now) {
-            Ok(text) => send(door, text.as_slice()),
+            Ok(response) => send_response(&response, door),
             Err(_) => send_unavailable(asking.bodiless, door),
         },
     }
+}
+
+/// Sends a response: its head, and then its body.
+fn send_response<D: Door>(response: &Response, door: &mut D) -> Result<(), Failed>
+    requires { IsTrue (D.state door.old).doorway.is_open }
+    ensures { SentBy (is_err result) response.now (D.state door.old) (D.state door.new) }
+{
+    let (head, body) = response.parts();
+    send(door, head)?;
+    send(door, body)
 }
 
 /// Sends the fixed reply to a request that is `rejection`.

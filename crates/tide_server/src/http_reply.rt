@@ -1,15 +1,16 @@
 //! The reply to a request.
 
-ghost use Rattle.std.specs.Prelude.{◌≡◌, ◌≤◌, length, IfOk};
+ghost use Rattle.std.specs.Prelude.{◌≡◌, ◌≤◌, false, length, IfOk};
 ghost use Rattle.harmonics_text.specs.Books.{IsBook};
 ghost use Rattle.question.specs.Asked.{IsZoneWord};
 ghost use Rattle.tide_answer.specs.Answers.{answered};
 ghost use Rattle.tide_fault.specs.Faults.{IsTold, wants_memory_of_refusal};
-ghost use Rattle.tide_answer.specs.Givens.{IsGiven};
+ghost use Rattle.tide_answer.specs.Givens.{IsGiven, given_seen};
 ghost use Rattle.tide_edge.specs.Clocks.{IsClockMinute};
 ghost use Rattle.question.specs.Questions.{wants_memory};
-ghost use Rattle.tide_server.specs.Replies.{IsReply, answer_reply, asking_reply, fault_reply, given_with, type_of, zone_of};
+ghost use Rattle.tide_server.specs.Replies.{IsReply, answer_reply, asking_reply, fault_reply, given_with, names_file, type_of, zone_of};
 ghost use Rattle.http_rows.specs.Responses.{rejection_of};
+ghost use Rattle.http_rows.specs.declared.limits.TheConstants.{MOST_BODY};
 ghost use Rattle.http_rows.specs.Workings.Views.{IsAsking, asking_seen};
 ghost use Rattle.zone_time.specs.Zones.{IsZone};
 
@@ -17,11 +18,11 @@ use crate::query::pairs_of;
 use arrayvec::ArrayString;
 use decimal_text::Bytes;
 use harmonics_text::{Book, SoundBook};
-use http_rows::{Asking, Code, Rejection, Row, response, row_for, write_rejection};
+use http_rows::{Asking, Code, Rejection, Response, Row, row_for, write_rejection};
 use question::{AskFault, Layout, SoundQuestion, ZoneWord, read_question};
 use station_table::OffsetTable;
 use std::alloc::{AllocError, Global};
-use tide_answer::{Fault, Given, Refusal, answer, fault_line};
+use tide_answer::{Fault, GivenView, Refusal, answer_valid, fault_line};
 use zone_time::Zone;
 
 /// Returns the reply to the whole of a `request`, over the harmonic constants `book` and the
@@ -52,8 +53,26 @@ pub fn reply(
 {
     match row_for(request) {
         Row::Rejects(rejection, bodiless) => rejection_reply(alloc, rejection, bodiless),
-        Row::Asks(asking) => asking_reply(alloc, &SoundBook::new(book), table, &asking, now),
+        Row::Asks(asking) => whole_reply(alloc, &SoundBook::new(book), table, &asking, now),
     }
+}
+
+/// Returns the reply to a request that no fixed reply rejects, as one list of bytes.
+///
+/// # Errors
+/// [`AllocError`] if memory runs out.
+fn whole_reply(
+    alloc: Global,
+    book: &SoundBook<'_>,
+    table: &OffsetTable,
+    asking: &Asking<'_>,
+    now: i64,
+) -> Result<Bytes, AllocError>
+    requires asking { IsAsking (asking_seen asking.now) }
+    requires now { IsClockMinute now }
+    ensures { IfOk result (λ bytes. bytes ≡ asking_reply book.now table.now now (asking_seen asking.now)) }
+{
+    asking_reply(alloc, book, table, asking, now)?.joined(alloc)
 }
 
 /// Returns the fixed reply to a request that is `rejection`.
@@ -69,17 +88,17 @@ fn rejection_reply(alloc: Global, rejection: Rejection, bodiless: bool) -> Resul
 ///
 /// # Errors
 /// [`AllocError`] if memory runs out.
-#[tactic(auto, unfolding(crate::specs::Replies::asking_reply, crate::specs::Replies::question_reply))]
+#[tactic(auto, using(crate::proofs::QueryLemmas::query_names_no_file), unfolding(crate::specs::Replies::asking_reply, crate::specs::Replies::question_reply))]
 pub(crate) fn asking_reply(
     alloc: Global,
     book: &SoundBook<'_>,
     table: &OffsetTable,
     asking: &Asking<'_>,
     now: i64,
-) -> Result<Bytes, AllocError>
+) -> Result<Response, AllocError>
     requires asking { IsAsking (asking_seen asking.now) }
     requires now { IsClockMinute now }
-    ensures { IfOk result (λ bytes. bytes ≡ asking_reply book.now table.now now (asking_seen asking.now)) }
+    ensures { IfOk result (λ response. response ≡ asking_reply book.now table.now now (asking_seen asking.now)) }
 {
     let pairs = pairs_of(alloc, asking)?;
     match read_question(alloc, &pairs) {
@@ -111,23 +130,19 @@ fn answer_reply(
     question: &SoundQuestion<'_>,
     asking: &Asking<'_>,
     now: i64,
-) -> Result<Bytes, AllocError>
+) -> Result<Response, AllocError>
     requires asking { IsAsking (asking_seen asking.now) }
     requires now { IsClockMinute now }
-    ensures { IfOk result (λ bytes. bytes ≡ answer_reply table.now question.now.layout
+    requires zone { names_file question.now.zone ≡ false }
+    ensures { IfOk result (λ response. response ≡ answer_reply table.now question.now.layout
         (answered book.now table.now question.now (given_with question.now (asking_seen asking.now) now)) asking.now.bodiless) }
 {
-    let given = given_with(alloc, question, asking, now)?;
-    match answer(alloc, book.get(), table, question.get(), &given) {
+    let zone = zone_of(&question.get().zone);
+    let given = given_with(&zone, asking.body, now);
+    match answer_valid(alloc, book, table, question, given) {
         Ok(answer) => {
             let kind = type_of(question.get().layout);
-            response(
-                alloc,
-                Code::Success,
-                kind,
-                answer.text.as_slice(),
-                asking.bodiless,
-            )
+            Ok(Response::new(Code::Success, kind, answer.text, asking.bodiless))
         }
         Err(refusal) => {
             if wants_memory_of_refusal(refusal) {
@@ -139,35 +154,33 @@ fn answer_reply(
     }
 }
 
-/// Returns the inputs of the answer besides the harmonic constants and the offsets.
-fn given_with(
-    alloc: Global,
-    question: &SoundQuestion<'_>,
-    asking: &Asking<'_>,
-    now: i64,
-) -> Result<Given, AllocError>
-    requires asking { IsAsking (asking_seen asking.now) }
+/// Returns the inputs of the answer besides the harmonic constants and the offsets. The certificate
+/// is the body of the request.
+fn given_with<'a>(zone: &'a Zone, body: &'a [u8], now: i64) -> GivenView<'a>
+    requires zone { IsZone zone.now }
+    requires body { length body.now ≤ MOST_BODY }
     requires now { IsClockMinute now }
-    ensures exact { IfOk result (λ given. given ≡ given_with question.now (asking_seen asking.now) now) }
-    ensures given { IfOk result IsGiven }
+    ensures exact { given_seen result ≡ record { zone = zone.now; certificate = body.now; now = now } }
+    ensures given { IsGiven (given_seen result) }
 {
-    Ok(Given {
-        zone: zone_of(&question.get().zone),
-        certificate: Bytes::from_vec(asking.body.to_vec(alloc)?),
+    GivenView {
+        zone,
+        certificate: body,
         now,
-    })
+    }
 }
 
 /// Returns the zone of a query's `word`, which never names a file.
 fn zone_of(word: &ZoneWord) -> Zone
-    requires { IsZoneWord word.now }
+    requires word { IsZoneWord word.now }
+    requires no_file { names_file word.now ≡ false }
     ensures exact { result ≡ zone_of word.now }
     ensures zone { IsZone result }
 {
     match word {
         ZoneWord::Utc => Zone::Utc,
         ZoneWord::Fixed(minutes) => Zone::Fixed(*minutes),
-        ZoneWord::Named(_) => Zone::Utc,
+        ZoneWord::Named(_) => unreachable!(),
     }
 }
 
@@ -203,10 +216,10 @@ fn fault_reply(
     table: &OffsetTable,
     fault: &Fault,
     bodiless: bool,
-) -> Result<Bytes, AllocError>
+) -> Result<Response, AllocError>
     requires { IsTold table.now fault.now }
-    ensures { IfOk result (λ bytes. bytes ≡ fault_reply code table.now fault.now bodiless) }
+    ensures { IfOk result (λ response. response ≡ fault_reply code table.now fault.now bodiless) }
 {
     let line = fault_line(alloc, fault, table)?;
-    response(alloc, code, "text/plain", line.as_slice(), bodiless)
+    Ok(Response::new(code, "text/plain", line, bodiless))
 }

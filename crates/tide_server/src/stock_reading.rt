@@ -1,6 +1,6 @@
 //! The data that a server serves, read from files.
 
-ghost use Rattle.std.specs.Prelude.{◌≡◌, [], IsOk, IsTrue, IfErr};
+ghost use Rattle.std.specs.Prelude.{◌≡◌, false, [], IsOk, IsTrue, IfErr};
 ghost use Rattle.decimal_text.specs.Expected.{Gives};
 ghost use Rattle.question.specs.Questions.{wants_memory as ask_wants_memory};
 ghost use Rattle.question.specs.Words.{pairs_of};
@@ -22,8 +22,8 @@ use std::alloc::Global;
 use tide_edge::Files;
 use tide_fault::Fault;
 
-/// Reads the data that the arguments `words` name: the harmonic constants, and then the table. Each
-/// file is read and its form checked before the next is opened.
+/// Reads the data that the arguments `words` name, whose command is `serve`: the harmonic constants,
+/// and then the table. Each file is read and its form checked before the next is opened.
 ///
 /// # Errors
 /// The first reason: the arguments, the harmonic constants, the table.
@@ -32,6 +32,7 @@ pub(crate) fn read_stock<F: Files>(
     words: &Words,
     files: &mut F,
 ) -> Result<SoundStock, NoAnswer>
+    requires { asks_another (pairs_of words.now) ≡ false }
     ensures own { IsTrue (F.state files.old).store.is_observable → Meets source_of (IsTrue (F.state files.old).store.is_steady)
         (stock_of (F.state files.old).store.folder words.now) result }
     ensures shown { IsResultOf (names_served (service_of words.now)) (stock_by_openings words.now) (F.state files.old).openings (F.state files.new).openings result }
@@ -74,6 +75,7 @@ fn read_named<F: Files>(
 // Returns the request to serve in the arguments `words`.
 #[tactic(auto, unfolding(crate::specs::Openings::service_of))]
 fn read_service(alloc: Global, words: &Words) -> Result<Question, Fault>
+    requires { asks_another (pairs_of words.now) ≡ false }
     ensures exact { Gives wants_memory (service_of words.now) result }
     ensures told { IfErr result (IsToldFault []) }
 {
@@ -83,11 +85,9 @@ fn read_service(alloc: Global, words: &Words) -> Result<Question, Fault>
 
 /// Returns the request to serve in the arguments `words`, or the fault of the arguments.
 fn service_in_words(alloc: Global, words: &Words) -> Result<Question, AskFault>
+    requires { asks_another (pairs_of words.now) ≡ false }
     ensures { Gives ask_wants_memory (service_in (pairs_of words.now)) result }
 {
-    if names_another(words) {
-        return Err(AskFault::UnknownCommand);
-    }
     let pairs = pairs_of_words(alloc, words)?;
     read_question(alloc, &pairs)
 }

@@ -3,10 +3,10 @@ use Rattle.tide_answer.proofs.check.check.Goals as goal
 
 pub judge-requires-clause-few : goal.judge-requires-clause-few
 judge-requires-clause-few c =
-    let reads = rw c.as_slice.ensures at c.in_ok-cert.ensures.reads in
-    few_read c.in_ok-cert.cert c.args.bytes.now (c.certificates_have_one_text.ensures.only_text c.in_ok-cert.cert c.args.bytes.now reads).1 c.requires.few
+    few_read c.in_ok-cert.cert c.args.bytes.now
+    (c.certificates_have_one_text.ensures.only_text c.in_ok-cert.cert c.args.bytes.now c.in_ok-cert.ensures.reads).1 c.requires.few
 
 pub returns-clause-exact : goal.returns-clause-exact
 returns-clause-exact c =
-    rw (checked_by c.args.book.now c.args.table.now c.args.bytes.now c.args.zone.now c.in_ok-cert.cert (rw c.as_slice.ensures at c.in_ok-cert.ensures.exact))
+    rw (checked_by c.args.book.now c.args.table.now c.args.bytes.now c.args.zone.now c.in_ok-cert.cert c.in_ok-cert.ensures.exact)
     c.judge.ensures.exact

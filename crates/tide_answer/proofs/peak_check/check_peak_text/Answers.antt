@@ -4,4 +4,4 @@ use Rattle.tide_answer.proofs.peak_check.check_peak_text.Goals as goal
 
 pub returns-clause-exact : goal.returns-clause-exact
 unfolding peak_checked peak_judged_in
-returns-clause-exact c = rw (rw c.as_slice.ensures at c.in_ok-cert.ensures.exact) c.judge_peak.ensures.exact
+returns-clause-exact c = rw c.in_ok-cert.ensures.exact c.judge_peak.ensures.exact

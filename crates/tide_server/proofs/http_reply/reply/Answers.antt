@@ -13,6 +13,6 @@ returns-in-Rejects c =
 pub returns-in-Asks : goal.returns-in-Asks
 returns-in-Asks c =
     let now : FitsSigned w64 c.args.now = c.ranges.now in
-    let same = rw c.new.ensures at (simp to_z-of_z at c.asking_reply.ensures) in
+    let same = rw c.new.ensures at (simp to_z-of_z at c.whole_reply.ensures) in
     row_replies c.args.book.now c.args.table.now c.args.now c.args.request.now (asks (asking_seen c.in-Asks.asking))
-    c.asking_reply.result c.in-Asks.ensures.row same
+    c.whole_reply.result c.in-Asks.ensures.row same

@@ -1,5 +1,5 @@
 use Rattle.std.proofs.Common.{arith, length-drop}
-use Rattle.tide_server.proofs.ConnectionLemmas.{sent_none, sent_on}
+use Rattle.tide_server.proofs.SendingLemmas.{sent_none, sent_on}
 use Rattle.tide_server.proofs.sent_text.send.Goals as goal
 
 pub loop-at-init : goal.loop-at-init

@@ -1,0 +1,65 @@
+//! Responses in two parts.
+
+use crate::code::Code;
+use crate::responses::write_head;
+use arrayvec::ArrayString;
+use decimal_text::Bytes;
+use std::alloc::{AllocError, Global};
+use std::marker::Model;
+
+/// A response in two parts, its head and its body, which isn't copied. A contract sees the bytes of both.
+#[derive(Debug, Drop)]
+pub struct Response {
+    head: ArrayString<256>,
+    /// `None` in a response to `HEAD`.
+    body: Option<Bytes>,
+}
+
+impl Model for Response {
+    ghost use Rattle.std.specs.Prelude.{◌++◌, ℕ, List, [], unwrap_or};
+
+    ghost Value = { List ℕ };
+
+    ghost view = { λ r. r.head.bytes ++ unwrap_or r.body [] };
+}
+
+impl Response {
+    ghost use Rattle.std.specs.Prelude.{◌≡◌, ◌≤◌, ◌++◌, [], length, IfOk};
+    ghost use Rattle.http_rows.specs.Responses.{response};
+
+    /// Returns the response with `body`, of the type `kind` in UTF-8; `bodiless` leaves the body out, but
+    /// not its length. It doesn't allocate.
+    pub fn new(code: Code, kind: &str, body: Bytes, bodiless: bool) -> Response
+        requires { length kind.now ≤ 10 }
+        ensures { result ≡ response code kind.now [] body bodiless }
+    {
+        let mut head = ArrayString::new();
+        write_head(code, kind, "", body.as_slice().len(), &mut head);
+        let body = if bodiless { None } else { Some(body) };
+        Response { head, body }
+    }
+
+    /// Returns the head and the body. The body is empty if it is left out.
+    pub fn parts(&self) -> (&[u8], &[u8])
+        ensures { result.0.now ++ result.1.now ≡ self.now }
+    {
+        let head = self.head.as_bytes();
+        match &self.body {
+            Some(body) => (head, body.as_slice()),
+            None => (head, &[]),
+        }
+    }
+
+    /// Returns a copy of both parts as one list of bytes.
+    ///
+    /// # Errors
+    /// [`AllocError`] if memory runs out.
+    pub fn joined(&self, alloc: Global) -> Result<Bytes, AllocError>
+        ensures { IfOk result (λ bytes. bytes ≡ self.now) }
+    {
+        let (head, body) = self.parts();
+        let mut bytes = head.to_vec(alloc)?;
+        bytes.extend_from_slice(body)?;
+        Ok(Bytes::from_vec(bytes))
+    }
+}

@@ -1,0 +1,119 @@
+-- The bytes that were sent over a connection, piece by piece.
+use Rattle.std.proofs.Common.{◌≡◌, ℕ, ◌+◌, ◌<◌, ◌≤◌, Bool, false, true, List, [], ◌++◌, length, take, drop, append_assoc, append-nil, length-append, arith, ap, sym, ◌∙◌, refl, Ok, Err, Option, Some, None}
+use Rattle.std.specs.Option.{option_map}
+use Rattle.std.specs.Prelude.{if◌then◌else◌}
+use Rattle.std.proofs.lemmas.List.{take-append-le}
+use Rattle.std.proofs.Math.Seq.{take-add, take-append-add}
+use Rattle.tide_edge.specs.declared.failed.Failed.{Failed}
+use Rattle.tide_edge.specs.Doors.{Connection, Connections, DoorState, Traffic, append_to_last, connection_after_write, door_after_write}
+use Rattle.tide_edge.specs.Faults.{counted, faults_after}
+use Rattle.tide_server.specs.Workings.Connections.{SentBy, sending, sent}
+use Rattle.tide_server.proofs.ConnectionLemmas.{append_none, append_twice, unread_again}
+
+with_traffic : DoorState → Connections → ℕ → Traffic → DoorState
+with_traffic d connections lines traffic = record d { connections = connections; traffic = traffic; line_faults = lines }
+
+with_open : Connections → Option Connection → Connections
+with_open all latest = record { earlier = all.earlier; latest = latest }
+
+appended : List ℕ → Traffic → Traffic
+appended text t = record { waiting = t.waiting; rest = t.rest; replies = append_to_last t.replies text }
+
+sent_nothing : (tells : Bool) (t : Traffic) → t ≡ (if tells then appended [] t else t)
+unfolding appended
+sent_nothing true t = ap (λ rs. record { waiting = t.waiting; rest = t.rest; replies = rs }) (sym (append_none t.replies))
+sent_nothing false t = refl
+
+with_sent : Connection → List ℕ → Connection
+with_sent c bytes = record c { sent = bytes }
+
+opened_none : (latest : Option Connection) → latest ≡ option_map (sending [] false) latest
+unfolding with_sent
+opened_none None = refl
+opened_none (Some c) = ap (λ bytes. Some (with_sent c bytes)) (sym (append-nil c.sent))
+
+with_cut : Connection → List ℕ → Connection
+with_cut c bytes = record c { sent = bytes; write_failed = true }
+
+opened_twice : (failed : Bool) (latest : Option Connection) (a b : List ℕ)
+    → option_map (sending b failed) (option_map (sending a false) latest) ≡ option_map (sending (a ++ b) failed) latest
+unfolding with_sent with_cut
+opened_twice false None a b = refl
+opened_twice true None a b = refl
+opened_twice false (Some c) a b = ap (λ bytes. Some (with_sent c bytes)) (append_assoc c.sent a b)
+opened_twice true (Some c) a b = ap (λ bytes. Some (with_cut c bytes)) (append_assoc c.sent a b)
+
+opened_failed : (latest : Option Connection) (a : List ℕ) (piece : List ℕ) (failed : Failed)
+    → option_map (connection_after_write (Err failed) piece) (option_map (sending a false) latest) ≡ option_map (sending a true) latest
+opened_failed None a piece failed = refl
+opened_failed (Some c) a piece failed = refl
+
+pub sent_none : (d : DoorState) → d ≡ sent [] false d
+unfolding with_traffic with_open appended
+sent_none d =
+    ap (with_traffic d d.connections d.line_faults) (sent_nothing d.is_observable d.traffic)
+    ∙ ap (λ l. with_traffic d (with_open d.connections l) d.line_faults (if d.is_observable then appended [] d.traffic else d.traffic))
+    (opened_none d.connections.latest)
+
+sent_twice : (tells : Bool) (a b : List ℕ) (t : Traffic)
+    → (if tells then appended b (if tells then appended a t else t) else (if tells then appended a t else t))
+    ≡ (if tells then appended (a ++ b) t else t)
+unfolding appended
+sent_twice true a b t = ap (λ rs. record { waiting = t.waiting; rest = t.rest; replies = rs }) (append_twice t.replies a b)
+sent_twice false a b t = refl
+
+-- a text that was sent behind another one
+sent_behind : (first : DoorState) (a b : List ℕ) (failed : Bool) → sent b failed (sent a false first) ≡ sent (a ++ b) failed first
+unfolding with_traffic with_open appended
+sent_behind first a b failed =
+    ap (with_traffic first (with_open first.connections (option_map (sending b failed) (option_map (sending a false) first.connections.latest)))
+    (faults_after failed first.line_faults)) (sent_twice first.is_observable a b first.traffic)
+    ∙ ap (λ l. with_traffic first (with_open first.connections l) (faults_after failed first.line_faults)
+    (if first.is_observable then appended (a ++ b) first.traffic else first.traffic)) (opened_twice failed first.connections.latest a b)
+
+-- after one piece more
+pub sent_on : (first now after : DoorState) (text : List ℕ) (at count : ℕ) → now ≡ sent (take at text) false first
+    → after ≡ door_after_write (Ok count) (drop at text) now → after ≡ sent (take (at + count) text) false first
+sent_on first now after text at count so_far is =
+    is
+    ∙ ap (door_after_write (Ok count) (drop at text)) so_far
+    ∙ sent_behind first (take at text) (take count (drop at text)) false
+    ∙ ap (λ xs. sent xs false first) (sym (take-add at count text))
+
+pub sent_failed : (first now after : DoorState) (text : List ℕ) (at : ℕ) (failed : Failed) → now ≡ sent (take at text) false first
+    → after ≡ door_after_write (Err failed) (drop at text) now → after ≡ sent (take at text) true first
+unfolding with_traffic with_open appended
+sent_failed first now after text at failed so_far is =
+    let a = take at text in
+    is
+    ∙ ap (door_after_write (Err failed) (drop at text)) so_far
+    ∙ ap (with_traffic first (with_open first.connections
+    (option_map (connection_after_write (Err failed) (drop at text)) (option_map (sending a false) first.connections.latest)))
+    (counted first.line_faults))
+    (unread_again first.is_observable (if first.is_observable then appended a first.traffic else first.traffic))
+    ∙ ap (λ l. with_traffic first (with_open first.connections l) (counted first.line_faults)
+    (if first.is_observable then appended a first.traffic else first.traffic)) (opened_failed first.connections.latest a (drop at text) failed)
+
+-- ---- A text in two parts
+
+-- the second part was sent behind the first one
+pub sent_both : (failed : Bool) (a b text : List ℕ) (first now after : DoorState) → a ++ b ≡ text
+    → SentBy false a first now → SentBy failed b now after → SentBy failed text first after
+sent_both false a b text first now after whole sends more =
+    more ∙ ap (sent b false) sends ∙ sent_behind first a b false ∙ ap (λ xs. sent xs false first) whole
+sent_both true a b text first now after whole sends (count, few, more) =
+    let long : length text ≡ length a + length b = ap length (sym whole) ∙ length-append a b in
+    let cut : take (length a + count) text ≡ a ++ take count b =
+    ap (take (length a + count)) (sym whole) ∙ take-append-add a b count in (
+      length a + count,
+      omega (arith, long, few),
+      more ∙ ap (sent (take count b) true) sends ∙ sent_behind first a (take count b) true ∙ ap (λ xs. sent xs true first) (sym cut),
+    )
+
+-- it wasn't, after a write of the first one has failed
+pub first_cut : (a b text : List ℕ) (first after : DoorState) → a ++ b ≡ text → SentBy true a first after → SentBy true text first after
+first_cut a b text first after whole (count, few, sends) =
+    let long : length text ≡ length a + length b = ap length (sym whole) ∙ length-append a b in
+    let within : count ≤ length a = omega (arith, few) in
+    let cut : take count text ≡ take count a = ap (take count) (sym whole) ∙ take-append-le count a b within in
+    (count, omega (arith, long, few), sends ∙ ap (λ xs. sent xs true first) (sym cut))
