@@ -1,15 +1,14 @@
 -- The bytes of a connection, piece by piece.
-use Rattle.std.proofs.Common.{◌≡◌, ◌⊎◌, ℕ, ◌+◌, ◌<◌, ◌≤◌, Bool, false, true, List, [], ◌∷◌, ◌++◌, length, take, drop, append_assoc, append-nil, arith, ap, sym, ◌∙◌, subst, refl, Ok, Err, Option, Some, None, inl, inr}
+use Rattle.std.proofs.Common.{◌≡◌, ◌⊎◌, ℕ, ◌+◌, ◌<◌, ◌≤◌, Bool, false, true, List, [], ◌∷◌, ◌++◌, length, take, drop, append_assoc, append-nil, arith, ap, sym, ◌∙◌, subst, refl, Ok, Err, Option, Some, inl, inr}
 use Rattle.std.specs.Bool.{IsTrue}
 use Rattle.std.specs.List.{concat}
-use Rattle.std.specs.Option.{option_map}
 use Rattle.std.specs.Prelude.{nat_le, ◌==◌, ◌||◌, ◌↔◌, if◌then◌else◌}
 use Rattle.std.proofs.lemmas.Bool.Decides.{nat_tests}
 use Rattle.std.proofs.lemmas.Grind.{common_steps}
 use Rattle.std.proofs.lemmas.List.{take-append-drop, take-append-le}
 use Rattle.std.proofs.Math.Seq.{drop-nil, take-add}
 use Rattle.tide_edge.specs.declared.failed.Failed.{Failed}
-use Rattle.tide_edge.specs.Doors.{Connection, Connections, DoorState, Traffic, append_to_last, connection_after_write, door_after_read, door_after_write, first_or_empty, just_taken, left_after}
+use Rattle.tide_edge.specs.Doors.{Connection, Connections, DoorState, Traffic, append_to_last, door_after_read, first_or_empty, just_taken, left_after}
 use Rattle.tide_edge.specs.Faults.{counted}
 use Rattle.tide_edge.specs.declared.piece.TheConstants.{PIECE}
 use Rattle.tide_server.specs.Conversations.{IsReadEnough}
@@ -17,7 +16,7 @@ use Rattle.tide_server.specs.declared.limits.TheConstants.{LONGEST}
 use Rattle.http_rows.specs.Heads.{head_end, head_length}
 use Rattle.http_rows.specs.Rows.{Row, IsRow, is_settled}
 use Rattle.tide_server.specs.Serving.{IsEnough}
-use Rattle.tide_server.specs.Workings.Connections.{HasRead, IsRead, IsReadAs, read_as, read_to, sending, sent, with_latest}
+use Rattle.tide_server.specs.Workings.Connections.{HasRead, IsRead, IsReadAs, read_as, read_to, with_latest}
 use Rattle.tide_server.proofs.PieceLemmas.{all_left, bytes_left, left_on}
 use Rattle.http_rows.proofs.RowLemmas.{long_settled, one_row_at}
 

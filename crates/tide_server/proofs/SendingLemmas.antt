@@ -1,5 +1,5 @@
 -- The bytes that were sent over a connection, piece by piece.
-use Rattle.std.proofs.Common.{◌≡◌, ℕ, ◌+◌, ◌<◌, ◌≤◌, Bool, false, true, List, [], ◌++◌, length, take, drop, append_assoc, append-nil, length-append, arith, ap, sym, ◌∙◌, refl, Ok, Err, Option, Some, None}
+use Rattle.std.proofs.Common.{◌≡◌, ℕ, ◌+◌, ◌≤◌, Bool, false, true, List, [], ◌++◌, length, take, drop, append_assoc, append-nil, length-append, arith, ap, sym, ◌∙◌, refl, Ok, Err, Option, Some, None}
 use Rattle.std.specs.Option.{option_map}
 use Rattle.std.specs.Prelude.{if◌then◌else◌}
 use Rattle.std.proofs.lemmas.List.{take-append-le}
@@ -62,7 +62,7 @@ unfolding appended
 sent_twice true a b t = ap (λ rs. record { waiting = t.waiting; rest = t.rest; replies = rs }) (append_twice t.replies a b)
 sent_twice false a b t = refl
 
--- a text that was sent behind another one
+-- a text that was sent after another one
 sent_behind : (first : DoorState) (a b : List ℕ) (failed : Bool) → sent b failed (sent a false first) ≡ sent (a ++ b) failed first
 unfolding with_traffic with_open appended
 sent_behind first a b failed =
@@ -71,7 +71,7 @@ sent_behind first a b failed =
     ∙ ap (λ l. with_traffic first (with_open first.connections l) (faults_after failed first.line_faults)
     (if first.is_observable then appended (a ++ b) first.traffic else first.traffic)) (opened_twice failed first.connections.latest a b)
 
--- after one piece more
+-- the state after one more piece
 pub sent_on : (first now after : DoorState) (text : List ℕ) (at count : ℕ) → now ≡ sent (take at text) false first
     → after ≡ door_after_write (Ok count) (drop at text) now → after ≡ sent (take (at + count) text) false first
 sent_on first now after text at count so_far is =
@@ -96,7 +96,7 @@ sent_failed first now after text at failed so_far is =
 
 -- ---- A text in two parts
 
--- the second part was sent behind the first one
+-- the second part was sent after the first one
 pub sent_both : (failed : Bool) (a b text : List ℕ) (first now after : DoorState) → a ++ b ≡ text
     → SentBy false a first now → SentBy failed b now after → SentBy failed text first after
 sent_both false a b text first now after whole sends more =
@@ -110,7 +110,7 @@ sent_both true a b text first now after whole sends (count, few, more) =
       more ∙ ap (sent (take count b) true) sends ∙ sent_behind first a (take count b) true ∙ ap (λ xs. sent xs true first) (sym cut),
     )
 
--- it wasn't, after a write of the first one has failed
+-- the second part wasn't sent, since a write of the first one failed
 pub first_cut : (a b text : List ℕ) (first after : DoorState) → a ++ b ≡ text → SentBy true a first after → SentBy true text first after
 first_cut a b text first after whole (count, few, sends) =
     let long : length text ≡ length a + length b = ap length (sym whole) ∙ length-append a b in
